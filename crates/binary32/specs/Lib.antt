@@ -1,0 +1,5 @@
+pub mod Arithmetic
+pub mod Root
+pub mod Casts
+pub mod Limits
+pub mod Inner

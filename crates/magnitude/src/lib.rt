@@ -1,0 +1,1 @@
+// Laws on the size of floats: all is in specs/ and proofs/.

@@ -1,0 +1,4 @@
+-- Facts that the functions and the theorems of this crate share.
+pub mod Signed
+mod Segment
+pub mod Places

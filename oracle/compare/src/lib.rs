@@ -1,0 +1,13 @@
+//! The proved code beside the handed-over Rust.
+pub mod inputs;
+pub mod proved;
+pub mod random;
+pub mod reference;
+pub mod value;
+
+/// Metres east and north.
+pub type Point = (f32, f32);
+/// Latitude and longitude in 1e-7 degree.
+pub type Place = (i32, i32);
+/// The origin, its east factor, and the place to put into its frame.
+pub type Framing = (Place, f32, Place);
