@@ -26,7 +26,8 @@ fn main() {
     println!("cargo::rerun-if-env-changed=SEEDS");
     let package = PathBuf::from(env::var_os("CARGO_MANIFEST_DIR").unwrap());
     let out = PathBuf::from(env::var_os("OUT_DIR").unwrap());
-    let seeds = env::var_os("SEEDS").map_or(package.join("../../../shared/docs/src"), PathBuf::from);
+    let beside = package.join("../../../shared/docs/src");
+    let seeds = env::var_os("SEEDS").map_or(beside, PathBuf::from);
     for path in SOURCES {
         let name = format!("src--apps--vana--src--{}.txt", path.replace('/', "--"));
         let mut text = read(&seeds.join(name));

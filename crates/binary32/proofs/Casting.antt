@@ -8,7 +8,7 @@ use mathlib.Core.Bool.{Bool, true, false, not, cond, true≢false, false≢true}
 use lib.IntN.{ℤ, pos, negsuc, natAbs, _-ℤ_, +ℤ-comm, -ℤ-one}
 use lib.Signed.{leZ, nonNeg}
 use lib.Dec.{T, ltb, ltb→lt, lt→ltb, nltb→le, leb·zero, lit≤, T-not}
-use lib.Ieee.{Float, nan, inf, fin, Format, binary32, prec, emax, low, up, down, below, odd, units, round, neg, lt, eq, ne, ofInt, toUnsigned}
+use lib.Ieee.{Float, nan, inf, fin, Format, binary32, prec, emax, low, up, down, below, odd, units, round, neg, lt, eq, ne, isNan, ofInt, toUnsigned, toBits}
 use lib.Ieee.Fits.{down-pos, round-is}
 use lib.Ieee.Compare.{differs-from-itself}
 use mir.Syntax.{w64}
@@ -56,7 +56,7 @@ cut (fin false m e) h k =
       above = lt→ltb 0 (1 * 1 * c + a * 1) (pos-sum (1 * 1 * c) (a * 1) (subst (λ (z : ℕ). 0 < z) (sym (one-mul c)) C));
       under = lt→ltb (a * 1) (1 * 2 ^ 64 * c) (lt-of-lt-of-le l (mul-le-mul-right c (lit≤ {m = 1 * 2 ^ 32} {n = 1 * 2 ^ 64} tt)));
       result = r .0;
-      fits = r .1
+      fits = r .1;
     }
   where
     pos-sum : (p q : ℕ) → 0 < p → 0 < p + q
@@ -104,6 +104,17 @@ too-large (fin false m e) h k = large (m * up e / down e) (whole-from (m * up e)
 pub no-number : (x : Float) → T (not (eq x x)) → 0 ≡ asU32 x
 unfolding ne toUnsigned
 no-number x h = ap asU32 (sym (differs-from-itself x h))
+
+-- ---- patterns
+pub a-number : (x : Float) → T (eq x x) → T (not (isNan x))
+unfolding eq isNan
+a-number nan h = absurd h
+a-number (inf s) h = tt
+a-number (fin s m e) h = tt
+
+pub nan-pattern : (x : Float) → T (not (eq x x)) → 0x7fc0_0000 ≡ toBits binary32 x
+unfolding ne toBits
+nan-pattern x h = ap (toBits binary32) (sym (differs-from-itself x h))
 
 -- ---- as f32. y is the number d as the machine has read it back
 -- d is not negative

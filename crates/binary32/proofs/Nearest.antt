@@ -1,6 +1,5 @@
--- `root` is the nearest value of the format. In units of the format's smallest value, l = 2 ^ low of which make 1, let x be X and its root R. The exact root of x is then that of X * l, in units.
--- The values of the format are the numbers m * 2 ^ i with m below 2 ^ prec. For each such Y that is not R the exact root is no nearer to Y than to R: it lies on R's side of the middle of R and Y
--- (`root-nearest`). There is such an R (`root-finite`). The same is proved of `round` first, at any fraction (`grid-above`, `grid-below`). Assumes nothing.
+-- `root` is the nearest value of the format (`root-nearest`), and finite where its operand is (`root-finite`), in the units of `specs/Nearest.antt`.
+-- The same is proved of `round` first, at any fraction (`grid-above`, `grid-below`). Assumes nothing.
 use mathlib.Core.Path.{_≡_, refl, sym, ap, _∙_, subst}
 use mathlib.Core.Logic.{_⊎_, inl, inr}
 use Prim.Native.Nat.{ℕ, zero, suc, _+_, _-_, _*_, _/_, _%_, _^_, _≤_, _<_, compare, Ordering, Ordering·lt, Ordering·eq, Ordering·gt}
@@ -18,6 +17,7 @@ use lib.Ieee.Nearest.{closest, nearest-ge}
 use lib.Ieee.Positive.{num, den, den-pos, positive, positive-of-value, value→cross}
 use lib.Ieee.Scale.{grid, overflow, finite, round-val, round-under}
 use Rattle.binary32.specs.Root.{halves, rootOf, root}
+use Rattle.binary32.specs.Nearest.{NoneNearer}
 use Rattle.binary32.proofs.Sides.{halves-above, halves-below}
 use Rattle.binary32.proofs.Closest.{Cmp, cmp}
 
@@ -235,9 +235,9 @@ root-round f x X P v =
     ∙ ap (λ (h : ℕ). round f false (halves (num x * den x * (h * h))) (2 * (den x * h))) (pow-succ' 2 (low f))
 
 -- The exact root, that of X * l, compared with the middle (R + Y) / 2 of the result R and any other value Y = m * 2 ^ i: both sides are doubled and squared.
-pub root-nearest : (f : Format) (x : Float) (X R m i : ℕ) → 0 < X → HasValue x false X (2 ^ low f) → HasValue (root f x) false R (2 ^ low f) → m < 2 ^ prec f
+middle : (f : Format) (x : Float) (X R m i : ℕ) → 0 < X → HasValue x false X (2 ^ low f) → HasValue (root f x) false R (2 ^ low f) → m < 2 ^ prec f
     → (R < m * 2 ^ i → 4 * (X * 2 ^ low f) ≤ (R + m * 2 ^ i) * (R + m * 2 ^ i)) × (m * 2 ^ i < R → (R + m * 2 ^ i) * (R + m * 2 ^ i) ≤ 4 * (X * 2 ^ low f))
-root-nearest f x X R m i P v r M =
+middle f x X R m i P v r M =
     let l = 2 ^ low f in
     let n = above f x in
     let d = over-what f x in
@@ -249,6 +249,14 @@ root-nearest f x X R m i P v r M =
     let hi : R < y → 2 * (n * l) ≤ (R + y) * d = subst (λ (z : ℕ). z < y → 2 * (n * l) ≤ (z + y) * d) e (grid-above f n d m i D M) in
     let lo : y < R → (R + y) * d ≤ 2 * (n * l) = subst (λ (z : ℕ). y < z → (z + y) * d ≤ 2 * (n * l)) e (grid-below f n d m i D M) in
     (λ (h : R < y). from-above (num x) (den x) l X (R + y) (den-pos x) (pow-pos (low f)) cross (hi h), λ (h : y < R). from-below (num x) (den x) l X (R + y) (den-pos x) (pow-pos (low f)) cross (lo h))
+
+-- no value of the format is nearer than the root
+pub root-nearest : (f : Format) (x : Float) (X R : ℕ) → 0 < X → HasValue x false X (2 ^ low f) → HasValue (root f x) false R (2 ^ low f) → NoneNearer f X R
+root-nearest f x X R P v r =
+    record {
+      above = λ m i M h. middle f x X R m i P v r M .0 h;
+      below = λ m i M h. middle f x X R m i P v r M .1 h;
+    }
 
 -- There is such an R: the root of a finite value above zero is finite.
 -- Were it `overflow` units or more, its square would be at most 4 * X * l by the above, with 1 for Y, and so less than the square of `overflow`.

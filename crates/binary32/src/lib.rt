@@ -2,7 +2,7 @@
 // and `max` at the ends that the guide uses. Each function takes every value.
 ghost use mathlib.Core.Path.{_≡_};
 ghost use Prim.Native.Nat.{ℕ, _+_, _*_, _^_, _≤_, _<_, min};
-ghost use lib.Ieee.{binary32, ofBits};
+ghost use lib.Ieee.{binary32, ofBits, toBits};
 ghost use Rattle.binary32.specs.Root.{rootOf, root};
 ghost use Rattle.binary32.specs.Casts.{asU32, asF32};
 ghost use Rattle.binary32.specs.Limits.{clamp, maxZero};
@@ -138,6 +138,16 @@ pub fn as_u32(x: f32) -> u32
         return 0;
     }
     if x == x { 0xffff_ffff } else { 0 }
+}
+
+// The bit pattern of x; of the many that a NaN may have, 7FC00000.
+pub fn pattern(x: f32) -> u32
+    ensures { λ r. ⌜ r ≡ toBits binary32 x ⌝ }
+{
+    if x == x {
+        return f32::to_bits(x);
+    }
+    0x7fc0_0000
 }
 
 // The `f32` nearest to a difference of two `i32`. A number further from 0 counts as 2^32 - 1 in size.

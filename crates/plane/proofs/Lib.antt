@@ -2,3 +2,5 @@
 pub mod Signed
 mod Segment
 pub mod Places
+pub mod Theorems
+pub mod Starred

@@ -77,7 +77,7 @@ project-place p a b P A B =
     let S = share-share p a b P A B in
     record {
       east = between-coordinate (share p a b) (a .east) (b .east) S (A .east) (B .east);
-      north = between-coordinate (share p a b) (a .north) (b .north) S (A .north) (B .north)
+      north = between-coordinate (share p a b) (a .north) (b .north) S (A .north) (B .north);
     }
 
 -- a difference of at most half a turn, in 1e-7 degree, times a factor of at most 2^-6

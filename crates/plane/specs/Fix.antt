@@ -5,11 +5,16 @@ use lib.IntN.{ℤ, pos, negsuc, _+ℤ_, _-ℤ_}
 use lib.Signed.{ltZ}
 use lib.Ieee.{Float, binary32, ofInt}
 use Rattle.binary32.specs.Arithmetic.{_⊗_, _⊘_, constant}
+use Rattle.trig.specs.Fix.{pi, cos}
 use Rattle.plane.specs.declared.Point.{Point}
 
 -- metres per 1e-7 degree of latitude: 0.011119508
 unfoldable pub mPerE7 : Float
 mPerE7 = constant 11119508 (10 ^ 9)
+
+-- metres east per 1e-7 degree of longitude at a latitude
+unfoldable pub eastPerE7 : ℤ → Float
+eastPerE7 lat = mPerE7 ⊗ cos (ofInt binary32 lat ⊗ constant 1 (10 ^ 7) ⊗ pi ⊘ constant 180 1)
 
 -- "a longitude difference above 1,800,000,000 loses 3,600,000,000, one below the negative gains it; exactly ±1,800,000,000 stays"
 unfoldable pub wrapped : ℤ → ℤ

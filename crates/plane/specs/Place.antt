@@ -1,4 +1,6 @@
 -- How far from the origin the places of a ride lie.
+use Prim.Native.Nat.{_≤_}
+use lib.IntN.{ℤ, natAbs}
 use lib.Dec.{T}
 use lib.Ieee.{Float, binary32, fits}
 use Rattle.magnitude.specs.Size.{Within, pow}
@@ -11,3 +13,8 @@ Coordinate x = T (fits binary32 x) × Within (pow 25) x
 pub record Place (p : Point) : Type 0 where
   pub east : Coordinate (p .east)
   pub north : Coordinate (p .north)
+
+-- a fix on the globe: "latitude within ±900,000,000", "longitude within ±1,800,000,000"
+pub record OnGlobe (lat lon : ℤ) : Type 0 where
+  pub latitude : natAbs lat ≤ 900000000
+  pub longitude : natAbs lon ≤ 1800000000

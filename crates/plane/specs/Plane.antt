@@ -1,11 +1,12 @@
 -- Distances and bearings in the plane. Document 01 names the forms ("distance, projection, cosine and angle as f32 formulas"); the formulas are homing.rs's.
-use Prim.Native.Nat.{ℕ}
+use Prim.Native.Nat.{ℕ, _*_, _%_, _^_}
 use mathlib.Core.Bool.{cond}
 use lib.Ieee.{Float, binary32, lt}
 use Rattle.binary32.specs.Arithmetic.{_⊕_, _⊖_, _⊗_, _⊘_, constant}
 use Rattle.binary32.specs.Root.{root}
 use Rattle.binary32.specs.Casts.{asU32}
-use Rattle.binary32.specs.Limits.{plusZero, clamp}
+use Rattle.binary32.specs.Limits.{plusZero, one, clamp}
+use Rattle.trig.specs.Fix.{angle}
 use Rattle.plane.specs.declared.Point.{Point}
 use Rattle.plane.specs.declared.Projection.{Projection}
 
@@ -37,6 +38,24 @@ project p a b = atShare a b (share p a b)
 
 unfoldable pub offSegment : Point → Point → Point → Float
 offSegment p a b = distance p (project p a b .point)
+
+-- 2π
+unfoldable pub tau : Float
+tau = constant (2 * 314159265358979323846264338327950288) (10 ^ 35)
+
+-- "Bearings and headings are 4096ths of a turn."
+abbrev pub turn : ℕ
+turn = 4096
+
+-- a part of a turn to the left as one to the right
+unfoldable pub onward : Float → Float
+onward turns = cond (lt turns plusZero) (turns ⊕ one) turns
+
+-- the bearing from one point to another, clockwise from north
+unfoldable pub bearing : Point → Point → ℕ
+bearing from to =
+    let radians = angle (to .east ⊖ from .east) (to .north ⊖ from .north) in
+    asU32 (onward (radians ⊘ tau) ⊗ constant turn 1) % turn
 
 -- whole metres for the screen: the value plus a half, cut
 unfoldable pub metres : Float → ℕ

@@ -4,6 +4,9 @@ use crate::{Framing, Place, Point, reference};
 use std::array::from_fn;
 use std::f32::consts::{FRAC_PI_2, FRAC_PI_4};
 
+const POLE: i32 = 900_000_000;
+const HALF_TURN: i32 = 1_800_000_000;
+
 /// A numbered list: `at(k)` for each `k` below `len`.
 pub struct Inputs<F> {
     pub len: u64,
@@ -48,7 +51,11 @@ fn cross<T: Copy + Sync, const N: usize>(list: Vec<T>) -> Inputs<impl Fn(u64) ->
     Inputs { len: base.pow(N as u32), at }
 }
 
-fn random<T>(seed: u64, make: impl Fn(&mut Random) -> T + Sync) -> Inputs<impl Fn(u64) -> T + Sync> {
+/// 2^24 of what `make` makes.
+fn random<T>(
+    seed: u64,
+    make: impl Fn(&mut Random) -> T + Sync,
+) -> Inputs<impl Fn(u64) -> T + Sync> {
     Inputs { len: 1 << 24, at: move |k| make(&mut Random::new(seed, k)) }
 }
 
@@ -62,15 +69,17 @@ pub fn patterns(full: bool) -> Inputs<impl Fn(u64) -> f32 + Sync> {
     let powers = (0..1 << 9).map(|exponent| exponent << 23);
     let angles = [FRAC_PI_4, -FRAC_PI_4, FRAC_PI_2, -FRAC_PI_2].map(|r| r.to_bits().into());
     let marks = if full { Vec::new() } else { powers.chain(angles).collect() };
-    every(stride(full), 0, u32::MAX.into()).then(near(4_096, marks)).map(|p| f32::from_bits(p as u32))
+    every(stride(full), 0, u32::MAX.into())
+        .then(near(4_096, marks))
+        .map(|p| f32::from_bits(p as u32))
 }
 
 /// Latitudes: all or a spread of those on the globe, the equator, the poles and where `cosf`
 /// changes, and any.
 pub fn latitudes(full: bool, seed: u64) -> Inputs<impl Fn(u64) -> i32 + Sync> {
-    const POLE: i64 = 900_000_000;
-    every(stride(full), -POLE, POLE)
-        .then(near(100_000, vec![-POLE, -POLE / 2, 0, POLE / 2, POLE]))
+    let pole = i64::from(POLE);
+    every(stride(full), -pole, pole)
+        .then(near(100_000, vec![-pole, -pole / 2, 0, pole / 2, pole]))
         .map(|lat| lat as i32)
         .then(random(seed, |random| random.word() as i32))
 }
@@ -92,7 +101,7 @@ fn tie(random: &mut Random) -> i64 {
     size * random.pick(&[1, -1])
 }
 
-/// The first 16 are those that six coordinates take in every combination also in the bounded run.
+/// In the bounded run six coordinates take every combination of the first 16 only.
 const EDGES: [f32; 24] = [
     0.0,
     -0.0,
@@ -128,8 +137,8 @@ pub fn points<const N: usize>(full: bool, seed: u64) -> Inputs<impl Fn(u64) -> [
 }
 
 /// Single points: a way east and north.
-pub fn ways(seed: u64) -> Inputs<impl Fn(u64) -> Point + Sync> {
-    points(true, seed).map(|[way]| way)
+pub fn ways(full: bool, seed: u64) -> Inputs<impl Fn(u64) -> Point + Sync> {
+    points(full, seed).map(|[way]| way)
 }
 
 /// Points of one kind; some of them equal, or with the first on the segment of the others.
@@ -157,13 +166,10 @@ fn coordinate(kind: usize, random: &mut Random) -> f32 {
     }
 }
 
-const POLE: i32 = 900_000_000;
-const HALF_TURN: i32 = 1_800_000_000;
-
 /// Origins and places: every combination of edges, and random ones.
 pub fn framings(seed: u64) -> Inputs<impl Fn(u64) -> Framing + Sync> {
-    let sizes = [0, 1, POLE - 1, POLE, POLE + 1, HALF_TURN - 1, HALF_TURN, HALF_TURN + 1, i32::MAX];
-    let edges = sizes.into_iter().flat_map(|size| [size, -size]).chain([i32::MIN]).collect();
+    let sizes = [1, POLE - 1, POLE, POLE + 1, HALF_TURN - 1, HALF_TURN, HALF_TURN + 1, i32::MAX];
+    let edges = sizes.into_iter().flat_map(|size| [size, -size]).chain([0, i32::MIN]).collect();
     cross(edges)
         .map(|[lat0, lon0, lat, lon]| ((lat0, lon0), reference::east_per_e7(lat0), (lat, lon)))
         .then(random(seed, some_framing))

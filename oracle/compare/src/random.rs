@@ -28,7 +28,7 @@ impl Random {
 
     /// From `-size` to `size`.
     pub fn within(&mut self, size: i32) -> i32 {
-        self.below(2 * size as usize + 1) as i32 - size
+        (self.below(2 * size as usize + 1) as i64 - i64::from(size)) as i32
     }
 
     pub fn pick<T: Copy>(&mut self, of: &[T]) -> T {

@@ -1,5 +1,5 @@
-//! Compares the numeric functions: `numbers [--full] [--seed N]`. With `--self-test` it compares
-//! with mistakes instead, and each has to be found.
+//! Compares the functions on numbers: `numbers [--full] [--seed N]`. With `--self-test` mistakes
+//! stand in the place of the Rust, and each has to be found.
 use compare::inputs::{self, Inputs};
 use compare::value::{Value, difference};
 use compare::{proved, reference};
@@ -26,11 +26,12 @@ fn functions(full: bool, seed: u64) -> bool {
     let patterns = inputs::patterns(full);
     let differences = inputs::differences(seed);
     let latitudes = inputs::latitudes(full, seed);
-    let ways = inputs::ways(seed);
+    let ways = inputs::ways(full, seed);
     let pairs = inputs::points::<2>(full, seed);
     let triples = inputs::points::<3>(full, seed);
     let framings = inputs::framings(seed);
-    all([
+    let thin = reference::off_segment_of_thin;
+    let lines = [
         equal("sqrtf", &patterns, proved::sqrtf, reference::sqrtf),
         equal("as_u32", &patterns, proved::as_u32, reference::as_u32),
         equal("as_f32", &differences, proved::as_f32, reference::as_f32),
@@ -41,112 +42,95 @@ fn functions(full: bool, seed: u64) -> bool {
         equal("distance", &pairs, proved::distance, reference::distance),
         equal("project", &triples, proved::project, reference::project),
         equal("off_segment", &triples, proved::off_segment, reference::off_segment),
-        equal("off_segment of thin.rs", &triples, proved::off_segment, reference::off_segment_of_thin),
+        equal("off_segment (thin.rs)", &triples, proved::off_segment, thin),
         equal("bearing", &pairs, proved::bearing, reference::bearing),
         equal("metres", &patterns, proved::metres, reference::metres),
         equal("east_per_e7", &latitudes, proved::east_per_e7, reference::east_per_e7),
         equal("frame", &framings, proved::frame, reference::frame),
-    ])
+    ];
+    !lines.contains(&false)
 }
 
-/// Whether the comparison finds each mistake, put in the place of the Rust's function. Most are
-/// right but for a few inputs.
+/// Whether each mistake is found. Most are right but for a few inputs.
 fn mistakes(seed: u64) -> bool {
     let patterns = inputs::patterns(false);
     let differences = inputs::differences(seed);
     let latitudes = inputs::latitudes(false, seed);
-    let ways = inputs::ways(seed);
+    let ways = inputs::ways(false, seed);
     let pairs = inputs::points::<2>(false, seed);
     let triples = inputs::points::<3>(false, seed);
     let framings = inputs::framings(seed);
-    all([
-        equal("no mistake: sqrtf with another NaN", &patterns, proved::sqrtf, |x| {
-            if x < 0.0 { f32::from_bits(0x7fab_cdef) } else { x.sqrt() }
-        }),
-        found("sqrtf without the sign of -0", &patterns, proved::sqrtf, |x| x.sqrt() + 0.0),
-        found("as_u32 that wraps", &patterns, proved::as_u32, |x| x as u64 as u32),
-        found("as_u32 with a NaN at the top", &patterns, proved::as_u32, |x| {
+    let another_nan = equal("no mistake, another NaN", &patterns, proved::sqrtf, |x| {
+        if x < 0.0 { f32::from_bits(0x7fab_cdef) } else { x.sqrt() }
+    });
+    let missed = [
+        equal("sqrtf without the sign of -0", &patterns, proved::sqrtf, |x| x.sqrt() + 0.0),
+        equal("as_u32 that wraps", &patterns, proved::as_u32, |x| x as u64 as u32),
+        equal("as_u32 with a NaN at the top", &patterns, proved::as_u32, |x| {
             if x.is_nan() { u32::MAX } else { x as u32 }
         }),
-        found("as_f32 that rounds twice", &differences, proved::as_f32, |d| {
+        equal("as_f32 that rounds twice", &differences, proved::as_f32, |d| {
             reference::as_f32(d / 16 * 16) + (d % 16) as f32
         }),
-        found("as_f32 without an end", &differences, proved::as_f32, |d| d as f32),
-        found("clamp with a NaN at 0", &patterns, proved::clamp, |x| {
+        equal("as_f32 without an end", &differences, proved::as_f32, |d| d as f32),
+        equal("clamp with a NaN at 0", &patterns, proved::clamp, |x| {
             if x.is_nan() { 0.0 } else { x.clamp(0.0, 1.0) }
         }),
-        found("max_zero that lets a NaN pass", &patterns, proved::max_zero, |x| {
+        equal("max_zero that lets a NaN pass", &patterns, proved::max_zero, |x| {
             if x <= 0.0 { 0.0 } else { x }
         }),
-        found("cosf with the true cosine at pi/2", &patterns, proved::cosf, |r| {
+        equal("cosf with the true cosine at pi/2", &patterns, proved::cosf, |r| {
             if r == FRAC_PI_2 { r.cos() } else { reference::cosf(r) }
         }),
-        found("atan2f with a sign at 0", &ways, proved::atan2f, |way| {
+        equal("atan2f with a sign at 0", &ways, proved::atan2f, |way| {
             if way == (0.0, 0.0) { way.0 } else { reference::atan2f(way) }
         }),
-        found("atan2f that changes at 0.41421356", &ways, proved::atan2f, |way| {
-            if way == (0.414_213_56, 1.0) { f32::from_bits(0x3ec9_0fda) } else { reference::atan2f(way) }
+        equal("atan2f with base pi/4 at 0.41421356", &ways, proved::atan2f, |way| match way {
+            (0.414_213_56, 1.0) => f32::from_bits(0x3ec9_0fda),
+            _ => reference::atan2f(way),
         }),
-        found("distance that rounds once", &pairs, proved::distance, |[a, b]| {
+        equal("distance that rounds once", &pairs, proved::distance, |[a, b]| {
             f64::from(b.0 - a.0).hypot(f64::from(b.1 - a.1)) as f32
         }),
-        found("project onto a segment of length 0", &triples, proved::project, |[p, a, b]| {
+        equal("project, t 1 on length 0", &triples, proved::project, |[p, a, b]| {
             if a == b { (b, 1.0) } else { reference::project([p, a, b]) }
         }),
-        found("off_segment without the end", &triples, proved::off_segment, |[p, a, b]| {
+        equal("off_segment, 0 at the end", &triples, proved::off_segment, |[p, a, b]| {
             if p == b { 0.0 } else { reference::off_segment([p, a, b]) }
         }),
-        found("bearing of a whole turn", &pairs, proved::bearing, |[from, to]| {
+        equal("bearing of a whole turn", &pairs, proved::bearing, |[from, to]| {
             match reference::bearing([from, to]) {
                 0 if to.0 < from.0 => 4_096,
                 bearing => bearing,
             }
         }),
-        found("metres without the sum's rounding", &patterns, proved::metres, |value| value.round() as u32),
-        found("east_per_e7 of 0 at the pole", &latitudes, proved::east_per_e7, |lat| {
-            if lat == 900_000_000 { 0.0 } else { reference::east_per_e7(lat) }
+        equal("metres, the sum not rounded", &patterns, proved::metres, |x| x.round() as u32),
+        equal("east_per_e7 that stops at the pole", &latitudes, proved::east_per_e7, |lat| {
+            reference::east_per_e7(lat.min(900_000_000))
         }),
-        found("frame that wraps at exactly half a turn", &framings, proved::frame, |framing| {
+        equal("frame that wraps at half a turn", &framings, proved::frame, |framing| {
             let (origin, _, place) = framing;
             let (east, north) = reference::frame(framing);
             let half = i64::from(place.1) - i64::from(origin.1) == 1_800_000_000;
             (if half { -east } else { east }, north)
         }),
-    ])
+    ];
+    let found = missed.iter().filter(|&&missed| !missed).count();
+    println!("{found} of {} mistakes found", missed.len());
+    another_nan && found == missed.len()
 }
 
-fn all<const N: usize>(lines: [bool; N]) -> bool {
-    lines.iter().all(|&good| good)
-}
-
+/// Whether two functions are equal on `inputs`; prints which.
 fn equal<I: Value, O: Value>(
     name: &str,
     inputs: &Inputs<impl Fn(u64) -> I + Sync>,
     ours: impl Fn(I) -> O + Sync,
     theirs: impl Fn(I) -> O + Sync,
 ) -> bool {
-    match difference(inputs, ours, theirs) {
+    let found = difference(inputs, ours, theirs);
+    match &found {
         None => println!("{name}: {} inputs, equal", inputs.len),
-        Some(at) => {
-            println!("{name}: DIFFERENT at {at}");
-            return false;
-        }
+        Some(difference) => println!("{name}: different at {difference}"),
     }
-    true
-}
-
-fn found<I: Value, O: Value>(
-    mistake: &str,
-    inputs: &Inputs<impl Fn(u64) -> I + Sync>,
-    ours: impl Fn(I) -> O + Sync,
-    wrong: impl Fn(I) -> O + Sync,
-) -> bool {
-    match difference(inputs, ours, wrong) {
-        Some(at) => println!("{mistake}: found at {at}"),
-        None => {
-            println!("{mistake}: NOT FOUND");
-            return false;
-        }
-    }
-    true
+    found.is_none()
 }

@@ -1,0 +1,3 @@
+pub mod Constants
+pub mod Magnitude
+pub mod Starred
