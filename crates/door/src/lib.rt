@@ -8,7 +8,9 @@ ghost use Rattle.trig.specs.Fix.{cos, angle};
 ghost use Rattle.plane.specs.Plane.{distance, project, offSegment, bearing, metres};
 ghost use Rattle.plane.specs.Fix.{eastPerE7, frame};
 ghost use Rattle.door.specs.Points.{at};
+ghost use Rattle.door.specs.Thin.{Thins};
 use plane::Point;
+use thin::Thinned;
 
 #[no_mangle]
 pub extern "C" fn cittumay_sqrtf(x: f32) -> f32
@@ -182,4 +184,36 @@ pub extern "C" fn cittumay_frame(
     let place = plane::frame(lat0, lon0, east_per_e7, lat, lon);
     *east = place.east;
     *north = place.north;
+}
+
+// Thins the first `len` crumbs in place, and answers how many are left: `tolerance` becomes that of the
+// last pass, and `passes` how many were made. A refusal answers 0, writes its number to `refused`, and
+// changes nothing else.
+#[no_mangle]
+pub extern "C" fn cittumay_thin(
+    crumbs: &mut [f32],
+    len: usize,
+    tolerance: &mut f32,
+    passes: &mut usize,
+    refused: &mut u8,
+) -> usize
+    ensures { λ r. ⌜ Thins len (now (crumbs .entry)) (now (tolerance .entry)) (now (passes .entry)) (now (crumbs .exit)) (now (tolerance .exit)) (now (passes .exit)) (now (refused .exit)) r ⌝ }
+{
+    let answer = thin::thin(crumbs, len, *tolerance);
+    match answer {
+        Thinned::Refused(number) => {
+            *refused = number;
+            0
+        }
+        Thinned::Left {
+            len: left,
+            tolerance: last,
+            passes: made,
+        } => {
+            *refused = 0;
+            *tolerance = last;
+            *passes = made;
+            left
+        }
+    }
 }

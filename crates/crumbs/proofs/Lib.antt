@@ -1,0 +1,2 @@
+pub mod Crumbs
+pub mod Choices

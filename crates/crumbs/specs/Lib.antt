@@ -1,0 +1,2 @@
+pub mod Crumb
+pub mod Choice

@@ -1,0 +1,40 @@
+-- What a call that passes question 9 has. Assumes nothing.
+use Prim.Native.Nat.{ℕ, _≤_}
+use mathlib.Core.Path.{_≡_, refl, sym, _∙_}
+use mathlib.Core.Bool.{Bool, true, false, _&&_}
+use native.Mathlib.Omega.{arith}
+use borrow.Author.Tests.{leb-true}
+use lib.Dec.{leb}
+use lib.Ieee.{Float, le}
+use Rattle.binary32.specs.Limits.{plusZero}
+use Rattle.crumbs.specs.Crumb.{whole, capacity}
+use Rattle.thin.specs.Questions.{question9}
+
+pub true-false : _≡_ {A = Bool} true false → ⊥
+true-false e = let z : _≡_ {A = ℕ} 0 1 = cc in omega arith
+
+and-true : (a b : Bool) → (a && b) ≡ true → (a ≡ true) × (b ≡ true)
+and-true true b h = (refl, h)
+and-true false b h = absurd (true-false (sym h))
+
+pub record Asked (size n : ℕ) (t : Float) : Type 0 where
+  pub whole-long : whole size ≡ true
+  pub least : 3 ≤ capacity size
+  pub most : capacity size ≤ 4096
+  pub fits : n ≤ capacity size
+  pub tolerance : le plusZero t ≡ true
+
+pub asked : (size n : ℕ) (t : Float) → question9 size n t ≡ true → Asked size n t
+unfolding question9
+asked size n t h =
+    let e = and-true (whole size && leb 3 (capacity size) && leb (capacity size) 4096 && leb n (capacity size)) (le plusZero t) h in
+    let d = and-true (whole size && leb 3 (capacity size) && leb (capacity size) 4096) (leb n (capacity size)) (e .0) in
+    let c = and-true (whole size && leb 3 (capacity size)) (leb (capacity size) 4096) (d .0) in
+    let b = and-true (whole size) (leb 3 (capacity size)) (c .0) in
+    record {
+      whole-long = b .0;
+      least = leb-true _ _ (b .1);
+      most = leb-true _ _ (c .1);
+      fits = leb-true _ _ (d .1);
+      tolerance = e .1;
+    }

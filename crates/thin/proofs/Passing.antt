@@ -1,0 +1,141 @@
+-- The steps of a pass over a buffer: what its loop carries on. Assumes nothing.
+use Prim.Native.Nat.{ℕ, suc, _+_, _-_, _≤_, _<_, min}
+use mathlib.Core.Path.{_≡_, refl, sym, ap, ap₂, _∙_}
+use mathlib.Core.Bool.{Bool, true, false}
+use mathlib.Core.List.{List, [], _∷_, _++_, append-assoc, append-nil}
+use native.Mathlib.Omega.{arith}
+use native.Mathlib.Numerals.{add-one}
+use lib.ListN.{length, take, drop, set, drop-of-length-le}
+use lib.Seq.{drop-drop, drop-set-lt, take-suc-set}
+use lib.Ieee.{Float}
+use Rattle.crumbs.specs.declared.Crumb.{Crumb}
+use Rattle.crumbs.specs.Crumb.{capacity, crumbAt, putAt, crumbs, behind}
+use Rattle.crumbs.proofs.Crumbs.{length-crumbs, drop-crumbs, take-crumbs, crumbs-put, behind-put, length-put, put-copied}
+use Rattle.thin.specs.Crumb.{twoOn, passBy}
+use Rattle.thin.specs.Promises.{step, Passed}
+use Rattle.thin.proofs.Passes.{step-within, pass-drop, pass-none, pass-keep, pass-few}
+use Rattle.thin.proofs.Reaching.{after, length-after}
+
+-- a halving pass goes two on where two follow
+pub step-halving : (t : Float) (buf : List Float) (len anchor : ℕ) → anchor + 2 < len → step true t (crumbAt buf anchor) (after buf len anchor) ≡ 2
+unfolding step twoOn
+step-halving t buf len anchor h = omega (arith, length-after buf len anchor)
+
+-- what is still to come of a pass, behind the crumb that it stands at
+abbrev toCome : Bool → Float → ℕ → List Float → ℕ → List Crumb
+toCome halve t len buf anchor =
+    passBy (step halve t) (step halve t (crumbAt buf anchor) (after buf len anchor) - 1) (after buf len anchor)
+
+-- What the loop carries on: the crumbs kept so far, and what is still to come, are what the pass leaves.
+pub record Kept (halve : Bool) (t : Float) (len : ℕ) (buf₀ buf : List Float) (kept anchor : ℕ) : Type 0 where
+  pub done : take kept (crumbs len buf) ++ toCome halve t len buf anchor ≡ passBy (step halve t) 0 (crumbs len buf₀)
+  pub beyond : behind len buf ≡ behind len buf₀
+  pub size : length buf ≡ length buf₀
+  pub front : kept ≤ anchor + 1
+  pub inside : anchor < len
+  pub fits : len ≤ capacity (length buf₀)
+
+module _ {halve : Bool} {t : Float} {len : ℕ} where
+  -- two crumbs or fewer are left as they are
+  pub passed-few : (buf : List Float) → len ≤ 2 → Passed halve t len buf buf len
+  passed-few buf h =
+      record {
+        kept = sym (pass-few (step-within halve t) (crumbs len buf) (omega (arith, length-crumbs len buf)));
+        beyond = refl;
+        size = refl;
+      }
+
+  pub kept-start : {buf : List Float} → 0 < len → len ≤ capacity (length buf) → Kept halve t len buf buf 1 0
+  kept-start {buf} h fits =
+      let e : crumbs len buf ≡ crumbAt buf 0 ∷ after buf len 0 = drop-crumbs len buf 0 h in
+      record {
+        done =
+            ap (λ l. take 1 l ++ toCome halve t len buf 0) e
+            ∙ sym (ap (passBy (step halve t) 0) e ∙ pass-keep (step halve t) (crumbAt buf 0) (after buf len 0));
+        beyond = refl;
+        size = refl;
+        front = omega arith;
+        inside = h;
+        fits = fits;
+      }
+
+  module _ {buf₀ buf : List Float} {kept anchor : ℕ} (k : Kept halve t len buf₀ buf kept anchor) where
+    -- at the last crumb nothing is to come
+    pub kept-end : anchor + 1 ≡ len → Passed halve t len buf₀ buf kept
+    kept-end e =
+        let none : after buf len anchor ≡ [] =
+        drop-of-length-le (crumbs len buf) {i = suc anchor} (omega (arith, length-crumbs len buf)) in
+        let no-more : toCome halve t len buf anchor ≡ [] =
+        ap (passBy (step halve t) (step halve t (crumbAt buf anchor) (after buf len anchor) - 1)) none
+        ∙ pass-none (step halve t) (step halve t (crumbAt buf anchor) (after buf len anchor) - 1) in
+        record {
+          kept =
+              sym (take-crumbs kept len buf (omega (arith, k)))
+              ∙ (sym (append-nil (take kept (crumbs len buf))) ∙ (ap (λ l. take kept (crumbs len buf) ++ l) (sym no-more) ∙ k .done));
+          beyond = k .beyond;
+          size = k .size;
+        }
+
+    -- where a crumb follows, the next is past the anchor and within the line
+    pub next-on : anchor + 1 < len → 1 ≤ step halve t (crumbAt buf anchor) (after buf len anchor)
+    next-on more = step-within halve t .low (crumbAt buf anchor) (after buf len anchor) (omega (arith, length-after buf len anchor))
+
+    next-high : anchor + 1 < len → step halve t (crumbAt buf anchor) (after buf len anchor) ≤ len - suc anchor
+    next-high more =
+        omega (arith, step-within halve t .high (crumbAt buf anchor) (after buf len anchor) (omega (arith, length-after buf len anchor)), length-after buf len anchor)
+
+    -- where one crumb follows, the next is that one
+    pub next-last : anchor + 2 ≡ len → len - 1 ≡ anchor + step halve t (crumbAt buf anchor) (after buf len anchor)
+    next-last e = omega (arith, next-on (omega arith), next-high (omega arith))
+
+    module _ {next : ℕ} (more : anchor + 1 < len) (is : next ≡ anchor + step halve t (crumbAt buf anchor) (after buf len anchor)) where
+      pub next-inside : next < len
+      next-inside = omega (arith, next-high more)
+
+      -- the rule goes on at the next
+      come : toCome halve t len buf anchor ≡ crumbAt buf next ∷ toCome halve t len buf next
+      come =
+          let n = step halve t (crumbAt buf anchor) (after buf len anchor) - 1 in
+          let at : suc anchor + (step halve t (crumbAt buf anchor) (after buf len anchor) - 1) ≡ next = omega (arith, next-on more) in
+          pass-drop (step halve t) n (after buf len anchor)
+          ∙ (ap (passBy (step halve t) 0)
+          (drop-drop n (suc anchor) (crumbs len buf) ∙ (ap (λ i. drop i (crumbs len buf)) at ∙ drop-crumbs len buf next next-inside))
+          ∙ pass-keep (step halve t) (crumbAt buf next) (after buf len next))
+
+      -- the next is put behind those kept, at or before where it was
+      before : kept ≤ next
+      before = omega (arith, k .front, next-on more)
+
+      room : kept < capacity (length buf)
+      room = omega (arith, before, next-inside, k .fits, k .size)
+
+      put : crumbs len (putAt buf kept (crumbAt buf next)) ≡ set (crumbs len buf) kept (crumbAt buf next)
+      put = crumbs-put buf kept (crumbAt buf next) len room (omega (arith, before, next-inside))
+
+      after-put : after (putAt buf kept (crumbAt buf next)) len next ≡ after buf len next
+      after-put = ap (drop (suc next)) put ∙ drop-set-lt (suc next) (crumbs len buf) kept (crumbAt buf next) (omega (arith, before))
+
+      to-come : toCome halve t len (putAt buf kept (crumbAt buf next)) next ≡ toCome halve t len buf next
+      to-come = rw (after-put, put-copied buf kept next room)
+
+      front-put : take (kept + 1) (crumbs len (putAt buf kept (crumbAt buf next))) ≡ take kept (crumbs len buf) ++ (crumbAt buf next ∷ [])
+      front-put =
+          rw (add-one kept, put) (take-suc-set (crumbs len buf) kept (crumbAt buf next) (omega (arith, before, next-inside, length-crumbs len buf)))
+
+      kept-next : Kept halve t len buf₀ (putAt buf kept (crumbAt buf next)) (kept + 1) next
+      kept-next =
+          record {
+            done =
+                ap₂ _++_ front-put to-come
+                ∙ (append-assoc (take kept (crumbs len buf)) (crumbAt buf next ∷ []) (toCome halve t len buf next)
+                ∙ (ap (λ l. take kept (crumbs len buf) ++ l) (sym come) ∙ k .done));
+            beyond = behind-put buf kept (crumbAt buf next) len (omega (arith, before, next-inside)) ∙ k .beyond;
+            size = length-put buf kept (crumbAt buf next) ∙ k .size;
+            front = omega (arith, before);
+            inside = next-inside;
+            fits = k .fits;
+          }
+
+      -- the same of a buffer that a put left, with the crumb that was read
+      pub kept-put : {exit : List Float} {x : Crumb} → exit ≡ putAt buf kept x → x ≡ crumbAt buf next → Kept halve t len buf₀ exit (kept + 1) next
+      kept-put e f = rw (e, f) kept-next

@@ -1,0 +1,4 @@
+pub mod Crumb
+pub mod Questions
+pub mod Promises
+pub mod Theorems

@@ -1,0 +1,131 @@
+// Thinning a full line of crumbs in place. A pass keeps the first crumb and, from each kept crumb,
+// reaches on to the farthest one whose chord passes within the tolerance of every crumb between.
+// Passes repeat at a doubled tolerance until a quarter of the room is free; the last one takes every
+// other crumb.
+
+ghost use mathlib.Core.Path.{_≡_};
+ghost use Prim.Native.Nat.{suc, _+_, _<_, _≤_};
+ghost use lib.ListN.{length, drop};
+ghost use Rattle.crumbs.specs.Crumb.{capacity, crumbAt, crumbs};
+ghost use Rattle.thin.specs.Crumb.{reach};
+ghost use Rattle.thin.specs.Questions.{question9};
+ghost use Rattle.thin.specs.Promises.{step, Passed, ThinDone};
+
+// A kept crumb replaces at most this many before the next.
+const SPAN: usize = 256;
+// Passes that measure, before every other crumb goes.
+const ROUNDS: usize = 17;
+
+// The farthest crumb after `anchor`, at most `SPAN` on, whose chord from `anchor` passes within
+// `tolerance` of every crumb between.
+fn reach(buf: &[f32], len: usize, anchor: usize, tolerance: f32) -> usize
+    requires { ⌜ (anchor < len) × (len ≤ capacity (length (now buf))) ⌝ }
+    ensures { λ r. ⌜ r ≡ anchor + reach tolerance (crumbAt (now (buf .entry)) anchor) (drop (suc anchor) (crumbs len (now (buf .entry)))) ⌝ }
+{
+    let a = crumbs::point_at(buf, anchor);
+    let mut end = anchor + 2;
+    'ends: while end < len && end - anchor <= SPAN {
+        let b = crumbs::point_at(buf, end);
+        for j in anchor + 1..end {
+            let p = crumbs::point_at(buf, j);
+            // a NaN strays
+            if !(plane::off_segment(p, a, b) <= tolerance) {
+                break 'ends;
+            }
+        }
+        end += 1;
+    }
+    end - 1
+}
+
+// Where a pass goes on from `anchor`.
+fn next(buf: &[f32], len: usize, anchor: usize, tolerance: f32, halve: bool) -> usize
+    requires { ⌜ (anchor + 2 < len) × (len ≤ capacity (length (now buf))) ⌝ }
+    ensures { λ r. ⌜ r ≡ anchor + step halve tolerance (crumbAt (now (buf .entry)) anchor) (drop (suc anchor) (crumbs len (now (buf .entry)))) ⌝ }
+{
+    if halve {
+        return anchor + 2;
+    }
+    reach(buf, len, anchor, tolerance)
+}
+
+// One pass over the first `len` crumbs, compacted in place; returns how many are kept. Each kept
+// crumb is written at or before where it was, and the reach reads only from the last kept crumb on.
+fn pass(buf: &mut [f32], len: usize, tolerance: f32, halve: bool) -> usize
+    requires { ⌜ len ≤ capacity (length (now buf)) ⌝ }
+    ensures { λ r. ⌜ Passed halve tolerance len (now (buf .entry)) (now (buf .exit)) r ⌝ }
+{
+    if len <= 2 {
+        return len;
+    }
+    let mut kept = 1;
+    let mut anchor = 0;
+    while anchor + 1 < len - 1 {
+        anchor = next(buf, len, anchor, tolerance, halve);
+        let c = crumbs::crumb_at(buf, anchor);
+        crumbs::put(buf, kept, c);
+        kept += 1;
+    }
+    if anchor == len - 1 {
+        return kept;
+    }
+    let last = crumbs::crumb_at(buf, len - 1);
+    crumbs::put(buf, kept, last);
+    kept + 1
+}
+
+// How many crumbs are left, the tolerance of the last pass and how many passes were made; or the
+// number of a refusal.
+pub enum Thinned {
+    Left {
+        len: usize,
+        tolerance: f32,
+        passes: usize,
+    },
+    Refused(u8),
+}
+
+fn may_thin(size: usize, len: usize, tolerance: f32) -> bool
+    ensures { λ r. ⌜ r ≡ question9 size len tolerance ⌝ }
+{
+    if !crumbs::whole(size) {
+        return false;
+    }
+    let capacity = crumbs::capacity(size);
+    if capacity < 3 {
+        return false;
+    }
+    if 4096 < capacity {
+        return false;
+    }
+    if capacity < len {
+        return false;
+    }
+    0.0 <= tolerance
+}
+
+// Thin the first `len` crumbs until at most three quarters of the room are in use, at `tolerance` and
+// twice it as needed.
+pub fn thin(buf: &mut [f32], len: usize, tolerance: f32) -> Thinned
+    ensures { λ r. ⌜ ThinDone len tolerance (now (buf .entry)) (now (buf .exit)) r ⌝ }
+{
+    if !may_thin(buf.len(), len, tolerance) {
+        return Thinned::Refused(9);
+    }
+    let target = crumbs::capacity(buf.len()) * 3 / 4;
+    let mut kept = len;
+    let mut doubled = tolerance;
+    let mut passes = 1;
+    loop {
+        kept = pass(buf, kept, doubled, ROUNDS < passes);
+        if kept <= target {
+            return Thinned::Left {
+                len: kept,
+                tolerance: doubled,
+                passes,
+            };
+        }
+        passes += 1;
+        doubled = doubled * 2.0;
+    }
+}
