@@ -12,7 +12,7 @@ use Rattle.crumbs.proofs.Choices.{choice-length}
 use Rattle.thin.specs.declared.Thinned.{Thinned}
 use Rattle.thin.specs.declared.Thinned.the-variants.{Left, Refused}
 use Rattle.thin.specs.Questions.{question9}
-use Rattle.thin.specs.Promises.{left, refused, says, answer, thinned, ThinDone}
+use Rattle.thin.specs.Promises.{left, refused, says, thinned, ThinDone}
 use Rattle.thin.specs.Theorems.{Thins}
 use Rattle.thin.proofs.Theorems.{thins}
 use Rattle.thin.proofs.Thinning.{answer-left, answer-refused}

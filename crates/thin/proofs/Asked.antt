@@ -1,10 +1,9 @@
 -- What a call that passes question 9 has. Assumes nothing.
 use Prim.Native.Nat.{ℕ, _≤_}
-use mathlib.Core.Path.{_≡_, refl, sym, _∙_}
+use mathlib.Core.Path.{_≡_, refl, sym}
 use mathlib.Core.Bool.{Bool, true, false, _&&_}
 use native.Mathlib.Omega.{arith}
 use borrow.Author.Tests.{leb-true}
-use lib.Dec.{leb}
 use lib.Ieee.{Float, le}
 use Rattle.binary32.specs.Limits.{plusZero}
 use Rattle.crumbs.specs.Crumb.{whole, capacity}
@@ -27,10 +26,10 @@ pub record Asked (size n : ℕ) (t : Float) : Type 0 where
 pub asked : (size n : ℕ) (t : Float) → question9 size n t ≡ true → Asked size n t
 unfolding question9
 asked size n t h =
-    let e = and-true (whole size && leb 3 (capacity size) && leb (capacity size) 4096 && leb n (capacity size)) (le plusZero t) h in
-    let d = and-true (whole size && leb 3 (capacity size) && leb (capacity size) 4096) (leb n (capacity size)) (e .0) in
-    let c = and-true (whole size && leb 3 (capacity size)) (leb (capacity size) 4096) (d .0) in
-    let b = and-true (whole size) (leb 3 (capacity size)) (c .0) in
+    let e = and-true _ _ h in
+    let d = and-true _ _ (e .0) in
+    let c = and-true _ _ (d .0) in
+    let b = and-true _ _ (c .0) in
     record {
       whole-long = b .0;
       least = leb-true _ _ (b .1);

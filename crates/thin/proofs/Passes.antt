@@ -1,15 +1,14 @@
 -- What holds of one pass, by the rules alone. Assumes nothing.
-use Prim.Native.Nat.{ℕ, zero, suc, _+_, _-_, _*_, _/_, _≤_, _<_, min}
-use mathlib.Core.Path.{_≡_, refl, sym, ap, _∙_}
+use Prim.Native.Nat.{ℕ, zero, suc, _+_, _-_, _/_, _≤_, _<_, min}
+use mathlib.Core.Path.{_≡_, refl, ap, _∙_}
 use mathlib.Core.Bool.{Bool, true, false}
 use mathlib.Core.List.{List, [], _∷_}
-use mathlib.Core.Option.{Option, none, some}
 use native.Mathlib.Omega.{arith}
 use lib.ListN.{length, getD, take, drop}
 use lib.Ieee.{Float}
 use Rattle.crumbs.specs.declared.Crumb.{Crumb}
 use Rattle.crumbs.specs.Choice.{Choice, end, leave, strike, first, last}
-use Rattle.thin.specs.Crumb.{clear, farther, reach, twoOn, passBy, halvingPass, target}
+use Rattle.thin.specs.Crumb.{clear, farther, reach, twoOn, passBy, halvingPass}
 use Rattle.thin.specs.Promises.{step}
 
 -- ---- a step goes on, and stays within the line
@@ -35,13 +34,13 @@ farther-high t a l k (suc n) = pick (clear t a (getD l k a) (take k l)) (farther
     pick true h = omega arith
     pick false h = omega arith
 
+-- with no more ends to try than there are
+farther-within : (t : Float) (a : Crumb) (l : List Crumb) (n : ℕ) → 1 ≤ length l → n ≤ length l - 1 → farther t a l 1 n ≤ length l
+farther-within t a l n h k = omega (arith, farther-high t a l 1 n)
+
 pub reach-within : (t : Float) → Within (reach t)
 unfolding reach
-reach-within t =
-    record {
-      low = λ a l h. farther-low t a l 1 (min 256 (length l) - 1);
-      high = λ a l h. omega (arith, farther-high t a l 1 (min 256 (length l) - 1));
-    }
+reach-within t = record { low = λ a l h. farther-low t a l 1 _; high = λ a l h. farther-within t a l _ h (omega arith) }
 
 pub twoOn-within : Within twoOn
 unfolding twoOn

@@ -1,5 +1,5 @@
 -- Document 01, "For those who test": the starred lines of `thin`, worked out by the rules. Assumes nothing.
-use Prim.Native.Nat.{ℕ, zero, suc, _*_}
+use Prim.Native.Nat.{ℕ, _*_}
 use mathlib.Core.Path.{_≡_, refl}
 use mathlib.Core.List.{List, [], _∷_}
 use lib.Ieee.{Float, le, lt, add, sub, mul, div}
@@ -11,7 +11,7 @@ use Rattle.crumbs.specs.declared.Crumb.{Crumb}
 use Rattle.crumbs.specs.Crumb.{stride}
 use Rattle.thin.specs.Crumb.{clear, farther, reach, twoOn, passBy, measuringPass, halvingPass, doubled, passesFrom, thinning}
 use Rattle.thin.specs.Questions.{question9}
-use Rattle.thin.specs.Promises.{Answer, left, refused, answer}
+use Rattle.thin.specs.Promises.{left, refused, answer}
 
 -- a whole number as an f32
 abbrev pub number : ℕ → Float

@@ -12,7 +12,7 @@ use Rattle.crumbs.specs.declared.Crumb.{Crumb}
 use Rattle.crumbs.specs.Crumb.{capacity}
 use Rattle.crumbs.specs.Choice.{Choice, first, last}
 use Rattle.crumbs.proofs.Choices.{choice-trans, choice-length}
-use Rattle.thin.specs.Crumb.{reach, twoOn, passBy, measuringPass, halvingPass, doubled, target, Thinning, passesFrom, thinning}
+use Rattle.thin.specs.Crumb.{passBy, measuringPass, halvingPass, doubled, target, Thinning, passesFrom, thinning}
 use Rattle.thin.specs.Theorems.{Thins, EveryThinning, EveryHalving}
 use Rattle.thin.proofs.Passes.{Within, reach-within, twoOn-within, pass-choice, pass-first, pass-ends, pass-both, pass-few, halving-length}
 use Rattle.thin.proofs.Asked.{asked}

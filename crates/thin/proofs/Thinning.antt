@@ -1,7 +1,7 @@
 -- The steps of a thinning over a buffer: what the loop over the passes carries on. Assumes nothing.
-use Prim.Native.Nat.{ℕ, suc, _+_, _-_, _*_, _/_, _≤_, _<_}
+use Prim.Native.Nat.{ℕ, suc, _+_, _-_, _≤_, _<_}
 use mathlib.Core.Path.{_≡_, refl, sym, ap, _∙_}
-use mathlib.Core.Bool.{Bool, true, false}
+use mathlib.Core.Bool.{true, false}
 use mathlib.Core.List.{List}
 use native.Mathlib.Omega.{arith}
 use native.Mathlib.Numerals.{add-one}
@@ -11,14 +11,13 @@ use lib.Dec.{ltb}
 use lib.ListN.{length}
 use lib.Ieee.{Float}
 use Rattle.crumbs.specs.declared.Crumb.{Crumb}
-use Rattle.crumbs.specs.Crumb.{capacity, crumbs, behind, between}
+use Rattle.crumbs.specs.Crumb.{capacity, crumbs, behind}
 use Rattle.crumbs.proofs.Crumbs.{length-crumbs, behind-more, length-between}
 use Rattle.crumbs.proofs.Choices.{choice-length}
-use Rattle.thin.specs.declared.Thinned.{Thinned}
 use Rattle.thin.specs.declared.Thinned.the-variants.{Left, Refused}
 use Rattle.thin.specs.Crumb.{measuringPass, halvingPass, doubled, target, Thinning, passesFrom, thinning}
 use Rattle.thin.specs.Questions.{question9}
-use Rattle.thin.specs.Promises.{step, Passed, Answer, left, refused, says, answer, thinned, ThinDone}
+use Rattle.thin.specs.Promises.{step, Passed, left, refused, answer, thinned, ThinDone}
 use Rattle.thin.proofs.Passes.{pass-choice}
 use Rattle.thin.proofs.Asked.{true-false, asked}
 use Rattle.thin.proofs.Theorems.{halving-room}

@@ -26,7 +26,7 @@ farther t a l far (suc n) = elim (clear t a (getD l far a) (take far l)) [ true 
 unfoldable pub reach : Float → Crumb → List Crumb → ℕ
 reach t a l = farther t a l 1 (min 256 (length l) - 1)
 
--- a halving pass goes two on, within the line
+-- "pass 18 halves": it goes two on, within the line
 unfoldable pub twoOn : Crumb → List Crumb → ℕ
 twoOn a l = min 2 (length l)
 

@@ -54,6 +54,6 @@ pub record ThinDone (n : ℕ) (t : Float) (entry exit : List Float) (r : Thinned
   pub held : question9 (length entry) n t ≡ true → crumbs (length (thinned n t entry .left)) exit ≡ thinned n t entry .left
   -- the numbers behind the crumbs that came in are unchanged,
   pub beyond : behind n exit ≡ behind n entry
-  -- and those from the crumbs that are left up to there are free: there are as many as before
+  -- and the numbers between the crumbs that are left and those are free: only how many they are is said
   pub free : length (between (length (thinned n t entry .left)) n exit) ≡ length (between (length (thinned n t entry .left)) n entry)
   pub size : length exit ≡ length entry

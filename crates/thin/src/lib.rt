@@ -28,7 +28,7 @@ fn reach(buf: &[f32], len: usize, anchor: usize, tolerance: f32) -> usize
         let b = crumbs::point_at(buf, end);
         for j in anchor + 1..end {
             let p = crumbs::point_at(buf, j);
-            // a NaN strays
+            // A NaN strays.
             if !(plane::off_segment(p, a, b) <= tolerance) {
                 break 'ends;
             }
@@ -85,6 +85,7 @@ pub enum Thinned {
     Refused(u8),
 }
 
+// Document 01's question 9.
 fn may_thin(size: usize, len: usize, tolerance: f32) -> bool
     ensures { λ r. ⌜ r ≡ question9 size len tolerance ⌝ }
 {

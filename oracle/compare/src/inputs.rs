@@ -102,7 +102,7 @@ fn tie(random: &mut Random) -> i64 {
 }
 
 /// In the bounded run six coordinates take every combination of the first 16 only.
-const EDGES: [f32; 24] = [
+pub const EDGES: [f32; 24] = [
     0.0,
     -0.0,
     f32::from_bits(1), // the smallest subnormal

@@ -1,8 +1,12 @@
 //! The proved code beside the handed-over Rust.
+pub mod classes;
 pub mod inputs;
+pub mod lines;
+pub mod options;
 pub mod proved;
 pub mod random;
 pub mod reference;
+pub mod thinning;
 pub mod value;
 
 /// Metres east and north.

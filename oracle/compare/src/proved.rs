@@ -1,5 +1,6 @@
 //! The proved code, from libdoor.a. Each function takes its input as one value, as in `reference`.
 #![allow(unsafe_code)]
+use crate::thinning::Answer;
 use crate::{Framing, Point};
 
 unsafe extern "C" {
@@ -41,6 +42,14 @@ unsafe extern "C" {
         east: &mut f32,
         north: &mut f32,
     );
+    fn cittumay_thin(
+        crumbs: *mut f32,
+        crumbs_len: usize,
+        len: usize,
+        tolerance: &mut f32,
+        passes: &mut usize,
+        refused: &mut u8,
+    ) -> usize;
 }
 
 pub fn sqrtf(x: f32) -> f32 {
@@ -101,4 +110,12 @@ pub fn frame((origin, east_per_e7, place): Framing) -> Point {
     let (mut east, mut north) = (0.0, 0.0);
     cittumay_frame(origin.0, origin.1, east_per_e7, place.0, place.1, &mut east, &mut north);
     (east, north)
+}
+
+pub fn thin(crumbs: &mut [f32], len: usize, mut tolerance: f32) -> Answer {
+    let (mut passes, mut refused) = (Answer::NO_PASSES, u8::MAX);
+    let (start, size) = (crumbs.as_mut_ptr(), crumbs.len());
+    // SAFETY: `start` and `size` are those of a slice that is lent for the call.
+    let len = unsafe { cittumay_thin(start, size, len, &mut tolerance, &mut passes, &mut refused) };
+    Answer { refused, len, tolerance, passes }
 }

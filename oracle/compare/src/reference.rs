@@ -1,5 +1,6 @@
 //! The handed-over Rust, and Rust's own casts and limits. Each function takes its input as one
 //! value, as in `proved`.
+use crate::thinning::Answer;
 use crate::{Framing, Point};
 use std::cell::RefCell;
 use vana::ride::homing::{Crumb, Homing, probe};
@@ -78,4 +79,37 @@ pub fn frame_of(homing: &mut Homing, (origin, east_per_e7, place): Framing) -> P
 pub fn frame(framing: Framing) -> Point {
     thread_local!(static HOMING: RefCell<Homing<'static>> = RefCell::new(guide()));
     HOMING.with_borrow_mut(|homing| frame_of(homing, framing))
+}
+
+/// `thin::thin`, once question 9 of document 01 is put, and how many passes it made.
+pub fn thin(crumbs: &mut [f32], len: usize, mut tolerance: f32) -> Answer {
+    if !may_thin(crumbs.len(), len, tolerance) {
+        return Answer::refusal(9, tolerance);
+    }
+    let passes = passes(&mut crumbs.to_vec(), len, tolerance);
+    let len = thin_alone(crumbs, len, &mut tolerance);
+    Answer { refused: 0, len, tolerance, passes }
+}
+
+pub fn may_thin(size: usize, len: usize, tolerance: f32) -> bool {
+    let capacity = size / 3;
+    size.is_multiple_of(3) && (3..=4_096).contains(&capacity) && len <= capacity && tolerance >= 0.0
+}
+
+pub fn thin_alone(crumbs: &mut [f32], len: usize, tolerance: &mut f32) -> usize {
+    thin::thin(crumbs.as_chunks_mut().0, len, tolerance, place)
+}
+
+/// `thin::thin` is `thin_moving` with nobody told. Told of each crumb kept, one counts the passes:
+/// each over three crumbs or more moves exactly one crumb to place 1. A pass over two or fewer
+/// moves none; it can only be the first, and the last.
+fn passes(crumbs: &mut [f32], len: usize, mut tolerance: f32) -> usize {
+    let mut passes = 0;
+    let count = |to, _| passes += usize::from(to == 1);
+    thin::thin_moving(crumbs.as_chunks_mut().0, len, &mut tolerance, place, count);
+    passes.max(1)
+}
+
+fn place(&[east, north, _]: &[f32; 3]) -> Point {
+    (east, north)
 }

@@ -1,22 +1,13 @@
 //! Compares the functions on numbers: `numbers [--full] [--seed N]`. With `--self-test` mistakes
 //! stand in the place of the Rust, and each has to be found.
-use compare::inputs::{self, Inputs};
-use compare::value::{Value, difference};
-use compare::{proved, reference};
+use compare::options::Options;
+use compare::value::equal;
+use compare::{inputs, proved, reference};
 use std::f32::consts::FRAC_PI_2;
 use std::process::ExitCode;
 
 fn main() -> ExitCode {
-    let (mut full, mut self_test, mut seed) = (false, false, 1);
-    let mut words = std::env::args().skip(1);
-    while let Some(word) = words.next() {
-        match word.as_str() {
-            "--full" => full = true,
-            "--self-test" => self_test = true,
-            "--seed" => seed = words.next().and_then(|n| n.parse().ok()).expect("--seed N"),
-            _ => panic!("unknown: {word}"),
-        }
-    }
+    let Options { full, seed, self_test } = Options::read();
     let good = if self_test { mistakes(seed) } else { functions(full, seed) };
     if good { ExitCode::SUCCESS } else { ExitCode::FAILURE }
 }
@@ -118,19 +109,4 @@ fn mistakes(seed: u64) -> bool {
     let found = missed.iter().filter(|&&missed| !missed).count();
     println!("{found} of {} mistakes found", missed.len());
     another_nan && found == missed.len()
-}
-
-/// Whether two functions are equal on `inputs`; prints which.
-fn equal<I: Value, O: Value>(
-    name: &str,
-    inputs: &Inputs<impl Fn(u64) -> I + Sync>,
-    ours: impl Fn(I) -> O + Sync,
-    theirs: impl Fn(I) -> O + Sync,
-) -> bool {
-    let found = difference(inputs, ours, theirs);
-    match &found {
-        None => println!("{name}: {} inputs, equal", inputs.len),
-        Some(difference) => println!("{name}: different at {difference}"),
-    }
-    found.is_none()
 }

@@ -1,14 +1,23 @@
-//! Nanoseconds a call of the proved functions and the Rust's on the same inputs, as a Markdown
-//! table.
+//! The time of a call of the proved functions and the Rust's on the same inputs, as Markdown tables.
+use compare::lines::{road, straight, zigzag};
 use compare::random::Random;
+use compare::thinning::Line;
 use compare::{Place, Point, proved, reference};
 use std::hint::black_box;
 use std::time::Instant;
 
 const INPUTS: u64 = 4_096;
 const ROUNDS: u64 = 10_000;
+const CRUMBS: usize = 4_096;
+const THINNINGS: u64 = 300;
 
 fn main() {
+    functions();
+    println!();
+    thinnings();
+}
+
+fn functions() {
     let mut homing = reference::guide();
     println!("| function | proved, ns | Rust, ns | proved / Rust |");
     println!("|---|--:|--:|--:|");
@@ -60,6 +69,44 @@ fn nanoseconds<I, O>(inputs: &[I], mut function: impl FnMut(&I) -> O) -> f64 {
         black_box(function(input));
     }
     begun.elapsed().as_nanos() as f64 / inputs.len() as f64
+}
+
+fn thinnings() {
+    println!("| thin | passes | left | proved, µs | Rust, µs | proved / Rust |");
+    println!("|---|--:|--:|--:|--:|--:|");
+    thinning("winding road", road(CRUMBS, &mut Random::new(1, 0)));
+    thinning("straight line east", straight(CRUMBS, (10.0, 0.0)));
+    thinning("slanted straight line", straight(CRUMBS, (7.3, 4.1)));
+    thinning("zigzag of 300,000 m", zigzag(CRUMBS, 300_000.0));
+    thinning("zigzag of 10,000,000 m", zigzag(CRUMBS, 10_000_000.0));
+    println!();
+    println!(
+        "A full buffer of {CRUMBS} crumbs at tolerance 6. Best of {THINNINGS} thinnings, each of"
+    );
+    println!("a copy made before the clock starts.");
+}
+
+fn thinning(name: &str, places: Vec<Point>) {
+    let line = Line::full(&places, 6.0);
+    let answer = proved::thin(&mut line.crumbs.clone(), line.len, line.tolerance);
+    let (mut ours, mut theirs) = (f64::INFINITY, f64::INFINITY);
+    for _ in 0..THINNINGS {
+        ours = ours.min(microseconds(&line, |crumbs, len, tolerance| {
+            proved::thin(crumbs, len, tolerance).len
+        }));
+        theirs = theirs.min(microseconds(&line, |crumbs, len, mut tolerance| {
+            reference::thin_alone(crumbs, len, &mut tolerance)
+        }));
+    }
+    let (passes, left, ratio) = (answer.passes, answer.len, ours / theirs);
+    println!("| {name} | {passes} | {left} | {ours:.0} | {theirs:.0} | {ratio:.2} |");
+}
+
+fn microseconds(line: &Line, thin: impl Fn(&mut [f32], usize, f32) -> usize) -> f64 {
+    let mut crumbs = line.crumbs.clone();
+    let begun = Instant::now();
+    black_box(thin(black_box(&mut crumbs), line.len, line.tolerance));
+    begun.elapsed().as_nanos() as f64 / 1_000.0
 }
 
 /// Up to 2^20.
