@@ -30,7 +30,7 @@ returns c =
       count = sym (ap leftOf told);
       last = sym (ap (λ (r : Thinned). toleranceOf r (now (g .tolerance))) told);
       made = sym (ap (λ (r : Thinned). passesOf r (now (g .passes))) told);
-      number = sym (ap refusalOf told)
+      number = sym (ap refusalOf told);
     }
 
 same-length-2 : tie.Need-same-length-2
@@ -47,7 +47,7 @@ returns-2 c =
       count = sym (ap leftOf told);
       last = sym (ap (λ (r : Thinned). toleranceOf r (now (g .tolerance))) told);
       made = sym (ap (λ (r : Thinned). passesOf r (now (g .passes))) told);
-      number = sym (ap refusalOf told)
+      number = sym (ap refusalOf told);
     }
 
 pub cittumay-thin-spec : {M : Type 1} → statement M

@@ -1,0 +1,56 @@
+-- `search::nearest_on_breadcrumb` meets its contract: the ends still to be considered decide. Assumes nothing.
+use Prim.Native.Nat.{_+_, _-_}
+use mathlib.Core.Path.{ap, _∙_}
+use native.Mathlib.Omega.{arith}
+use borrow.Author.Needs.{needs}
+use lib.Ieee.{ofBits}
+use Rattle.crumbs.specs.Crumb.{crumbs}
+use Rattle.search.specs.declared.Ranking.the-variants.{Plain}
+use Rattle.search.specs.Constants.{lowest, largest}
+use Rattle.search.specs.Search.{considered, costWithin, found, nearestOnBreadcrumb}
+use Rattle.search.proofs.Searching.{Rises, rises-start, rises-on, rises-out}
+use Rattle.search.proofs.nearest_on_breadcrumb.Statement.{statement}
+use Rattle.search.proofs.nearest_on_breadcrumb.Tie as tie
+
+abbrev Inv-loop : tie.InvT-loop
+Inv-loop line len p ends anywhere best₀ end₀ best end =
+    Rises (considered (crumbs len line) p (costWithin (crumbs len line) p anywhere Plain)) ends best end
+
+abbrev μ-loop : tie.MeasureT-loop
+μ-loop line len p ends anywhere best₀ end₀ best end = ends .to + 1 - end
+
+loop-holds : tie.Need-loop-holds Inv-loop μ-loop
+loop-holds c = rises-start
+
+consider-requires : tie.Need-consider-requires Inv-loop μ-loop
+consider-requires c κs = omega arith
+
+add-end : tie.Need-add-end Inv-loop μ-loop
+add-end c = omega arith
+
+loop-less : tie.Need-loop-less Inv-loop μ-loop
+loop-less c = omega arith
+
+loop-again : tie.Need-loop-again Inv-loop μ-loop
+loop-again c = rises-on (c .before .before .before .loop .inv) (c .before .if1 .taken) (c .consider .ensures)
+
+found-requires : tie.Need-found-requires Inv-loop μ-loop
+found-requires c κs = search needs
+
+returns : tie.Need-returns Inv-loop μ-loop
+unfolding nearestOnBreadcrumb lowest largest ofBits
+returns c = c .found .ensures ∙ ap found (rises-out (c .before .before .before .loop .inv) (c .before .if1 .left))
+
+pub nearest-on-breadcrumb-spec : {M : Type 1} → statement M
+nearest-on-breadcrumb-spec =
+    tie.close
+    (tie.spec
+    Inv-loop
+    μ-loop
+    loop-holds
+    consider-requires
+    add-end
+    loop-less
+    loop-again
+    found-requires
+    returns)

@@ -1,0 +1,54 @@
+-- `search::nearest_within` meets its contract: the ends still to be considered decide. Assumes nothing.
+use Prim.Native.Nat.{_+_, _-_}
+use mathlib.Core.Path.{ap, _∙_}
+use native.Mathlib.Omega.{arith}
+use borrow.Author.Needs.{needs}
+use Rattle.crumbs.specs.Crumb.{crumbs}
+use Rattle.search.specs.Search.{considered, costWithin, found, nearestWithin}
+use Rattle.search.proofs.Searching.{Falls, falls-start, falls-on, falls-out}
+use Rattle.search.proofs.nearest_within.Statement.{statement}
+use Rattle.search.proofs.nearest_within.Tie as tie
+
+abbrev Inv-loop : tie.InvT-loop
+Inv-loop line len p ends within by best₀ end₀ best end =
+    Falls (considered (crumbs len line) p (costWithin (crumbs len line) p within by)) ends best end
+
+abbrev μ-loop : tie.MeasureT-loop
+μ-loop line len p ends within by best₀ end₀ best end = end + 1 - ends .from
+
+loop-holds : tie.Need-loop-holds Inv-loop μ-loop
+loop-holds c = falls-start
+
+consider-requires : tie.Need-consider-requires Inv-loop μ-loop
+consider-requires c κs = omega arith
+
+sub-end : tie.Need-sub-end Inv-loop μ-loop
+sub-end c = omega arith
+
+loop-less : tie.Need-loop-less Inv-loop μ-loop
+loop-less c = omega arith
+
+loop-again : tie.Need-loop-again Inv-loop μ-loop
+loop-again c =
+    falls-on (c .before .before .before .loop .inv) (c .before .before .before .before .before .pre .0) (c .before .if1 .taken) (c .consider .ensures)
+
+found-requires : tie.Need-found-requires Inv-loop μ-loop
+found-requires c κs = search needs
+
+returns : tie.Need-returns Inv-loop μ-loop
+unfolding nearestWithin
+returns c = c .found .ensures ∙ ap found (falls-out (c .before .before .before .loop .inv) (c .before .if1 .left))
+
+pub nearest-within-spec : {M : Type 1} → statement M
+nearest-within-spec =
+    tie.close
+    (tie.spec
+    Inv-loop
+    μ-loop
+    loop-holds
+    consider-requires
+    sub-end
+    loop-less
+    loop-again
+    found-requires
+    returns)

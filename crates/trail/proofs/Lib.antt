@@ -1,0 +1,6 @@
+pub mod Window
+pub mod Line
+pub mod Rules
+pub mod Theorems
+pub mod Tracks
+pub mod Recording

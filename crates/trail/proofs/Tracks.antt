@@ -1,0 +1,203 @@
+-- What each step of the recording does to a trail and its buffer, by the rules. Assumes nothing.
+use Prim.Native.Nat.{ℕ, _+_, _≤_, _<_, max}
+use mathlib.Core.Path.{_≡_, refl, sym, ap, ap₂, _∙_}
+use mathlib.Core.Bool.{true, false}
+use mathlib.Core.List.{List, [], _∷_, _++_}
+use native.Mathlib.Omega.{arith}
+use borrow.Author.Tests.{le-leb}
+use lib.ListN.{length}
+use lib.Ieee.{Float, ofInt}
+use Rattle.plane.specs.declared.Point.{Point}
+use Rattle.crumbs.specs.Crumb.{capacity, putAt, crumbs, behind}
+use Rattle.crumbs.proofs.Choices.{choice-length}
+use Rattle.crumbs.proofs.Crumbs.{length-crumbs, crumbs-behind, behind-put, behind-more, length-put}
+use Rattle.thin.specs.declared.Thinned.{Thinned}
+use Rattle.thin.specs.declared.Thinned.the-variants.{Left, Refused}
+use Rattle.thin.specs.Questions.{question9}
+use Rattle.thin.specs.Promises.{thinned, ThinDone}
+use Rattle.thin.proofs.Answers.{LeftIs, left-is, refused-is}
+use Rattle.thin.proofs.Asked.{true-false}
+use Rattle.trail.specs.declared.Trail.{Trail}
+use Rattle.trail.specs.declared.Recorded.{Recorded}
+use Rattle.trail.specs.Notes.{thinnedIn}
+use Rattle.trail.specs.Trail.{windowPlaces, Track, withCrumbs, withWindow, Rule, _>>_, still, crumbOf, recordedM, realong, thin, put, wait}
+use Rattle.trail.specs.View.{places, track, Fit, Follows, Records, Realongs, Changes}
+use Rattle.trail.proofs.Window.{length-places, putPlace, places-put}
+use Rattle.trail.proofs.Rules.{thinned-then}
+use Rattle.trail.proofs.Theorems.{Sound, thin-sound}
+
+-- ---- a trail that fits, and its track
+pub sound-of : {t : Trail} (b : List Float) → Fit t (length b) → Sound (capacity (length b)) (track t b)
+unfolding track
+sound-of b f = record { held = rw length-crumbs (f .held); waiting = rw length-places (f .waiting); tolerance = f .tolerance }
+
+-- a trail r in place of t, on a buffer of the same length
+fit-of : {t : Trail} (r : Trail) (b exit : List Float) → Fit t (length b) → length exit ≡ length b → Sound (capacity (length b)) (track r exit)
+    → Fit r (length exit)
+unfolding track
+fit-of r b exit f e s =
+    rw e
+    (record {
+      whole-long = f .whole-long;
+      least = f .least;
+      most = f .most;
+      held = rw length-crumbs at (s .held);
+      waiting = rw length-places at (s .waiting);
+      tolerance = s .tolerance;
+    })
+
+-- ---- a rule after a rule, and a rule that is another at this track
+module _ {t t₁ t₂ : Trail} {b b₁ b₂ : List Float} {R S : ℕ → Rule} where
+  pub follows-then : Follows R t b t₁ b₁ → Follows S t₁ b₁ t₂ b₂ → t₁ .len ≤ max (t .len) (t₂ .len) → Follows (λ C. R C >> S C) t b t₂ b₂
+  follows-then f g h =
+      let n = max (t .len) (t₂ .len) in
+      record {
+        same = g .same ∙ ap₂ (λ C u. S C u .track) (ap capacity (f .size)) (f .same);
+        fit = g .fit;
+        size = g .size ∙ f .size;
+        beyond =
+            behind-more (max (t₁ .len) (t₂ .len)) n b₂ b₁ (omega arith) (g .beyond)
+            ∙ behind-more (max (t .len) (t₁ .len)) n b₁ b (omega arith) (f .beyond);
+      }
+
+pub records-then : {t t₂ : Trail} {r : Recorded} {b b₁ b₂ : List Float} {R S : ℕ → Rule} → Records R t b r b₁ → Follows S (r .trail) b₁ t₂ b₂
+    → r .trail .len ≤ max (t .len) (t₂ .len) → ((C : ℕ) (u : Track) → thinnedIn (S C u .notes) ≡ false)
+    → Records (λ C. R C >> S C) t b (record { trail = t₂; thinned = r .thinned }) b₂
+records-then {t} {b = b} {R = R} {S} f g h quiet =
+    let C = capacity (length b) in
+    let d = R C (track t b) in
+    record {
+      follows = follows-then (f .follows) g h;
+      thinned = f .thinned ∙ sym (thinned-then (d .notes) (S C (d .track) .notes) (quiet C (d .track)));
+    }
+
+pub records-as : {t : Trail} {r : Recorded} {b exit : List Float} {R S : ℕ → Rule} → Records R t b r exit
+    → R (capacity (length b)) (track t b) ≡ S (capacity (length b)) (track t b) → Records S t b r exit
+records-as f e =
+    record {
+      follows =
+          record {
+            same = f .follows .same ∙ ap (λ d. d .track) e;
+            fit = f .follows .fit;
+            size = f .follows .size;
+            beyond = f .follows .beyond;
+          };
+      thinned = f .thinned ∙ ap (λ d. thinnedIn (d .notes)) e;
+    }
+
+pub records-still : {t : Trail} (b : List Float) → Fit t (length b) → Records (λ C. still) t b (record { trail = t; thinned = false }) b
+records-still b f = record { follows = record { same = refl; fit = f; size = refl; beyond = refl }; thinned = refl }
+
+-- ---- a place waits
+abbrev waited : Trail → Point → Trail
+waited t p =
+    record {
+      len = t .len;
+      tolerance = t .tolerance;
+      window = putPlace (t .window) (t .«window_len») p;
+      «window_len» = t .«window_len» + 1;
+      retrace = t .retrace;
+      «retrace_len» = t .«retrace_len»;
+    }
+
+pub waits : (t : Trail) (p : Point) → length (t .window) ≡ 96 → t .«window_len» < windowPlaces → Changes (wait p) t (waited t p)
+unfolding track wait
+waits t p long few =
+    record {
+      same = λ b. ap (λ w. withWindow w (track t b)) (places-put (t .window) (t .«window_len») p (omega arith));
+      fit = λ size f.
+          record {
+            whole-long = f .whole-long;
+            least = f .least;
+            most = f .most;
+            held = f .held;
+            waiting = omega arith;
+            tolerance = f .tolerance;
+          };
+    }
+
+-- ---- a crumb is put behind those held
+abbrev putOne : Trail → Trail
+putOne t =
+    record {
+      len = t .len + 1;
+      tolerance = t .tolerance;
+      window = t .window;
+      «window_len» = t .«window_len»;
+      retrace = t .retrace;
+      «retrace_len» = t .«retrace_len»;
+    }
+
+pub puts : (t : Trail) (p : Point) (b : List Float) {along : Float} {exit : List Float} → Fit t (length b) → t .len < capacity (length b)
+    → along ≡ recordedM (crumbs (t .len) b) p → exit ≡ putAt b (t .len) (crumbOf p along) → Follows (λ C. put p) t b (putOne t) exit
+unfolding track put
+puts t p b {along} {exit} f room far e =
+    let n = t .len in
+    let long : length exit ≡ length b = ap length e ∙ length-put b n (crumbOf p along) in
+    record {
+      same =
+          ap (λ l. withCrumbs l (track t b))
+          (ap (crumbs (n + 1)) e
+          ∙ (crumbs-behind n b (crumbOf p along) room ∙ ap (λ m. crumbs n b ++ crumbOf p m ∷ []) far));
+      fit =
+          rw long
+          (record {
+            whole-long = f .whole-long;
+            least = f .least;
+            most = f .most;
+            held = omega arith;
+            waiting = f .waiting;
+            tolerance = f .tolerance;
+          });
+      size = long;
+      beyond = ap (behind (max n (n + 1))) e ∙ behind-put b n (crumbOf p along) (max n (n + 1)) (omega arith);
+    }
+
+-- ---- a thinning
+abbrev thinnedTo : Trail → ℕ → Float → Trail
+thinnedTo t k d =
+    record { len = k; tolerance = d; window = t .window; «window_len» = t .«window_len»; retrace = 0; «retrace_len» = t .«retrace_len» }
+
+track-thin : (t : Trail) (b exit : List Float) (k : ℕ) {d : Float} → crumbs k exit ≡ realong (thinned (t .len) (t .tolerance) b .left)
+    → d ≡ thinned (t .len) (t .tolerance) b .tolerance → track (thinnedTo t k d) exit ≡ thin (capacity (length b)) (track t b) .track
+unfolding track thin
+track-thin t b exit k p q =
+    ap₂
+    (λ l x. record { crumbs = l; tolerance = x; window = places (t .«window_len») (t .window); retrace = 0; retraceLen = t .«retrace_len» })
+    p q
+
+asked : {t : Trail} {size : ℕ} → Fit t size → question9 size (t .len) (t .tolerance) ≡ true
+unfolding question9 ofInt
+asked {t} {size} f =
+    rw (f .whole-long, le-leb 3 (capacity size) (omega arith), le-leb (capacity size) 4096 (f .most), le-leb (t .len) (capacity size) (f .held))
+    (f .tolerance)
+
+module _ {t : Trail} {b b₁ : List Float} {r : Thinned} (f : Fit t (length b)) (done : ThinDone (t .len) (t .tolerance) b b₁ r) where
+  pub taken : {x : ℕ} → r ≡ Refused x → ⊥
+  taken e = true-false (sym (asked f) ∙ refused-is done e .0)
+
+  module _ {k : ℕ} {d : Float} {n : ℕ} (e : r ≡ Left k d n) where
+    is : LeftIs (t .len) (t .tolerance) b b₁ k d n
+    is = left-is done e
+
+    count : k ≡ length (thinned (t .len) (t .tolerance) b .left)
+    count = sym (length-crumbs k b₁) ∙ ap length (is .held)
+
+    fewer : k ≤ t .len
+    fewer = omega (arith, count, choice-length (is .rule .choice), length-crumbs (t .len) b)
+
+    pub room-left : k ≤ capacity (length b₁)
+    room-left = omega (arith, fewer, f .held, done .size)
+
+    pub thins : {exit : List Float} → Realongs k b₁ exit → Follows thin t b (thinnedTo t k d) exit
+    thins {exit} g =
+        let long : length exit ≡ length b = g .size ∙ done .size in
+        let same = track-thin t b exit k (g .held ∙ ap realong (is .held)) (is .tolerance) in
+        record {
+          same = same;
+          fit = fit-of (thinnedTo t k d) b exit f long (rw same (thin-sound (capacity (length b)) (omega arith) (track t b) (sound-of b f)));
+          size = long;
+          beyond =
+              behind-more k (max (t .len) k) exit b₁ (omega arith) (g .beyond)
+              ∙ behind-more (t .len) (max (t .len) k) b₁ b (omega arith) (done .beyond);
+        }

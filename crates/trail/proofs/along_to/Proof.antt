@@ -1,0 +1,18 @@
+-- `trail::along_to` adds the distance.
+use Rattle.trail.specs.Trail.{alongTo}
+use borrow.Author.Needs.{needs}
+use Rattle.trail.proofs.along_to.Statement.{statement}
+use Rattle.trail.proofs.along_to.Tie as tie
+
+point-requires : tie.Need-point-requires
+point-requires c κs = search needs
+
+distance-requires : tie.Need-distance-requires
+distance-requires c κs = search needs
+
+returns : tie.Need-returns
+unfolding alongTo
+returns c = simp (c .before .distance .ensures, c .before .before .point .ensures)
+
+pub along-to-spec : {M : Type 1} → statement M
+along-to-spec = tie.close (tie.spec point-requires distance-requires returns)

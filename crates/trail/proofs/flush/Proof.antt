@@ -1,0 +1,31 @@
+-- `trail::flush` keeps the last place that waits, and empties the window.
+use native.Mathlib.Omega.{arith}
+use Rattle.trail.proofs.Recording.{flushes-none, flushes}
+use borrow.Author.Needs.{needs}
+use Rattle.trail.proofs.flush.Statement.{statement}
+use Rattle.trail.proofs.flush.Tie as tie
+
+returns : tie.Need-returns
+returns c = flushes-none _ (c .before .before .pre) (c .if1 .taken)
+
+sub-waiting : tie.Need-sub-waiting
+sub-waiting c = search needs
+
+waiting-requires : tie.Need-waiting-requires
+waiting-requires c κs = search needs
+
+keep-requires : tie.Need-keep-requires
+keep-requires c κs = search needs
+
+same-length : tie.Need-same-length
+same-length c = search needs
+
+returns-2 : tie.Need-returns-2
+returns-2 c =
+    let at = c .before .before .before .before .before .before .before .before .before .before .before in
+    let some-wait = c .before .before .before .before .before .before .before .before .before .if1 .left in
+    flushes (at .args .t1) _ (c .before .before .before .before .before .before .waiting .result) (omega (arith, some-wait)) (c .before .before .before .before .before .before .waiting .ensures) (c .before .before .before .before .keep .ensures)
+
+pub flush-spec : {M : Type 1} → statement M
+flush-spec =
+    tie.close (tie.spec returns sub-waiting waiting-requires keep-requires same-length returns-2)

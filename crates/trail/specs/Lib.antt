@@ -1,0 +1,3 @@
+pub mod Notes
+pub mod Trail
+pub mod View

@@ -1,0 +1,291 @@
+// The recording of the breadcrumb. Fixes wait in a window, and the last of them is kept before one
+// that would make a straight line from the last kept crumb stray too far. When the lent buffer is
+// full the line is thinned in place, so a ride of any length fits.
+
+use crumbs::Crumb;
+use plane::Point;
+use thin::Thinned;
+ghost use mathlib.Core.Path.{_≡_};
+ghost use mathlib.Core.Option.{some, Option·map, Option·getD};
+ghost use Prim.Native.Nat.{_<_, _≤_};
+ghost use lib.ListN.{length};
+ghost use Rattle.crumbs.specs.Crumb.{capacity, point, crumbs as held};
+ghost use Rattle.crumbs.specs.Choice.{last};
+ghost use Rattle.trail.specs.Trail.{windowPlaces, startOf, alongTo, recordedM, strays, thin, put, keep, flush, wait, simplify, add, reset};
+ghost use Rattle.trail.specs.View.{placeAt, places, Emptied, Changes, Realongs, Fit, Follows, Records};
+
+// Fixes closer than this to the last one add nothing to the breadcrumb.
+pub const MIN_STEP_M: f32 = 5.0;
+// A kept crumb may sit this far off the straight line it replaces; doubled when a thinning pass frees
+// too little.
+pub const TOLERANCE_M: f32 = 6.0;
+// The most places that wait.
+pub const WINDOW: usize = 48;
+
+// The breadcrumb's state beside the buffer that holds its crumbs.
+pub struct Trail {
+    // Crumbs held.
+    pub len: usize,
+    pub tolerance: f32,
+    // The fixes since the last kept crumb, oldest first: place i at 2i and 2i + 1.
+    pub window: [f32; 96],
+    pub window_len: usize,
+    // Fixes in a row riding back along the breadcrumb, and its length before the first of them.
+    pub retrace: u8,
+    pub retrace_len: usize,
+}
+
+// A trail, and whether it was thinned on the way.
+pub struct Recorded {
+    pub trail: Trail,
+    pub thinned: bool,
+}
+
+// A breadcrumb with nothing held and nothing waiting.
+pub fn new() -> Trail
+    ensures { λ r. ⌜ Emptied r ⌝ }
+{
+    let window = [0.0; 96];
+    Trail {
+        len: 0,
+        tolerance: TOLERANCE_M,
+        window,
+        window_len: 0,
+        retrace: 0,
+        retrace_len: 0,
+    }
+}
+
+// Forget the breadcrumb.
+pub fn reset(t: Trail) -> Trail
+    ensures { λ r. ⌜ Changes reset t r ⌝ }
+{
+    Trail {
+        len: 0,
+        tolerance: TOLERANCE_M,
+        window_len: 0,
+        retrace: 0,
+        ..t
+    }
+}
+
+// The place `i` of the window.
+pub fn waiting(window: &[f32; 96], i: usize) -> Point
+    requires { ⌜ i < windowPlaces ⌝ }
+    ensures { λ r. ⌜ r ≡ placeAt (now (window .entry)) i ⌝ }
+{
+    let at = 2 * i;
+    Point {
+        east: window[at],
+        north: window[at + 1],
+    }
+}
+
+// The last place that waits, or `anchor` where none does.
+fn last(window: &[f32; 96], window_len: usize, anchor: Point) -> Point
+    requires { ⌜ «window_len» ≤ windowPlaces ⌝ }
+    ensures { λ r. ⌜ r ≡ Option·getD (last (places «window_len» (now (window .entry)))) anchor ⌝ }
+{
+    if window_len == 0 {
+        return anchor;
+    }
+    waiting(window, window_len - 1)
+}
+
+// `p` waits behind the others.
+fn wait(t: Trail, p: Point) -> Trail
+    requires { ⌜ t .«window_len» < windowPlaces ⌝ }
+    ensures { λ r. ⌜ Changes (wait p) t r ⌝ }
+{
+    let mut next = t;
+    let at = 2 * t.window_len;
+    next.window[at] = p.east;
+    next.window[at + 1] = p.north;
+    next.window_len = t.window_len + 1;
+    next
+}
+
+// Whether a straight line from `anchor` to `p` would leave a waiting place farther off than `tolerance`.
+fn strays(window: &[f32; 96], window_len: usize, anchor: Point, p: Point, tolerance: f32) -> bool
+    requires { ⌜ «window_len» ≤ windowPlaces ⌝ }
+    ensures { λ r. ⌜ r ≡ strays tolerance anchor p (places «window_len» (now (window .entry))) ⌝ }
+{
+    for i in 0..window_len {
+        let w = waiting(window, i);
+        if plane::off_segment(w, anchor, p) > tolerance {
+            return true;
+        }
+    }
+    false
+}
+
+// Where the breadcrumb ends: its last crumb.
+pub fn end(crumbs: &[f32], len: usize) -> Point
+    requires { ⌜ (0 < len) × (len ≤ capacity (length (now crumbs))) ⌝ }
+    ensures { λ r. ⌜ some r ≡ Option·map point (last (held len (now (crumbs .entry)))) ⌝ }
+{
+    crumbs::point_at(crumbs, len - 1)
+}
+
+// Where the ride began: its first crumb, or `p` where none is held.
+pub fn start(crumbs: &[f32], len: usize, p: Point) -> Point
+    requires { ⌜ len ≤ capacity (length (now crumbs)) ⌝ }
+    ensures { λ r. ⌜ r ≡ startOf (held len (now (crumbs .entry))) p ⌝ }
+{
+    if len == 0 {
+        return p;
+    }
+    crumbs::point_at(crumbs, 0)
+}
+
+// How far along the line `p` lies, which comes next after the crumb `a`.
+fn along_to(a: Crumb, p: Point) -> f32
+    ensures { λ r. ⌜ r ≡ alongTo a p ⌝ }
+{
+    a.along + plane::distance(crumbs::point(a), p)
+}
+
+// The breadcrumb's length from the start to `p`.
+pub fn recorded_m(crumbs: &[f32], len: usize, p: Point) -> f32
+    requires { ⌜ len ≤ capacity (length (now crumbs)) ⌝ }
+    ensures { λ r. ⌜ r ≡ recordedM (held len (now (crumbs .entry))) p ⌝ }
+{
+    if len == 0 {
+        return 0.0;
+    }
+    along_to(crumbs::crumb_at(crumbs, len - 1), p)
+}
+
+// Distances along follow the thinned line.
+fn realong(crumbs: &mut [f32], len: usize)
+    requires { ⌜ len ≤ capacity (length (now crumbs)) ⌝ }
+    ensures { λ _. ⌜ Realongs len (now (crumbs .entry)) (now (crumbs .exit)) ⌝ }
+{
+    for i in 1..len {
+        let a = crumbs::crumb_at(crumbs, i - 1);
+        let p = crumbs::point_at(crumbs, i);
+        let c = Crumb {
+            east: p.east,
+            north: p.north,
+            along: along_to(a, p),
+        };
+        crumbs::put(crumbs, i, c);
+    }
+}
+
+// Thin the full breadcrumb in place until a quarter of it is free. The crumbs that a turn-round would
+// go back to may be gone, so one that is under way is forgotten.
+fn thin(t: Trail, crumbs: &mut [f32]) -> Trail
+    requires { ⌜ Fit t (length (now crumbs)) ⌝ }
+    ensures { λ r. ⌜ Follows thin t (now (crumbs .entry)) r (now (crumbs .exit)) ⌝ }
+{
+    let Thinned::Left {
+        len,
+        tolerance,
+        passes: _,
+    } = thin::thin(crumbs, t.len, t.tolerance)
+    else {
+        return t;
+    };
+    realong(crumbs, len);
+    let mut left = t;
+    left.len = len;
+    left.tolerance = tolerance;
+    left.retrace = 0;
+    left
+}
+
+// A crumb at `p` behind those held.
+fn put(t: Trail, crumbs: &mut [f32], p: Point) -> Trail
+    requires { ⌜ (Fit t (length (now crumbs))) × (t .len < capacity (length (now crumbs))) ⌝ }
+    ensures { λ r. ⌜ Follows (λ C. put p) t (now (crumbs .entry)) r (now (crumbs .exit)) ⌝ }
+{
+    let len = t.len;
+    let c = Crumb {
+        east: p.east,
+        north: p.north,
+        along: recorded_m(crumbs, len, p),
+    };
+    crumbs::put(crumbs, len, c);
+    Trail { len: len + 1, ..t }
+}
+
+// Keep a crumb at `p`. Where there is no room left, the line is thinned first.
+pub fn keep(t: Trail, crumbs: &mut [f32], p: Point) -> Recorded
+    requires { ⌜ Fit t (length (now crumbs)) ⌝ }
+    ensures { λ r. ⌜ Records (λ C. keep C p) t (now (crumbs .entry)) r (now (crumbs .exit)) ⌝ }
+{
+    if t.len == crumbs::capacity(crumbs.len()) {
+        let left = thin(t, crumbs);
+        return Recorded {
+            trail: put(left, crumbs, p),
+            thinned: true,
+        };
+    }
+    Recorded {
+        trail: put(t, crumbs, p),
+        thinned: false,
+    }
+}
+
+// Keep the last place that waits, if one does, and empty the window.
+pub fn flush(t: Trail, crumbs: &mut [f32]) -> Recorded
+    requires { ⌜ Fit t (length (now crumbs)) ⌝ }
+    ensures { λ r. ⌜ Records flush t (now (crumbs .entry)) r (now (crumbs .exit)) ⌝ }
+{
+    let n = t.window_len;
+    if n == 0 {
+        return Recorded {
+            trail: t,
+            thinned: false,
+        };
+    }
+    let p = waiting(&t.window, n - 1);
+    let kept = keep(t, crumbs, p);
+    let trail = kept.trail;
+    Recorded {
+        trail: Trail {
+            window_len: 0,
+            ..trail
+        },
+        thinned: kept.thinned,
+    }
+}
+
+// `p` waits. Where a place before it strays, or the window is full, the last that waits is kept first.
+fn simplify(t: Trail, crumbs: &mut [f32], anchor: Point, p: Point) -> Recorded
+    requires { ⌜ Fit t (length (now crumbs)) ⌝ }
+    ensures { λ r. ⌜ Records (λ C. simplify C anchor p) t (now (crumbs .entry)) r (now (crumbs .exit)) ⌝ }
+{
+    if strays(&t.window, t.window_len, anchor, p, t.tolerance) || t.window_len == WINDOW {
+        let flushed = flush(t, crumbs);
+        let trail = flushed.trail;
+        return Recorded {
+            trail: wait(trail, p),
+            thinned: flushed.thinned,
+        };
+    }
+    Recorded {
+        trail: wait(t, p),
+        thinned: false,
+    }
+}
+
+// The window simplification: keep the last fix before one that would make a straight line from the
+// last kept crumb stray too far.
+pub fn add(t: Trail, crumbs: &mut [f32], p: Point) -> Recorded
+    requires { ⌜ Fit t (length (now crumbs)) ⌝ }
+    ensures { λ r. ⌜ Records (λ C. add C p) t (now (crumbs .entry)) r (now (crumbs .exit)) ⌝ }
+{
+    if t.len == 0 {
+        return keep(t, crumbs, p);
+    }
+    let anchor = end(crumbs, t.len);
+    if plane::distance(last(&t.window, t.window_len, anchor), p) < MIN_STEP_M {
+        return Recorded {
+            trail: t,
+            thinned: false,
+        };
+    }
+    simplify(t, crumbs, anchor, p)
+}
