@@ -1,0 +1,4 @@
+-- Facts that the functions' proofs share.
+mod Holding
+mod Engaging
+mod Joins

@@ -1,0 +1,4 @@
+pub mod Record
+pub mod Engage
+pub mod Join
+pub mod View

@@ -1,0 +1,42 @@
+-- The breadcrumb in the whole state. Document 01, "Crumb": "Added: a thinning while the breadcrumb is followed, which only `replay` can cause, ends the
+-- following without a cut: segment 0, nothing matched, off false."
+use Prim.Native.Nat.{ℕ}
+use mathlib.Core.Bool.{Bool, true, false}
+use Rattle.plane.specs.declared.Point.{Point}
+use Rattle.plane.specs.declared.Spot.the-variants.{Nowhere}
+use Rattle.trail.specs.Notes.{thinnedIn}
+use Rattle.trail.specs.Trail.{Track}
+use Rattle.trail.specs.Trail as trail
+use Rattle.state.specs.declared.Line.{Line}
+use Rattle.state.specs.declared.Line.the-variants.{Nothing, Breadcrumb, Course}
+use Rattle.state.specs.declared.Follow.{Follow}
+use Rattle.state.specs.State.{State, withTrack, withFollow}
+use Rattle.state.specs.Rule.{Done}
+
+-- a following of the breadcrumb is over, without a cut; one of the course goes on
+unfoldable pub left : Line → Follow → Follow
+left Breadcrumb f = record { line = Nothing; segment = 0; matched = Nowhere; off = false; «reminded_ms» = f .«reminded_ms» }
+left Nothing f = f
+left Course f = f
+
+unfoldable pub afterThinning : Bool → Follow → Follow
+afterThinning true f = left (f .line) f
+afterThinning false f = f
+
+-- the state with another track, after a thinning or not
+unfoldable pub recordedIn : Bool → Track → State → State
+recordedIn thinned t s = withFollow (afterThinning thinned (s .follow)) (withTrack t s)
+
+-- what was done to the breadcrumb, in the whole state
+unfoldable pub recorded : trail.Done → State → Done (Unit {0})
+recorded d s = record { answer = tt; state = recordedIn (thinnedIn (d .notes)) (d .track) s; notes = d .notes }
+
+-- a crumb is kept at p; p is added by way of the window; the window's last place is kept
+unfoldable pub keep : ℕ → Point → State → Done (Unit {0})
+keep C p s = recorded (trail.keep C p (s .track)) s
+
+unfoldable pub add : ℕ → Point → State → Done (Unit {0})
+add C p s = recorded (trail.add C p (s .track)) s
+
+unfoldable pub flush : ℕ → State → Done (Unit {0})
+flush C s = recorded (trail.flush C (s .track)) s

@@ -1,0 +1,69 @@
+-- What the guide's questions give of a state and its two lent buffers, and what the functions promise of them.
+use Prim.Native.Nat.{ℕ, _≤_, _<_, max}
+use mathlib.Core.Path.{_≡_}
+use mathlib.Core.Bool.{Bool}
+use mathlib.Core.List.{List}
+use lib.ListN.{length}
+use lib.Ieee.{Float}
+use Rattle.crumbs.specs.declared.Crumb.{Crumb}
+use Rattle.crumbs.specs.Crumb.{capacity, crumbs, behind}
+use Rattle.trail.specs.View as trail
+use Rattle.search.specs.declared.Best.{Best}
+use Rattle.search.specs.declared.Best.the-variants.{Nothing, Found}
+use Rattle.state.specs.declared.Line.the-variants as line
+use Rattle.state.specs.declared.Homing.{Homing}
+use Rattle.trail.specs.declared.Trail.{Trail}
+use Rattle.trail.specs.declared.Recorded.{Recorded}
+use Rattle.trail.specs.View.{track}
+use Rattle.follow.specs.Record.{recordedIn}
+use Rattle.follow.specs.declared.Answered.{Answered}
+use Rattle.state.specs.State.{State, stateOf}
+use Rattle.state.specs.Rule.{Done}
+
+-- the placed course in a line buffer
+abbrev pub courseOf : Homing → List Float → List Crumb
+courseOf h b = crumbs (h .course .«line_len») b
+
+-- a state that fits a crumb buffer and a line buffer, as far as following needs it
+pub record Fit (h : Homing) (room lineRoom : ℕ) : Type 0 where
+  pub trail : trail.Fit (h .trail) room
+  pub course : h .course .«line_len» ≤ capacity lineRoom
+  pub onTrail : h .follow .line ≡ line.Breadcrumb → (1 ≤ h .follow .segment) × (h .follow .segment < h .trail .len)
+  pub onCourse : h .follow .line ≡ line.Course → (1 ≤ h .follow .segment) × (h .follow .segment < h .course .«line_len»)
+
+-- A change that leaves the trail, and so the crumbs, alone: it is the rule's whatever the buffer holds.
+pub record Changes (rule : State → State) (h r : Homing) : Type 0 where
+  pub same : (b : List Float) → stateOf r b ≡ rule (stateOf h b)
+  pub trail : r .trail ≡ h .trail
+
+-- A rule is followed, from a state and its crumb buffer to a state and its crumb buffer.
+pub record Follows {A : Type 0} (rule : ℕ → State → Done A) (h : Homing) (entry : List Float) (r : Homing) (exit : List Float) : Type 0 where
+  pub same : stateOf r exit ≡ rule (capacity (length entry)) (stateOf h entry) .state
+  pub fit : trail.Fit (r .trail) (length exit)
+  pub size : length exit ≡ length entry
+  -- the numbers behind the crumbs held before and after are unchanged; free are those behind the crumbs held after where there are fewer,
+  -- and the numbers of the window that belong to no waiting place
+  pub beyond : behind (max (h .trail .len) (r .trail .len)) exit ≡ behind (max (h .trail .len) (r .trail .len)) entry
+
+-- A state that took over what was recorded.
+pub record TakesOver (h : Homing) (r : Recorded) (n : Homing) : Type 0 where
+  pub same : (b : List Float) → stateOf n b ≡ recordedIn (r .thinned) (track (r .trail) b) (stateOf h b)
+  pub trail : n .trail ≡ r .trail
+
+-- a trail that holds the same crumbs and waiting places as another
+pub record SameHeld (t r : Trail) : Type 0 where
+  pub len : r .len ≡ t .len
+  pub tolerance : r .tolerance ≡ t .tolerance
+  pub window : r .window ≡ t .window
+  pub waiting : r .«window_len» ≡ t .«window_len»
+
+-- A rule that answers yes or no and keeps no crumb, on a crumb buffer b.
+pub record Asks (rule : State → Done Bool) (h : Homing) (b : List Float) (r : Answered) : Type 0 where
+  pub answered : r .yes ≡ rule (stateOf h b) .answer
+  pub same : stateOf (r .homing) b ≡ rule (stateOf h b) .state
+  pub held : SameHeld (h .trail) (r .homing .trail)
+
+-- what is found lies on a line of `len` crumbs
+abbrev pub InLine : ℕ → Best → Type 0
+InLine len Nothing = Unit {0}
+InLine len (Found near) = (1 ≤ near .end) × (near .end < len)
