@@ -2,3 +2,4 @@
 mod Holding
 mod Engaging
 mod Joins
+mod Recording

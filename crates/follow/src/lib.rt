@@ -22,12 +22,14 @@ ghost use lib.Ieee.{Float};
 ghost use lib.ListN.{length};
 ghost use Rattle.crumbs.specs.Crumb.{capacity};
 ghost use Rattle.crumbs.specs.Crumb.{crumbs as heldCrumbs};
+ghost use Rattle.trail.specs.View as trail;
 ghost use Rattle.trail.specs.View.{track};
+ghost use Rattle.state.specs.declared.Line.the-variants as line;
 ghost use Rattle.state.specs.State.{stateOf};
-ghost use Rattle.follow.specs.Record.{left};
-ghost use Rattle.follow.specs.Engage.{alongAt, courseFrom, engageAt, leads, engage, stopped, stopNothing, stopCourse};
+ghost use Rattle.follow.specs.Record.{left, keep, add, flush};
+ghost use Rattle.follow.specs.Engage.{alongAt, courseFrom, engageAt, leads, engage, stopped, leaveAt, stopNothing, stopCourse, stopBreadcrumb, stop};
 ghost use Rattle.follow.specs.Join.{joinOn, joinWith, joining, backwards, nearestBefore, lenBefore};
-ghost use Rattle.follow.specs.View.{courseOf, TakesOver, Changes, Asks};
+ghost use Rattle.follow.specs.View.{courseOf, TakesOver, Changes, Follows, Asks};
 
 // A state, and a yes or no beside it.
 pub struct Answered {
@@ -66,6 +68,33 @@ fn recorded(h: Homing, r: Recorded) -> Homing
         return Homing { trail, follow, ..h };
     }
     Homing { trail, ..h }
+}
+
+pub fn keep(h: Homing, crumbs: &mut [f32], p: Point) -> Homing
+    requires { ⌜ trail.Fit (h .trail) (length (now crumbs)) ⌝ }
+    ensures { λ r. ⌜ Follows (λ C. keep C p) h (now (crumbs .entry)) r (now (crumbs .exit)) ⌝ }
+{
+    let t = h.trail;
+    let r = trail::keep(t, crumbs, p);
+    recorded(h, r)
+}
+
+pub fn add(h: Homing, crumbs: &mut [f32], p: Point) -> Homing
+    requires { ⌜ trail.Fit (h .trail) (length (now crumbs)) ⌝ }
+    ensures { λ r. ⌜ Follows (λ C. add C p) h (now (crumbs .entry)) r (now (crumbs .exit)) ⌝ }
+{
+    let t = h.trail;
+    let r = trail::add(t, crumbs, p);
+    recorded(h, r)
+}
+
+pub fn flush(h: Homing, crumbs: &mut [f32]) -> Homing
+    requires { ⌜ trail.Fit (h .trail) (length (now crumbs)) ⌝ }
+    ensures { λ r. ⌜ Follows flush h (now (crumbs .entry)) r (now (crumbs .exit)) ⌝ }
+{
+    let t = h.trail;
+    let r = trail::flush(t, crumbs);
+    recorded(h, r)
 }
 
 // ---- following begins
@@ -180,6 +209,53 @@ fn stop_nothing(h: Homing) -> Homing
     let matched = f.matched;
     let follow = stopped(f, matched);
     Homing { follow, ..h }
+}
+
+// The breadcrumb ends where the rider left it.
+fn leave_at(h: Homing, crumbs: &mut [f32], matched: Spot, segment: usize) -> Homing
+    requires { ⌜ (trail.Fit (h .trail) (length (now crumbs))) × (segment ≤ h .trail .len) ⌝ }
+    ensures { λ r. ⌜ Follows (λ C. leaveAt C matched segment) h (now (crumbs .entry)) r (now (crumbs .exit)) ⌝ }
+{
+    let Spot::At(p) = matched else {
+        return h;
+    };
+    let t = h.trail;
+    let trail = Trail { len: segment, ..t };
+    let cut = Homing { trail, ..h };
+    keep(cut, crumbs, p)
+}
+
+fn stop_breadcrumb(h: Homing, crumbs: &mut [f32]) -> Homing
+    requires { ⌜ (trail.Fit (h .trail) (length (now crumbs))) × (h .follow .segment ≤ h .trail .len) ⌝ }
+    ensures { λ r. ⌜ Follows stopBreadcrumb h (now (crumbs .entry)) r (now (crumbs .exit)) ⌝ }
+{
+    let f = h.follow;
+    let matched = f.matched;
+    let segment = f.segment;
+    let follow = stopped(f, Spot::Nowhere);
+    let t = h.trail;
+    let trail = Trail {
+        window_len: 0,
+        retrace: 0,
+        ..t
+    };
+    let forgotten = Homing { trail, follow, ..h };
+    leave_at(forgotten, crumbs, matched, segment)
+}
+
+// Recording resumes: the breadcrumb keeps the way home from where the rider left it, and goes on from
+// there. A course stopped is held off for the rest of the ride.
+pub fn stop_following(h: Homing, crumbs: &mut [f32]) -> Homing
+    requires { ⌜ (trail.Fit (h .trail) (length (now crumbs))) × (h .follow .line ≡ line.Breadcrumb → h .follow .segment ≤ h .trail .len) ⌝ }
+    ensures { λ r. ⌜ Follows stop h (now (crumbs .entry)) r (now (crumbs .exit)) ⌝ }
+{
+    let f = h.follow;
+    let line = f.line;
+    match line {
+        Line::Nothing => stop_nothing(h),
+        Line::Course => stop_course(h),
+        Line::Breadcrumb => stop_breadcrumb(h, crumbs),
+    }
 }
 
 // ---- along the course

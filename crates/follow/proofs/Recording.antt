@@ -1,0 +1,102 @@
+-- What is done to the breadcrumb, in the whole state. Assumes nothing.
+use mathlib.Core.Path.{_≡_, refl, sym, ap, _∙_, subst}
+use Prim.Native.Nat.{ℕ, _≤_, max}
+use native.Mathlib.Omega.{arith}
+use mathlib.Core.Bool.{Bool}
+use mathlib.Core.List.{List}
+use lib.ListN.{length, take}
+use lib.Ieee.{Float}
+use Rattle.plane.specs.declared.Point.{Point}
+use Rattle.plane.specs.declared.Spot.{Spot}
+use Rattle.plane.specs.declared.Spot.the-variants.{At, Nowhere}
+use Rattle.crumbs.specs.declared.Crumb.{Crumb}
+use Rattle.crumbs.specs.Crumb.{capacity, crumbs, behind}
+use Rattle.crumbs.proofs.Crumbs.{take-crumbs, behind-more}
+use Rattle.trail.specs.declared.Trail.{Trail}
+use Rattle.trail.specs.declared.Recorded.{Recorded}
+use Rattle.trail.specs.Notes.{thinnedIn}
+use Rattle.trail.specs.Trail.{Track, Rule, withCrumbs}
+use Rattle.trail.specs.View.{track, Records}
+use Rattle.trail.specs.View as trail
+use Rattle.state.specs.declared.Homing.{Homing}
+use Rattle.state.specs.declared.Line.{Line}
+use Rattle.state.specs.State.{State, stateOf, withTrack, withFollow}
+use Rattle.state.specs.Rule.{Done, done}
+use Rattle.follow.specs.Record.{recordedIn, recorded, keep}
+use Rattle.follow.specs.Engage.{cutTo, leaveAt, stopped, forgotten, stopBreadcrumb, stopOn, stop}
+use Rattle.follow.specs.View.{TakesOver, Follows, Changes}
+
+module _ (rule : ℕ → Rule) (h n : Homing) (r : Recorded) (entry exit : List Float) (did : Records rule (h .trail) entry r exit) (takes : TakesOver h r n) where
+  pub taken-over : Follows (λ C s. recorded (rule C (s .track)) s) h entry n exit
+  unfolding recorded recordedIn
+  taken-over =
+      record {
+        same =
+            takes .same exit
+            ∙ ap (λ (b : Bool). recordedIn b (track (r .trail) exit) (stateOf h entry)) (did .thinned)
+            ∙ ap (λ (t : Track). recordedIn (thinnedIn (rule (capacity (length entry)) (track (h .trail) entry) .notes)) t (stateOf h entry)) (did .follows .same);
+        fit = subst (λ (t : Trail). trail.Fit t (length exit)) (sym (takes .trail)) (did .follows .fit);
+        size = did .follows .size;
+        beyond = subst (λ (t : Trail). behind (max (h .trail .len) (t .len)) exit ≡ behind (max (h .trail .len) (t .len)) entry) (sym (takes .trail)) (did .follows .beyond);
+      }
+
+-- ---- the breadcrumb cut
+max-le : (a b c : ℕ) → a ≤ b → max a c ≤ max b c
+max-le a b c h = omega arith
+
+-- a state whose breadcrumb is cut to its first crumbs, and then a crumb kept
+module _ (h cut r : Homing) (p : Point) (segment : ℕ) (entry exit : List Float) where
+  pub left-at : stateOf cut entry ≡ cutTo segment (stateOf h entry) → cut .trail .len ≤ h .trail .len → Follows (λ C. keep C p) cut entry r exit → Follows (λ C. leaveAt C (At p) segment) h entry r exit
+  unfolding leaveAt
+  left-at e l f =
+      record {
+        same = f .same ∙ ap (λ (s : State). keep (capacity (length entry)) p s .state) e;
+        fit = f .fit;
+        size = f .size;
+        beyond = behind-more (max (cut .trail .len) (r .trail .len)) (max (h .trail .len) (r .trail .len)) exit entry (max-le (cut .trail .len) (h .trail .len) (r .trail .len) l) (f .beyond);
+      }
+
+pub cut-state : (h : Homing) (segment : ℕ) (entry : List Float) → segment ≤ h .trail .len → withTrack (withCrumbs (crumbs segment entry) (track (h .trail) entry)) (stateOf h entry) ≡ cutTo segment (stateOf h entry)
+unfolding cutTo track
+cut-state h segment entry l = ap (λ (c : List Crumb). withTrack (withCrumbs c (track (h .trail) entry)) (stateOf h entry)) (sym (take-crumbs segment (h .trail .len) entry l))
+
+-- ---- a change that leaves the trail alone
+pub unmoved : (rule : State → State) (h r : Homing) (b : List Float) → trail.Fit (h .trail) (length b) → Changes rule h r → Follows (λ C s. done (tt {0}) (rule s)) h b r b
+unmoved rule h r b f c =
+    record {
+      same = c .same b;
+      fit = subst (λ (t : Trail). trail.Fit t (length b)) (sym (c .trail)) f;
+      size = refl;
+      beyond = refl;
+    }
+
+-- ---- following ends
+pub left-nowhere : (h : Homing) (matched : Spot) (segment : ℕ) (b : List Float) → matched ≡ Nowhere → trail.Fit (h .trail) (length b) → Follows (λ C. leaveAt C matched segment) h b h b
+unfolding leaveAt
+left-nowhere h matched segment b told f =
+    subst (λ (m : Spot). Follows (λ C. leaveAt C m segment) h b h b) (sym told) (record { same = refl; fit = f; size = refl; beyond = refl })
+
+module _ (h f r : Homing) (entry exit : List Float) where
+  pub stops-at : stateOf f entry ≡ withFollow (stopped Nowhere (h .follow)) (withTrack (forgotten (track (h .trail) entry)) (stateOf h entry)) → f .trail .len ≡ h .trail .len
+      → Follows (λ C. leaveAt C (h .follow .matched) (h .follow .segment)) f entry r exit → Follows stopBreadcrumb h entry r exit
+  unfolding stopBreadcrumb
+  stops-at e l d =
+      record {
+        same = d .same ∙ ap (λ (s : State). leaveAt (capacity (length entry)) (h .follow .matched) (h .follow .segment) s .state) e;
+        fit = d .fit;
+        size = d .size;
+        beyond = subst (λ (n : ℕ). behind (max n (r .trail .len)) exit ≡ behind (max n (r .trail .len)) entry) l (d .beyond);
+      }
+
+-- by the line that was followed
+pub stops-on : {A : Type 0} (rule : ℕ → State → Done A) (l : Line) (h r : Homing) (entry exit : List Float) → h .follow .line ≡ l
+    → ((C : ℕ) (s : State) → rule C s .state ≡ stopOn l C s .state) → Follows rule h entry r exit → Follows stop h entry r exit
+unfolding stop
+stops-on rule l h r entry exit told is d =
+    let C = capacity (length entry) in
+    record {
+      same = d .same ∙ is C (stateOf h entry) ∙ ap (λ (x : Line). stopOn x C (stateOf h entry) .state) (sym told);
+      fit = d .fit;
+      size = d .size;
+      beyond = d .beyond;
+    }
