@@ -1,0 +1,1 @@
+// Fixes and courses placed in the ride's frame.
