@@ -3,3 +3,4 @@ mod Holding
 mod Engaging
 mod Joins
 mod Recording
+mod Turning

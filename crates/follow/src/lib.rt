@@ -14,7 +14,7 @@ use state::Line;
 use trail::Recorded;
 use trail::Trail;
 ghost use mathlib.Core.Path.{_≡_};
-ghost use Prim.Native.Nat.{_+_, _≤_, min};
+ghost use Prim.Native.Nat.{_+_, _≤_, _<_, min};
 ghost use mathlib.Core.Bool.{_&&_, not};
 ghost use mathlib.Core.List.{List};
 ghost use lib.Dec.{leb};
@@ -28,8 +28,8 @@ ghost use Rattle.state.specs.declared.Line.the-variants as line;
 ghost use Rattle.state.specs.State.{stateOf};
 ghost use Rattle.follow.specs.Record.{left, keep, add, flush};
 ghost use Rattle.follow.specs.Engage.{alongAt, courseFrom, engageAt, leads, engage, stopped, leaveAt, stopNothing, stopCourse, stopBreadcrumb, stop};
-ghost use Rattle.follow.specs.Join.{joinOn, joinWith, joining, backwards, nearestBefore, lenBefore};
-ghost use Rattle.follow.specs.View.{courseOf, TakesOver, Changes, Follows, Asks};
+ghost use Rattle.follow.specs.Join.{joinOn, joinWith, joining, backwards, againstNear, nearestBefore, ridesBack, lenBefore, retracing};
+ghost use Rattle.follow.specs.View.{courseOf, TakesOver, Changes, Follows, Asks, InLine};
 
 // A state, and a yes or no beside it.
 pub struct Answered {
@@ -335,6 +335,12 @@ pub fn joining(h: Homing, line: &[f32], p: Point) -> Answered
 
 // ---- back along the breadcrumb
 
+// Riding back along the breadcrumb: this close to it, on this many fixes in a row, away from its newest
+// `RETRACE_SKIP_M`.
+const RETRACE_M: f32 = 20.0;
+const RETRACE_FIXES: u8 = 8;
+const RETRACE_SKIP_M: f32 = 300.0;
+
 fn backwards(heading: u16, a: Crumb, b: Crumb) -> bool
     ensures { λ r. ⌜ r ≡ backwards heading a b ⌝ }
 {
@@ -361,4 +367,64 @@ fn len_before(t: Trail) -> usize
     ensures { λ r. ⌜ ((b : List Float) → r ≡ lenBefore (track t b)) ⌝ }
 {
     if t.retrace == 0 { t.len } else { t.retrace_len }
+}
+
+// Whether the nearest segment is close, and ridden against.
+fn against_near(crumbs: &[f32], len: usize, heading: u16, best: Best) -> bool
+    requires { ⌜ (len ≤ capacity (length (now crumbs))) × InLine len best ⌝ }
+    ensures { λ r. ⌜ r ≡ againstNear (heldCrumbs len (now (crumbs .entry))) heading best ⌝ }
+{
+    let Best::Found(near) = best else {
+        return false;
+    };
+    if near.off < RETRACE_M {
+        let a = search::crumb(crumbs, len, near.end - 1);
+        let b = search::crumb(crumbs, len, near.end);
+        return backwards(heading, a, b);
+    }
+    false
+}
+
+// Whether a fix with this heading runs back over the breadcrumb.
+fn rides_back(crumbs: &[f32], len: usize, p: Point, heading: Heading) -> bool
+    requires { ⌜ len ≤ capacity (length (now crumbs)) ⌝ }
+    ensures { λ r. ⌜ r ≡ ridesBack heading (heldCrumbs len (now (crumbs .entry))) p ⌝ }
+{
+    let Heading::Known(known) = heading else {
+        return false;
+    };
+    if len < 2 {
+        return false;
+    }
+    let limit = search::crumb(crumbs, len, len - 1).along - RETRACE_SKIP_M;
+    let n = search::ends(crumbs, len, limit);
+    let best = nearest_before(crumbs, len, p, n);
+    against_near(crumbs, len, known, best)
+}
+
+// Whether this fix continues a ride back along the breadcrumb for long enough to follow it.
+pub fn retracing(h: Homing, crumbs: &[f32], p: Point) -> Answered
+    requires { ⌜ (h .trail .len ≤ capacity (length (now crumbs))) × (h .trail .retrace < 255) ⌝ }
+    ensures { λ r. ⌜ Asks (retracing p) h (now (crumbs .entry)) r ⌝ }
+{
+    let t = h.trail;
+    let m = h.motion;
+    let heading = m.heading;
+    if rides_back(crumbs, t.len, p, heading) {
+        let fixes = t.retrace + 1;
+        let retrace_len = len_before(t);
+        let trail = Trail {
+            retrace: fixes,
+            retrace_len,
+            ..t
+        };
+        let homing = Homing { trail, ..h };
+        return Answered {
+            homing,
+            yes: RETRACE_FIXES <= fixes,
+        };
+    }
+    let trail = Trail { retrace: 0, ..t };
+    let homing = Homing { trail, ..h };
+    Answered { homing, yes: false }
 }
