@@ -1,2 +1,3 @@
 pub mod Fix
 pub mod Course
+pub mod View

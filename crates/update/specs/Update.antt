@@ -164,8 +164,14 @@ direct course p s =
 
 -- ---- the match
 -- segments behind and ahead of the last match are searched first
+abbrev pub searchBack : ℕ
+searchBack = 64
+
+abbrev pub searchAhead : ℕ
+searchAhead = 4
+
 unfoldable pub aroundSegment : ℕ → ℕ → Range
-aroundSegment segment len = record { from = max (segment - 64) 1; to = min (segment + 4) (len - 1) }
+aroundSegment segment len = record { from = max (segment - searchBack) 1; to = min (segment + searchAhead) (len - 1) }
 
 unfoldable pub progress : State → Progress
 progress s = record { along = s .course .along; reached = s .course .reached; fix = s .course .fix; heading = s .motion .heading }

@@ -1,0 +1,11 @@
+pub mod Kept
+pub mod Trace
+pub mod Sound
+pub mod Recording
+pub mod Following
+pub mod Joining
+pub mod Updating
+pub mod Fixes
+pub mod Calls
+pub mod History
+pub mod Programs

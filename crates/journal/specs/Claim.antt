@@ -1,0 +1,36 @@
+-- Demand 3: what holds of the notes of a list of calls and of the places held after it. Document 01, "Journal". C is how many crumbs there is room
+-- for, and T, the most that a thinning leaves, is `target C`.
+use Prim.Native.Nat.{ℕ, _-_, _≤_}
+use mathlib.Core.Path.{_≡_}
+use mathlib.Core.List.{List, _∷_, _++_}
+use lib.ListN.{length}
+use Rattle.plane.specs.declared.Point.{Point}
+use Rattle.crumbs.specs.declared.Crumb.{Crumb}
+use Rattle.crumbs.specs.Choice.{Choice, first}
+use Rattle.thin.specs.Crumb.{target}
+use Rattle.trail.specs.Notes.{Note, Kept, Thinned}
+use Rattle.journal.specs.Kept.{keptSinceReset, keptIn}
+
+-- a thinning's note: 1 to 18 passes, at most T crumbs left
+pub record Thins (C passes : ℕ) (left : List Crumb) : Type 0 where
+  pub some-pass : 1 ≤ passes
+  pub few-passes : passes ≤ 18
+  pub few-left : length left ≤ target C
+
+-- the notes begin with the keeping of a crumb
+abbrev pub KeepsNext : List Note → Type 0
+KeepsNext notes = (p : Point) × ((rest : List Note) × (notes ≡ Kept p ∷ rest))
+
+pub record Claim (C : ℕ) (notes : List Note) (held : List Point) : Type 0 where
+  -- "A choice strikes out any of the kept and leaves the rest in order; a place kept twice is two."
+  pub choice : Choice held (keptSinceReset notes)
+  -- "It begins with the first once one was kept; before that nothing is held."
+  pub begins : first held ≡ first (keptSinceReset notes)
+  -- "Crumbs between two thinnings are counted over all kept notes, a reset between or not": at least C less T. The crumb that set off the first is
+  -- counted, and the one that set off the second is not, since each is noted right behind its thinning, as `sets-off` says.
+  pub apart : (before between after : List Note) (n m : ℕ) (l k : List Crumb)
+      → notes ≡ before ++ Thinned n l ∷ between ++ Thinned m k ∷ after → C - target C ≤ keptIn between
+  -- "The crumb whose keeping called for it set it off."
+  pub sets-off : (before after : List Note) (n : ℕ) (l : List Crumb) → notes ≡ before ++ Thinned n l ∷ after → KeepsNext after
+  -- Each thinning made 1 to 18 passes and left at most T crumbs. "`thin`'s pass count is the number of passes made."
+  pub each : (before after : List Note) (n : ℕ) (l : List Crumb) → notes ≡ before ++ Thinned n l ∷ after → Thins C n l

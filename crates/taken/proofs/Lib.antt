@@ -1,0 +1,14 @@
+pub mod Tests
+pub mod Bounds
+pub mod Laid
+pub mod Recording
+pub mod Moving
+pub mod State
+pub mod Searching
+pub mod Following
+pub mod Updating
+pub mod Calls
+pub mod Lines
+pub mod Asking
+pub mod Taken
+pub mod Going
