@@ -4,3 +4,4 @@ pub mod Follow
 pub mod Line
 pub mod Questions
 pub mod Calls
+pub mod Promises

@@ -1,6 +1,6 @@
 -- Facts that the functions' proofs share.
-mod Holding
-mod Engaging
+pub mod Holding
+pub mod Engaging
 mod Joins
-mod Recording
-mod Turning
+pub mod Recording
+pub mod Turning

@@ -1,8 +1,9 @@
 -- Facts that the functions' proofs share.
-mod Choosing
+pub mod Choosing
 mod Lines
 mod Arriving
 mod Showing
 mod Matching
-mod Ending
-mod Updating
+pub mod Ending
+pub mod Updating
+pub mod Keeping
