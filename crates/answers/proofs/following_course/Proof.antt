@@ -1,0 +1,25 @@
+-- `answers::following_course` meets its contract. Assumes nothing.
+use Rattle.calls.specs.Ask.{followingCourse}
+use Rattle.calls.specs.Calls.{asks}
+use Rattle.answers.specs.Answers.{saysVerdict}
+use Rattle.answers.proofs.Answering.{no, yes}
+use borrow.Author.Needs.{needs}
+use Rattle.answers.proofs.following_course.Statement.{statement}
+use Rattle.answers.proofs.following_course.Tie as tie
+
+asks-state-requires : tie.Need-asks-state-requires
+asks-state-requires c κs = search needs
+
+returns : tie.Need-returns
+unfolding saysVerdict asks
+returns c = record { says = λ b. no (c .before .asks-state .ensures b) _ (c .if1 .taken) }
+
+on-course-requires : tie.Need-on-course-requires
+on-course-requires c κs = search needs
+
+returns-2 : tie.Need-returns-2
+unfolding saysVerdict asks followingCourse
+returns-2 c = record { says = λ b. yes (c .before .before .before .asks-state .ensures b) (c .before .before .if1 .left) (c .on-course .ensures) }
+
+pub following-course-spec : {M : Type 1} → statement M
+following-course-spec = tie.close (tie.spec asks-state-requires returns on-course-requires returns-2)

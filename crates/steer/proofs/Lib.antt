@@ -1,0 +1,5 @@
+-- Facts that the functions' proofs share.
+mod Keeping
+mod Fitting
+mod Deciding
+mod Setting
