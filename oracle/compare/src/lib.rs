@@ -1,12 +1,17 @@
 //! The proved code beside the handed-over Rust.
 pub mod classes;
+pub mod coverage;
+pub mod driver;
+pub mod homing;
 pub mod inputs;
 pub mod lines;
 pub mod options;
 pub mod proved;
 pub mod random;
 pub mod reference;
+pub mod script;
 pub mod thinning;
+pub mod transcript;
 pub mod value;
 
 /// Metres east and north.

@@ -1,0 +1,169 @@
+//! What a script's calls answer, as text. Only plain values come in, so that any guide's transcript
+//! is made here. Numbers are decimal, an f32 is its pattern in eight hexadecimal capitals, a flag is
+//! 0 or 1, and `-` stands for none.
+use crate::script::{Call, Question};
+use std::fmt::{self, Display};
+
+/// What a call answers.
+#[derive(Clone, Copy, PartialEq)]
+pub enum Answer {
+    Nothing,
+    /// A number below `EVENTS`' length.
+    Event(usize),
+    Flag(bool),
+}
+
+pub const EVENTS: [&str; 7] =
+    ["-", "following", "off_track", "on_track", "dropped", "arrived", "course_end"];
+pub const MODES: [&str; 4] = ["direct", "track", "off_track", "arrived"];
+
+/// What a guide answers to the questions.
+pub struct Answers {
+    pub len: usize,
+    pub following: bool,
+    pub following_course: bool,
+    pub course_ahead: Option<Ahead>,
+    pub route_home: Option<Ahead>,
+    pub heading: Option<u16>,
+    /// Metres straight, and over the track.
+    pub way_back: Option<(u32, u32)>,
+    pub guide: Option<Guide>,
+    pub crumbs: Vec<Patterns<3>>,
+    pub course: Vec<Patterns<3>>,
+}
+
+/// The points ahead up to this end, and then the matched point.
+pub struct Ahead {
+    pub end: usize,
+    pub point: Option<Patterns<2>>,
+}
+
+#[derive(Clone, Copy)]
+pub struct Guide {
+    /// A number below `MODES`' length.
+    pub mode: usize,
+    pub following: bool,
+    pub course: bool,
+    pub course_near: bool,
+    pub direct_m: u32,
+    pub track_m: u32,
+    pub off_m: u32,
+    pub bearing: u16,
+    pub heading: Option<u16>,
+    pub arrow: u16,
+}
+
+/// The patterns of a place, or of a crumb: east, north, along.
+#[derive(Clone, Copy)]
+pub struct Patterns<const N: usize>(pub [u32; N]);
+
+struct OrNone<T>(Option<T>);
+
+impl<T: Display> Display for OrNone<T> {
+    fn fmt(&self, f: &mut fmt::Formatter) -> fmt::Result {
+        match &self.0 {
+            None => write!(f, "-"),
+            Some(value) => write!(f, "{value}"),
+        }
+    }
+}
+
+impl<const N: usize> Display for Patterns<N> {
+    fn fmt(&self, f: &mut fmt::Formatter) -> fmt::Result {
+        write!(f, "{}", self.0.map(|pattern| format!("{pattern:08X}")).join(" "))
+    }
+}
+
+impl Display for Ahead {
+    fn fmt(&self, f: &mut fmt::Formatter) -> fmt::Result {
+        write!(f, "{} {}", self.end, OrNone(self.point))
+    }
+}
+
+impl Display for Guide {
+    fn fmt(&self, f: &mut fmt::Formatter) -> fmt::Result {
+        let [following, course, near] =
+            [self.following, self.course, self.course_near].map(u8::from);
+        write!(f, "{} following {following} course {course} near {near} ", MODES[self.mode])?;
+        write!(f, "direct {} track {} off {} ", self.direct_m, self.track_m, self.off_m)?;
+        write!(f, "bearing {} heading {} ", self.bearing, OrNone(self.heading))?;
+        write!(f, "arrow {}", self.arrow)
+    }
+}
+
+impl Display for Answer {
+    fn fmt(&self, f: &mut fmt::Formatter) -> fmt::Result {
+        match self {
+            Self::Nothing => Ok(()),
+            Self::Event(event) => write!(f, " {}", EVENTS[*event]),
+            Self::Flag(flag) => write!(f, " {}", u8::from(*flag)),
+        }
+    }
+}
+
+impl Answers {
+    /// The word of the question and its answer.
+    fn tell(&self, question: Question) -> String {
+        let answer = match question {
+            Question::Len => self.len.to_string(),
+            Question::Following => u8::from(self.following).to_string(),
+            Question::FollowingCourse => u8::from(self.following_course).to_string(),
+            Question::Course => lines(&self.course),
+            Question::CourseAhead => OrNone(self.course_ahead.as_ref()).to_string(),
+            Question::Crumbs => lines(&self.crumbs),
+            Question::WayBack => {
+                OrNone(self.way_back.map(|(direct, track)| format!("{direct} {track}"))).to_string()
+            }
+            Question::Heading => OrNone(self.heading).to_string(),
+            Question::RouteHome => OrNone(self.route_home.as_ref()).to_string(),
+            Question::Guide => OrNone(self.guide).to_string(),
+        };
+        format!("{} {answer}", question.word())
+    }
+
+    fn dump(&self) -> String {
+        format!("{}\n{}", self.tell(Question::Crumbs), self.tell(Question::Course))
+    }
+}
+
+/// How many, and a line for each.
+fn lines(crumbs: &[Patterns<3>]) -> String {
+    let lines: String = crumbs.iter().map(|crumb| format!("\n{crumb}")).collect();
+    format!("{}{lines}", crumbs.len())
+}
+
+/// What stands in one line behind each call that may change something.
+const STATE: [Question; 7] = [
+    Question::Following,
+    Question::FollowingCourse,
+    Question::CourseAhead,
+    Question::RouteHome,
+    Question::Heading,
+    Question::WayBack,
+    Question::Len,
+];
+
+/// The lines behind call `number`; what the guide answers after it comes last.
+pub fn after(number: usize, call: &Call, answer: Answer, answers: &Answers) -> String {
+    match call {
+        Call::Ask(question) => format!("{number} {}\n", answers.tell(*question)),
+        Call::Dump => format!("{number} dump\n{}\n", answers.dump()),
+        _ => changed(number, call.word(), answer, answers),
+    }
+}
+
+/// The lines behind `new`, a script's call 1.
+pub fn begin(answers: &Answers) -> String {
+    changed(1, "new", Answer::Nothing, answers)
+}
+
+fn changed(number: usize, word: &str, answer: Answer, answers: &Answers) -> String {
+    let guide = answers.tell(Question::Guide);
+    let state = STATE.map(|question| answers.tell(question)).join(" ");
+    format!("{number} {word}{answer}\n{guide}\n{state}\n")
+}
+
+/// The lines behind a script.
+pub fn end(answers: &Answers) -> String {
+    format!("end\n{}\n", answers.dump())
+}
