@@ -224,9 +224,9 @@ module _ (x : Fix) (now : ℕ) (h r : Homing) (c : Changes (arrivedAt x now) h r
   new-fix line b p ep ef C =
       sym
       (ap (λ (l : Line). fixOn l C (courseOf r line) p now (stateOf r b)) arrived-line
-        ∙ ap (λ (k : List Crumb). fixOn (h .follow .line) C k p now (stateOf r b)) (arrived-course line)
-        ∙ ap (λ (q : Point). fixOn (h .follow .line) C (courseOf h line) q now (stateOf r b)) (ep ∙ ap (λ (f : Frame). framed f x) ef)
-        ∙ ap (λ (s : State). fixOn (h .follow .line) C (courseOf h line) (framed (located x (h .frame)) x) now s) (c .same b))
+      ∙ ap (λ (k : List Crumb). fixOn (h .follow .line) C k p now (stateOf r b)) (arrived-course line)
+      ∙ ap (λ (q : Point). fixOn (h .follow .line) C (courseOf h line) q now (stateOf r b)) (ep ∙ ap (λ (f : Frame). framed f x) ef)
+      ∙ ap (λ (s : State). fixOn (h .follow .line) C (courseOf h line) (framed (located x (h .frame)) x) now s) (c .same b))
 
 -- ---- a fix from before a restart
 module _ (h on grown r : Homing) (x : Fix) (now : ℕ) (f : Frame) (p : Point) (there : Homing) (entry exit : List Float) where

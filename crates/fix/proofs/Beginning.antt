@@ -140,8 +140,7 @@ module _ (h : Homing) (b line : List Float) (p : Point) (r : Answered) (a : Asks
   joined-at said =
       let on = joins-on (courseOf h line) p (stateOf h b) (sym (a .answered) ∙ said) in
       let end : r .homing .course .«join_end» ≡ joining (courseOf h line) p (stateOf h b) .state .course .«join_end» = ap (λ (s : State). s .course .«join_end») (a .same) in
-      let long : length (courseOf h line) ≡ r .homing .course .«line_len» = length-crumbs (h .course .«line_len») line ∙ sym join-length in
-      (
+      let long : length (courseOf h line) ≡ r .homing .course .«line_len» = length-crumbs (h .course .«line_len») line ∙ sym join-length in (
         subst (λ (n : ℕ). 1 ≤ n) (sym end) (on .0),
         subst (λ (n : ℕ). r .homing .course .«join_end» < n) long (subst (λ (n : ℕ). n < length (courseOf h line)) (sym end) (on .1)),
       )
@@ -262,9 +261,9 @@ module _ (h : Homing) (b line : List Float) (now : ℕ) (r : Answered) (a : Asks
         trail = held-fit (h .trail) (r .homing .trail) (length b) (a .held) f;
         course = subst (λ (n : ℕ). n ≤ capacity lineRoom) (sym engage-length) few;
         onTrail = λ _. (
-              subst (λ (n : ℕ). 1 ≤ n) (sym segment) (bounds .0),
-              subst (λ (n : ℕ). r .homing .follow .segment < n) (sym (a .held .len)) (subst (λ (n : ℕ). n < h .trail .len) (sym segment) (bounds .1)),
-            );
+          subst (λ (n : ℕ). 1 ≤ n) (sym segment) (bounds .0),
+          subst (λ (n : ℕ). r .homing .follow .segment < n) (sym (a .held .len)) (subst (λ (n : ℕ). n < h .trail .len) (sym segment) (bounds .1)),
+        );
         onCourse = λ e. absurd (other (sym lined ∙ e));
       }
 

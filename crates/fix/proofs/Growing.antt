@@ -88,9 +88,9 @@ module _ (h r : Homing) (p : Point) (entry mid : List Float) (grows : Grows h) (
       let course : courseOf r line ≡ courseOf h line = ap (λ (c : Course). crumbs (c .«line_len») line) grown-course in
       let len = update-len (courseOf r line) p now r mid t exit (λ e. absurd (grown-off e)) u in
       let whole : update (capacity (length mid)) (courseOf r line) p now (stateOf r mid) ≡ update C (courseOf h line) p now (add C p (stateOf h entry) .state) =
-              ap (λ (n : ℕ). update n (courseOf r line) p now (stateOf r mid)) room
-              ∙ ap (λ (l : List Crumb). update C l p now (stateOf r mid)) course
-              ∙ ap (λ (s : State). update C (courseOf h line) p now s) (f .same) in
+      ap (λ (n : ℕ). update n (courseOf r line) p now (stateOf r mid)) room
+      ∙ ap (λ (l : List Crumb). update C l p now (stateOf r mid)) course
+      ∙ ap (λ (s : State). update C (courseOf h line) p now s) (f .same) in
       let m = max (h .trail .len) (t .homing .trail .len) in
       record {
         told = u .told ∙ ap (λ (d : Done Event). d .answer) whole;

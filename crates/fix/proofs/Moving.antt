@@ -55,7 +55,7 @@ updates-asked ask next h entry exit a b r asked is u =
     let l = r .homing .trail .len in
     let said : b ≡ ask (stateOf h entry) .answer = sym is ∙ asked .answered in
     let whole : next b C (stateOf (a .homing) entry) ≡ next (ask (stateOf h entry) .answer) C (ask (stateOf h entry) .state) =
-            ap (λ (x : Bool). next x C (stateOf (a .homing) entry)) said ∙ ap (λ (s : State). next (ask (stateOf h entry) .answer) C s) (asked .same) in
+    ap (λ (x : Bool). next x C (stateOf (a .homing) entry)) said ∙ ap (λ (s : State). next (ask (stateOf h entry) .answer) C s) (asked .same) in
     record {
       told = u .told ∙ ap (λ (d : Done Event). d .answer) whole;
       follows =

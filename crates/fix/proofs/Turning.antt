@@ -74,9 +74,9 @@ module _ (h r : Homing) (line : List Float) (end now : ℕ) (c : Changes (engage
         course = subst (λ (n : ℕ). n ≤ capacity lineRoom) (sym on-length) (f .course);
         onTrail = λ e. absurd (on-grows e);
         onCourse = λ e. (
-              subst (λ (n : ℕ). 1 ≤ n) (sym on-segment) (on .0),
-              subst (λ (n : ℕ). r .follow .segment < n) (sym on-length) (subst (λ (n : ℕ). n < h .course .«line_len») (sym on-segment) (on .1)),
-            );
+          subst (λ (n : ℕ). 1 ≤ n) (sym on-segment) (on .0),
+          subst (λ (n : ℕ). r .follow .segment < n) (sym on-length) (subst (λ (n : ℕ). n < h .course .«line_len») (sym on-segment) (on .1)),
+        );
       }
 
 pub joined-on : (h r : Homing) (line entry exit : List Float) (p : Point) (now : ℕ) (t : Told) → Changes (engageAt (courseOf h line) lines.Course (h .course .«join_end») now) h r
@@ -86,10 +86,10 @@ unfolding joinedCourse
 joined-on h r line entry exit p now t c u =
     let C = capacity (length entry) in
     updates-after (λ C. joinedCourse C (courseOf h line) p now) (λ C s. tellFollowing (addUpdate C (courseOf r line) p now s)) h r entry exit _ (same-len h r (c .trail))
-      (sym
-        (ap (λ (l : List Crumb). tellFollowing (addUpdate C l p now (stateOf r entry))) (on-course h r line (h .course .«join_end») now c)
-          ∙ ap (λ (s : State). tellFollowing (addUpdate C (courseOf h line) p now s)) (c .same entry)))
-      (updates-following (λ C. addUpdate C (courseOf r line) p now) r entry t exit u)
+    (sym
+    (ap (λ (l : List Crumb). tellFollowing (addUpdate C l p now (stateOf r entry))) (on-course h r line (h .course .«join_end») now c)
+    ∙ ap (λ (s : State). tellFollowing (addUpdate C (courseOf h line) p now s)) (c .same entry)))
+    (updates-following (λ C. addUpdate C (courseOf r line) p now) r entry t exit u)
 
 -- ---- turned round
 module _ (h back : Homing) (turns : TurnsBack h back) where
@@ -127,8 +127,8 @@ module _ (h back : Homing) (turns : TurnsBack h back) where
       let C = capacity (length entry) in
       let by : List Crumb → State → Done Event = λ l s. andThen (engage l now s) λ b after. engagedBack b C l p now after in
       updates-after (λ C. retraced true C (courseOf h line) p now) (λ C s. andThen (engage (courseOf back line) now s) λ b after. engagedBack b C (courseOf back line) p now after) h back entry exit t (turns .fewer)
-        (sym (ap (λ (l : List Crumb). by l (stateOf back entry)) (back-course line) ∙ ap (λ (s : State). by (courseOf h line) s) (turns .same entry)))
-        u
+      (sym (ap (λ (l : List Crumb). by l (stateOf back entry)) (back-course line) ∙ ap (λ (s : State). by (courseOf h line) s) (turns .same entry)))
+      u
 
 -- by whether what is left leads anywhere
 module _ (h : Homing) (line entry exit : List Float) (p : Point) (now : ℕ) (r : Answered) (a : Asks (engage (courseOf h line) now) h entry r) (t : Told) where
@@ -140,15 +140,15 @@ module _ (h : Homing) (line entry exit : List Float) (p : Point) (now : ℕ) (r 
   unfolding engagedBack
   engaged-on e u =
       updates-asked (engage (courseOf h line) now) next h entry exit r true _ a e
-        (subst (λ (l : List Crumb). Updates (λ C s. tellFollowing (update C l p now s)) (r .homing) entry (record { homing = t .homing; event = event.Following }) exit) (engage-course h entry line now r a)
-          (updates-following (λ C. update C (courseOf (r .homing) line) p now) (r .homing) entry t exit u))
+      (subst (λ (l : List Crumb). Updates (λ C s. tellFollowing (update C l p now s)) (r .homing) entry (record { homing = t .homing; event = event.Following }) exit) (engage-course h entry line now r a)
+      (updates-following (λ C. update C (courseOf (r .homing) line) p now) (r .homing) entry t exit u))
 
   pub unengaged-on : r .yes ≡ false → Updates (λ C. addUpdate C (courseOf (r .homing) line) p now) (r .homing) entry t exit
       → Updates (λ C s. andThen (engage (courseOf h line) now s) λ b after. engagedBack b C (courseOf h line) p now after) h entry t exit
   unfolding engagedBack
   unengaged-on e u =
       updates-asked (engage (courseOf h line) now) next h entry exit r false t a e
-        (subst (λ (l : List Crumb). Updates (λ C. addUpdate C l p now) (r .homing) entry t exit) (engage-course h entry line now r a) u)
+      (subst (λ (l : List Crumb). Updates (λ C. addUpdate C l p now) (r .homing) entry t exit) (engage-course h entry line now r a) u)
 
 -- ---- back along the breadcrumb, or not
 module _ (h : Homing) (line entry exit : List Float) (p : Point) (now : ℕ) (r : Answered) (a : Asks (retracing p) h entry r) (t : Told) where
@@ -163,23 +163,23 @@ module _ (h : Homing) (line entry exit : List Float) (p : Point) (now : ℕ) (r 
       → Updates (λ C. mayRetrace (h .«auto_follow») C (courseOf h line) p now) h entry t exit
   turned-round m e u =
       updates-as (λ C. mayRetrace (h .«auto_follow») C (courseOf h line) p now) (λ C s. andThen (retracing p s) λ b after. retraced b C (courseOf h line) p now after) h entry t exit (auto m _ _)
-        (updates-asked (retracing p) onward h entry exit r true t a e
-          (subst (λ (l : List Crumb). Updates (λ C. retraced true C l p now) (r .homing) entry t exit) (retrace-course h entry p r a line) u))
+      (updates-asked (retracing p) onward h entry exit r true t a e
+      (subst (λ (l : List Crumb). Updates (λ C. retraced true C l p now) (r .homing) entry t exit) (retrace-course h entry p r a line) u))
 
   pub rode-on : h .«auto_follow» ≡ true → r .yes ≡ false → Updates (λ C. addUpdate C (courseOf (r .homing) line) p now) (r .homing) entry t exit
       → Updates (λ C. mayRetrace (h .«auto_follow») C (courseOf h line) p now) h entry t exit
   unfolding retraced
   rode-on m e u =
       updates-as (λ C. mayRetrace (h .«auto_follow») C (courseOf h line) p now) (λ C s. andThen (retracing p s) λ b after. retraced b C (courseOf h line) p now after) h entry t exit (auto m _ _)
-        (updates-asked (retracing p) onward h entry exit r false t a e
-          (subst (λ (l : List Crumb). Updates (λ C. addUpdate C l p now) (r .homing) entry t exit) (retrace-course h entry p r a line) u))
+      (updates-asked (retracing p) onward h entry exit r false t a e
+      (subst (λ (l : List Crumb). Updates (λ C. addUpdate C l p now) (r .homing) entry t exit) (retrace-course h entry p r a line) u))
 
 pub never-turned : (h : Homing) (line entry exit : List Float) (p : Point) (now : ℕ) (t : Told) → h .«auto_follow» ≡ false → Updates (λ C. addUpdate C (courseOf h line) p now) h entry t exit
     → Updates (λ C. mayRetrace (h .«auto_follow») C (courseOf h line) p now) h entry t exit
 unfolding mayRetrace
 never-turned h line entry exit p now t e u =
     updates-as (λ C. mayRetrace (h .«auto_follow») C (courseOf h line) p now) (λ C. addUpdate C (courseOf h line) p now) h entry t exit
-      (ap (λ (x : Bool). mayRetrace x (capacity (length entry)) (courseOf h line) p now (stateOf h entry)) e) u
+    (ap (λ (x : Bool). mayRetrace x (capacity (length entry)) (courseOf h line) p now (stateOf h entry)) e) u
 
 -- ---- along the course, or not
 module _ (h : Homing) (line entry exit : List Float) (p : Point) (now : ℕ) (r : Answered) (a : Asks (joining (courseOf h line) p) h entry r) (t : Told) where
@@ -190,7 +190,7 @@ module _ (h : Homing) (line entry exit : List Float) (p : Point) (now : ℕ) (r 
   unfolding fixOn joinedOrNot
   joined-up e u =
       updates-asked (joining (courseOf h line) p) further h entry exit r true t a e
-        (subst (λ (l : List Crumb). Updates (λ C. joinedCourse C l p now) (r .homing) entry t exit) (join-course h entry line p r a) u)
+      (subst (λ (l : List Crumb). Updates (λ C. joinedCourse C l p now) (r .homing) entry t exit) (join-course h entry line p r a) u)
 
   pub rode-by : r .yes ≡ false → Updates (λ C. mayRetrace (r .homing .«auto_follow») C (courseOf (r .homing) line) p now) (r .homing) entry t exit
       → Updates (λ C. fixOn lines.Nothing C (courseOf h line) p now) h entry t exit

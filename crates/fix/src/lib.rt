@@ -36,11 +36,7 @@ const STILL_MS: u64 = 1_000;
 fn is_at(s: Spot) -> bool
     ensures { λ r. ⌜ r ≡ isAt s ⌝ }
 {
-    if let Spot::At(_) = s {
-        true
-    } else {
-        false
-    }
+    if let Spot::At(_) = s { true } else { false }
 }
 
 fn cleared(h: Homing) -> Homing

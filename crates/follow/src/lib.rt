@@ -338,7 +338,9 @@ pub fn joining(h: Homing, line: &[f32], p: Point) -> Answered
 // Riding back along the breadcrumb: this close to it, on this many fixes in a row, away from its newest
 // `RETRACE_SKIP_M`.
 const RETRACE_M: f32 = 20.0;
+
 pub const RETRACE_FIXES: u8 = 8;
+
 const RETRACE_SKIP_M: f32 = 300.0;
 
 fn backwards(heading: u16, a: Crumb, b: Crumb) -> bool

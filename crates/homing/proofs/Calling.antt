@@ -35,7 +35,6 @@ use Rattle.steer.specs.View.{SetsLine}
 use Rattle.questions.proofs.Given.{line-given, crumbs-given, both-given}
 use Rattle.fix.specs.View.{Ready}
 
-
 -- ---- the first question that says no
 or-first : (a b : ℕ) → (a ≡ 0 → ⊥) → a ≡ (a orElse b)
 or-first zero b ne = absurd (ne refl)

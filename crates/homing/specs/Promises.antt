@@ -58,7 +58,7 @@ pub record SetsAuto (on : Bool) (h : Homing) (entry : List Float) (r : Changed) 
 pub record Observes (line : List Float) (x : Place) (now : ℕ) (h : Homing) (entry : List Float) (r : Observed) (exit : List Float) : Type 0 where
   pub answered : saysSight (r .answer)
       ≡ answer (asks (length entry) (call.Observe line x now) (stateOf h entry))
-        (observe (capacity (length entry)) (courseIn line (stateOf h entry)) x now (stateOf h entry) .answer)
+      (observe (capacity (length entry)) (courseIn line (stateOf h entry)) x now (stateOf h entry) .answer)
   pub called : Called (call.Observe line x now) h entry (r .homing) exit
 
 -- `replay`
@@ -70,5 +70,5 @@ pub record Replays (x : Fix) (now : ℕ) (h : Homing) (entry : List Float) (r : 
 pub record SetsFollowing (line : List Float) (on : Bool) (now : ℕ) (h : Homing) (entry : List Float) (r : Followed) (exit : List Float) : Type 0 where
   pub answered : saysVerdict (r .answer)
       ≡ answer (asks (length entry) (call.SetFollowing line on now) (stateOf h entry))
-        (setFollowing on (capacity (length entry)) (courseIn line (stateOf h entry)) now (stateOf h entry) .answer)
+      (setFollowing on (capacity (length entry)) (courseIn line (stateOf h entry)) now (stateOf h entry) .answer)
   pub called : Called (call.SetFollowing line on now) h entry (r .homing) exit

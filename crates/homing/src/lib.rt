@@ -223,7 +223,13 @@ pub fn set_auto_follow(h: Homing, crumbs: &mut [f32], on: bool) -> Changed
 }
 
 // Follow the course while it is near, else the breadcrumb back; or stop following.
-pub fn set_following(h: Homing, crumbs: &mut [f32], line: &[f32], follow: bool, now_ms: u64) -> Followed
+pub fn set_following(
+    h: Homing,
+    crumbs: &mut [f32],
+    line: &[f32],
+    follow: bool,
+    now_ms: u64,
+) -> Followed
     ensures { λ r. ⌜ SetsFollowing (now (line .entry)) follow «now_ms» h (now (crumbs .entry)) r (now (crumbs .exit)) ⌝ }
 {
     let number = questions::asks_both(h, crumbs, line);

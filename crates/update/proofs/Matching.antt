@@ -37,16 +37,16 @@ module _ (h : Homing) (b line : List Float) (p : Point) (now : ℕ) (near : Near
     matches eo ee ew ef ec m same trail r t =
         let course : m .course ≡ courseMatched near p (h .course) = ap (λ (s : State). s .course) same ∙ ec in
         let placed : finished (courseOf m line) p w e (stateOf m b) ≡ matchedBy off e w f c =
-                ap (λ (x : Course). finished (crumbs (x .«line_len») line) p w e (stateOf m b)) course
-                ∙ ap (λ (s : State). finished (courseOf h line) p w e s) same in
+        ap (λ (x : Course). finished (crumbs (x .«line_len») line) p w e (stateOf m b)) course
+        ∙ ap (λ (s : State). finished (courseOf h line) p w e s) same in
         let ends : Bool → Event → Done Event = λ o x. matchedBy o x (wayOn o (followed (courseOf h line) (stateOf h b)) near) (followMatched near o x now (h .follow)) (courseMatched near p (h .course)) in
         let whole : finished (courseOf m line) p w e (stateOf m b) ≡ matchedAt (courseOf h line) p now near (stateOf h b) =
-                placed
-                ∙ ap (λ (x : Way). matchedBy off e x f c) ew
-                ∙ ap (λ (x : Follow). matchedBy off e (wayOn off (followed (courseOf h line) (stateOf h b)) near) x c) ef
-                ∙ ap (λ (x : Course). matchedBy off e (wayOn off (followed (courseOf h line) (stateOf h b)) near) (followMatched near off e now (h .follow)) x) ec
-                ∙ ap (λ (x : Event). ends off x) ee
-                ∙ ap (λ (o : Bool). ends o (offEvent (h .follow .off) o (due (h .follow) now))) eo in
+        placed
+        ∙ ap (λ (x : Way). matchedBy off e x f c) ew
+        ∙ ap (λ (x : Follow). matchedBy off e (wayOn off (followed (courseOf h line) (stateOf h b)) near) x c) ef
+        ∙ ap (λ (x : Course). matchedBy off e (wayOn off (followed (courseOf h line) (stateOf h b)) near) (followMatched near off e now (h .follow)) x) ec
+        ∙ ap (λ (x : Event). ends off x) ee
+        ∙ ap (λ (o : Bool). ends o (offEvent (h .follow .off) o (due (h .follow) now))) eo in
         record {
           told = t .told ∙ ap (λ (d : Done Event). d .answer) whole;
           same = t .same ∙ ap (λ (d : Done Event). d .state) whole;

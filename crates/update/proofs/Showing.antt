@@ -48,10 +48,10 @@ module _ (h : Homing) (b line : List Float) (p : Point) (w : Way) (e : Event) wh
         → Tells (finished (courseOf h line) p w e) h b r
     shows eg ed el t guide r event same trail =
         let whole : shownBy goal direct long ≡ finished (courseOf h line) p w e (stateOf h b) =
-                ap (λ (d : Float). shownBy goal d long) ed
-                ∙ ap (λ (l : Bool). shownBy goal (distance p goal) l) el
-                ∙ ap (λ (q : Point). shownBy q (distance p q) longHere) eg
-                ∙ sym finished-is in
+        ap (λ (d : Float). shownBy goal d long) ed
+        ∙ ap (λ (l : Bool). shownBy goal (distance p goal) l) el
+        ∙ ap (λ (q : Point). shownBy q (distance p q) longHere) eg
+        ∙ sym finished-is in
         let after : State = arrivalFrom (h .arrived) long direct e (stateOf h b) .state in
         let course : a .homing .course ≡ h .course = ap (λ (s : State). s .course) (t .same) ∙ same-course long direct e (stateOf h b) (h .arrived) in
         record {

@@ -177,16 +177,16 @@ module _ (h b : Homing) (entry exit line : List Float) (p : Point) (now : ℕ) (
   updated-on r e u =
       let C = capacity (length entry) in
       updates-as (λ C. update C (courseOf h line) p now) (λ C s. followOn C (courseOf h line) p now (begun p now s)) h entry r exit
-        (follows-on C (courseOf h line) p now (stateOf h entry) (told true e))
-        (updates-from (begun p now) (λ C. followOn C (courseOf h line) p now) h b entry r exit c
-          (subst (λ (l : List Crumb). Updates (λ C. followOn C l p now) b entry r exit) (course-begun p now h b 0 0 c line) u))
+      (follows-on C (courseOf h line) p now (stateOf h entry) (told true e))
+      (updates-from (begun p now) (λ C. followOn C (courseOf h line) p now) h b entry r exit c
+      (subst (λ (l : List Crumb). Updates (λ C. followOn C l p now) b entry r exit) (course-begun p now h b 0 0 c line) u))
 
   pub updated-straight : trail.Fit (h .trail) (length entry) → (r : Told) → (onLine (b .follow .line) && leb 2 (followedLen b)) ≡ false → Tells (direct (courseOf b line) p) b entry r
       → Updates (λ C. update C (courseOf h line) p now) h entry r entry
   updated-straight f r e t =
       let C = capacity (length entry) in
       updates-as (λ C. update C (courseOf h line) p now) (λ C s. direct (courseOf h line) p (begun p now s)) h entry r entry
-        (goes-straight C (courseOf h line) p now (stateOf h entry) (told false e))
-        (updates-from (begun p now) (λ C. direct (courseOf h line) p) h b entry r entry c
-          (updates-still (direct (courseOf h line) p) b entry r (subst (λ (x : Trail). trail.Fit x (length entry)) (sym (c .trail)) f)
-            (subst (λ (l : List Crumb). Tells (direct l p) b entry r) (course-begun p now h b 0 0 c line) t)))
+      (goes-straight C (courseOf h line) p now (stateOf h entry) (told false e))
+      (updates-from (begun p now) (λ C. direct (courseOf h line) p) h b entry r entry c
+      (updates-still (direct (courseOf h line) p) b entry r (subst (λ (x : Trail). trail.Fit x (length entry)) (sym (c .trail)) f)
+      (subst (λ (l : List Crumb). Tells (direct l p) b entry r) (course-begun p now h b 0 0 c line) t)))

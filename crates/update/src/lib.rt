@@ -37,11 +37,14 @@ const OFF_M: f32 = 50.0;
 const LOOKAHEAD_M: f32 = 40.0;
 // Segments behind and ahead of the last match searched first.
 const SEARCH_BACK: usize = 64;
+
 const SEARCH_AHEAD: usize = 4;
 // At the start, or the course's end, within this; at the start once the breadcrumb is `MIN_TRACK_M` long,
 // and again only after leaving by `LEAVE_M`.
 const ARRIVE_M: f32 = 30.0;
+
 const LEAVE_M: f32 = 80.0;
+
 const MIN_TRACK_M: f32 = 300.0;
 // While off the breadcrumb the nudge repeats this often.
 const REMIND_MS: u64 = 60_000;
@@ -580,7 +583,14 @@ fn at_course_end(h: Homing, near: Nearest) -> bool
 }
 
 // Dropped, at the course's end, or matched.
-fn matched_to(h: Homing, crumbs: &mut [f32], line: &[f32], p: Point, now_ms: u64, near: Nearest) -> Told
+fn matched_to(
+    h: Homing,
+    crumbs: &mut [f32],
+    line: &[f32],
+    p: Point,
+    now_ms: u64,
+    near: Nearest,
+) -> Told
     requires { ⌜ Fit h (length (now crumbs)) (length (now line)) ⌝ }
     requires { ⌜ OnFollowed h near ⌝ }
     ensures { λ r. ⌜ Updates (λ C. matchedTo C (courseOf h (now (line .entry))) p «now_ms» near) h (now (crumbs .entry)) r (now (crumbs .exit)) ⌝ }
@@ -595,7 +605,14 @@ fn matched_to(h: Homing, crumbs: &mut [f32], line: &[f32], p: Point, now_ms: u64
 }
 
 // Where no segment is in reach the guide stays as it was.
-fn match_from(best: Best, h: Homing, crumbs: &mut [f32], line: &[f32], p: Point, now_ms: u64) -> Told
+fn match_from(
+    best: Best,
+    h: Homing,
+    crumbs: &mut [f32],
+    line: &[f32],
+    p: Point,
+    now_ms: u64,
+) -> Told
     requires { ⌜ Fit h (length (now crumbs)) (length (now line)) ⌝ }
     requires { ⌜ (2 ≤ followedLen h) × InLine (followedLen h) best ⌝ }
     ensures { λ r. ⌜ Updates (λ C. matchFrom best C (courseOf h (now (line .entry))) p «now_ms») h (now (crumbs .entry)) r (now (crumbs .exit)) ⌝ }

@@ -33,7 +33,7 @@ returns c =
     record {
       changes =
           arrives (g .h) x (g .now-ms) f p _ (c .headed .result) ef ep
-            (λ b. ap (λ (y : Fix). withHere (spot.At p) (withFrame f (withFed (place.At (y .lat) (y .lon)) (stateOf (g .h) b)))) same) refl (c .headed .ensures);
+          (λ b. ap (λ (y : Fix). withHere (spot.At p) (withFrame f (withFed (place.At (y .lat) (y .lon)) (stateOf (g .h) b)))) same) refl (c .headed .ensures);
       frame = arrives-framed (g .h) x (g .now-ms) f p _ (c .headed .result) ef refl (c .headed .ensures);
     }
 

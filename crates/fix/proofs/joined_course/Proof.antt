@@ -13,8 +13,7 @@ add-update-requires : tie.Need-add-update-requires
 add-update-requires c κs =
     let s = c .before .before .before .before in
     let g = s .args in
-    let on = c .before .engage-at in
-    (
+    let on = c .before .engage-at in (
       on-fit (g .h) (on .result) (now (g .line)) (g .h .course .«join_end») (g .now-ms) (on .ensures) _ _ (s .pre .1) (s .pre .0),
       on-grows (g .h) (on .result) (now (g .line)) (g .h .course .«join_end») (g .now-ms) (on .ensures),
     )

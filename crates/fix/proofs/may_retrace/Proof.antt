@@ -17,8 +17,7 @@ retraced-requires : tie.Need-retraced-requires
 retraced-requires c κs =
     let s = c .before .before .before .before .before .before .before .before in
     let g = s .args in
-    let b = c .before .before .before .retracing in
-    (
+    let b = c .before .before .before .retracing in (
       retrace-fit (g .h) (now (g .crumbs)) (g .p) (b .result) (b .ensures) _ (s .pre .0 .fit),
       (
         retrace-few (g .h) (now (g .crumbs)) (g .p) (b .result) (b .ensures) (c .before .if2 .taken) (s .pre .0 .back),
@@ -40,8 +39,7 @@ add-update-requires : tie.Need-add-update-requires
 add-update-requires c κs =
     let s = c .before .before .before .before .before .before .before .before in
     let g = s .args in
-    let b = c .before .before .before .retracing in
-    (
+    let b = c .before .before .before .retracing in (
       retrace-fit (g .h) (now (g .crumbs)) (g .p) (b .result) (b .ensures) _ (s .pre .0 .fit),
       idle-grows (b .result .homing) (ap (λ (f : Follow). f .line) (retrace-follows (g .h) (now (g .crumbs)) (g .p) (b .result) (b .ensures)) ∙ s .pre .1),
     )

@@ -40,9 +40,9 @@ returns c =
     let ep = c .before .before .before .before .framed .ensures ∙ ap (λ (y : Fix). framed (r .frame) y) same in
     let u = c .before .before .fix-on in
     updates-after (λ C. newFix C (courseOf (g .h) (now (g .line))) x (g .now-ms)) (λ C. fixOn (r .follow .line) C (courseOf r (now (g .line))) p (g .now-ms)) (g .h) r (now (g .crumbs)) (u .last .1 .0) (u .result)
-      (same-len (g .h) r (a .changes .trail))
-      (new-fix x (g .now-ms) (g .h) r (a .changes) (now (g .line)) (now (g .crumbs)) p ep (a .frame) (capacity (length (now (g .crumbs)))))
-      (u .ensures)
+    (same-len (g .h) r (a .changes .trail))
+    (new-fix x (g .now-ms) (g .h) r (a .changes) (now (g .line)) (now (g .crumbs)) p ep (a .frame) (capacity (length (now (g .crumbs)))))
+    (u .ensures)
 
 pub new-fix-spec : {M : Type 1} → statement M
 new-fix-spec = tie.close (tie.spec arrived-at-requires framed-requires fix-on-requires same-length returns)

@@ -38,9 +38,9 @@ returns c =
     let p = c .before .before .before .before .before .before .before .before .before .before .before .framed .result in
     let k = c .before .before .before .add in
     replays (g .h) (c .before .before .before .before .before .headed .result) (k .result) (c .pass-only .result) x (g .now-ms) f p _ (now (g .crumbs)) (k .last .1 .0)
-      (c .before .before .before .before .before .before .before .before .before .before .before .before .located .ensures ∙ ap (λ (y : Fix). located y (g .h .frame)) same)
-      (c .before .before .before .before .before .before .before .before .before .before .before .framed .ensures ∙ ap (λ (y : Fix). framed f y) same)
-      (λ b. refl) refl (c .before .before .before .before .before .headed .ensures) (k .ensures) (c .pass-only .ensures)
+    (c .before .before .before .before .before .before .before .before .before .before .before .before .located .ensures ∙ ap (λ (y : Fix). located y (g .h .frame)) same)
+    (c .before .before .before .before .before .before .before .before .before .before .before .framed .ensures ∙ ap (λ (y : Fix). framed f y) same)
+    (λ b. refl) refl (c .before .before .before .before .before .headed .ensures) (k .ensures) (c .pass-only .ensures)
 
 pub replay-spec : {M : Type 1} → statement M
 replay-spec =

@@ -32,8 +32,8 @@ returns c =
     let l = courseOf (g .h) (now (g .line)) in
     let u = c .before .before .still-at in
     updates-after (λ C. seen C l x (g .now-ms)) (λ C. stillAt (g .h .here) C l (g .now-ms)) (g .h) _ (now (g .crumbs)) (u .last .1 .0) (u .result) (omega arith)
-      (seen-again (capacity (length (now (g .crumbs)))) l x (g .now-ms) (stateOf (g .h) (now (g .crumbs))) (sym (c .before .before .before .before .before .same-fix .ensures ∙ ap (λ (y : Fix). sameFix (g .h .fed) y) same) ∙ c .before .before .before .before .if1 .taken))
-      (u .ensures)
+    (seen-again (capacity (length (now (g .crumbs)))) l x (g .now-ms) (stateOf (g .h) (now (g .crumbs))) (sym (c .before .before .before .before .before .same-fix .ensures ∙ ap (λ (y : Fix). sameFix (g .h .fed) y) same) ∙ c .before .before .before .before .if1 .taken))
+    (u .ensures)
 
 new-fix-requires : tie.Need-new-fix-requires
 new-fix-requires c κs = let s = c .before .before .before .before .before .before .before .before .before .before .before in ready-same (s .args .h) _ _ _ (s .pre) refl refl refl
@@ -52,9 +52,9 @@ returns-2 c =
     let C = capacity (length (now (g .crumbs))) in
     let t = withHereMs (g .now-ms) (stateOf (g .h) (now (g .crumbs))) in
     updates-after (λ C. seen C l x (g .now-ms)) (λ C. newFix C l _ (g .now-ms)) (g .h) _ (now (g .crumbs)) (u .last .1 .0) (u .result) (omega arith)
-      (seen-new C l x (g .now-ms) (stateOf (g .h) (now (g .crumbs))) (sym (c .before .before .before .before .before .same-fix .ensures ∙ ap (λ (y : Fix). sameFix (g .h .fed) y) same) ∙ c .before .before .before .before .if1 .left)
-        ∙ sym (ap (λ (y : Fix). newFix C l y (g .now-ms) t) same))
-      (u .ensures)
+    (seen-new C l x (g .now-ms) (stateOf (g .h) (now (g .crumbs))) (sym (c .before .before .before .before .before .same-fix .ensures ∙ ap (λ (y : Fix). sameFix (g .h .fed) y) same) ∙ c .before .before .before .before .if1 .left)
+    ∙ sym (ap (λ (y : Fix). newFix C l y (g .now-ms) t) same))
+    (u .ensures)
 
 pub seen-spec : {M : Type 1} → statement M
 seen-spec =

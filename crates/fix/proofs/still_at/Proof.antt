@@ -29,7 +29,7 @@ returns c =
     let g = s .args in
     let l = courseOf (g .h) (now (g .line)) in
     updates-nothing (λ C. stillAt (g .here) C l (g .now-ms)) (g .h) (now (g .crumbs)) (s .pre .trail)
-      (still-nowhere (g .here) (capacity (length (now (g .crumbs)))) l (g .now-ms) (stateOf (g .h) (now (g .crumbs))) (c .enum-told .given .1))
+    (still-nowhere (g .here) (capacity (length (now (g .crumbs)))) l (g .now-ms) (stateOf (g .h) (now (g .crumbs))) (c .enum-told .given .1))
 
 elapsed-requires : tie.Need-elapsed-requires
 elapsed-requires c κs = search needs
@@ -40,8 +40,8 @@ returns-2 c =
     let g = s .args in
     let l = courseOf (g .h) (now (g .line)) in
     updates-nothing (λ C. stillAt (g .here) C l (g .now-ms)) (g .h) (now (g .crumbs)) (s .pre .trail)
-      (still-early (g .here) (capacity (length (now (g .crumbs)))) l (g .now-ms) (stateOf (g .h) (now (g .crumbs))) (c .before .before .before .here .given .0 .0) (c .before .before .before .here .given .1)
-        (ap (λ (n : ℕ). ltb n stillMs) (sym (c .before .elapsed .ensures)) ∙ lt-ltb _ _ (c .if1 .taken)))
+    (still-early (g .here) (capacity (length (now (g .crumbs)))) l (g .now-ms) (stateOf (g .h) (now (g .crumbs))) (c .before .before .before .here .given .0 .0) (c .before .before .before .here .given .1)
+    (ap (λ (n : ℕ). ltb n stillMs) (sym (c .before .elapsed .ensures)) ∙ lt-ltb _ _ (c .if1 .taken)))
 
 headed-requires : tie.Need-headed-requires
 headed-requires c κs = search needs
@@ -63,10 +63,10 @@ returns-3 c =
     let u = c .before .before .update in
     let C = capacity (length b) in
     updates-after (λ C. stillAt (g .here) C l (g .now-ms)) (λ C. update C (courseOf on (now (g .line))) p (g .now-ms)) (g .h) on b (u .last .1 .0) (u .result) (same-len (g .h) on (c .before .before .before .before .headed .ensures .trail))
-      (still-due (g .here) C l (g .now-ms) (stateOf (g .h) b) p (c .before .before .before .before .before .before .before .before .here .given .1) (ap (λ (n : ℕ). ltb n stillMs) (sym (c .before .before .before .before .before .before .elapsed .ensures)) ∙ le-ltb _ _ (c .before .before .before .before .before .if1 .left))
-        ∙ ap (λ (x : State). update C l p (g .now-ms) x) (sym (c .before .before .before .before .headed .ensures .same b))
-        ∙ ap (λ k. update C k p (g .now-ms) (stateOf on b)) (sym (headed-course p (g .now-ms) (g .h) on (c .before .before .before .before .headed .ensures) (now (g .line)))))
-      (u .ensures)
+    (still-due (g .here) C l (g .now-ms) (stateOf (g .h) b) p (c .before .before .before .before .before .before .before .before .here .given .1) (ap (λ (n : ℕ). ltb n stillMs) (sym (c .before .before .before .before .before .before .elapsed .ensures)) ∙ le-ltb _ _ (c .before .before .before .before .before .if1 .left))
+    ∙ ap (λ (x : State). update C l p (g .now-ms) x) (sym (c .before .before .before .before .headed .ensures .same b))
+    ∙ ap (λ k. update C k p (g .now-ms) (stateOf on b)) (sym (headed-course p (g .now-ms) (g .h) on (c .before .before .before .before .headed .ensures) (now (g .line)))))
+    (u .ensures)
 
 pub still-at-spec : {M : Type 1} → statement M
 still-at-spec =

@@ -17,8 +17,7 @@ joined-course-requires c κs =
     let s = c .before .before .before .before .before .before in
     let g = s .args in
     let j = c .before .before .before .joining in
-    let a = j .ensures (now (g .crumbs)) in
-    (
+    let a = j .ensures (now (g .crumbs)) in (
       join-ready (g .h) (now (g .crumbs)) (now (g .line)) (g .p) (j .result) a _ (s .pre .0) .fit,
       joined-at (g .h) (now (g .crumbs)) (now (g .line)) (g .p) (j .result) a (c .before .if1 .taken),
     )
@@ -38,8 +37,7 @@ may-retrace-requires c κs =
     let s = c .before .before .before .before .before .before in
     let g = s .args in
     let j = c .before .before .before .joining in
-    let a = j .ensures (now (g .crumbs)) in
-    (
+    let a = j .ensures (now (g .crumbs)) in (
       join-ready (g .h) (now (g .crumbs)) (now (g .line)) (g .p) (j .result) a _ (s .pre .0),
       ap (λ (f : Follow). f .line) (join-follows (g .h) (now (g .crumbs)) (now (g .line)) (g .p) (j .result) a) ∙ s .pre .1,
     )

@@ -45,11 +45,10 @@ nearest-before-requires c κs =
 
 against-near-requires : tie.Need-against-near-requires
 against-near-requires c κs =
-    let g = c .before .before .before .before .before .before .before .before .before .args in
-    (
+    let g = c .before .before .before .before .before .before .before .before .before .args in (
       c .before .before .before .before .before .before .before .before .before .pre,
       subst (λ (best : Best). InLine (g .len) best) (sym (c .nearest-before .ensures))
-        (before-in-line (crumbs (g .len) (now (g .crumbs))) (g .p) (c .before .ends .result) (g .len)
+          (before-in-line (crumbs (g .len) (now (g .crumbs))) (g .p) (c .before .ends .result) (g .len)
           (subst (λ (n : ℕ). n ≤ g .len) (sym (c .before .ends .ensures)) (ends-few (g .len) (now (g .crumbs)) _))),
     )
 

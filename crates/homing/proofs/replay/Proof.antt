@@ -35,7 +35,7 @@ returns c =
     let b = now (g .crumbs) in
     let x : Fix = record { lat = g .lat; lon = g .lon } in
     let e = c .before .before .asks-replay .ensures (g .at-ms)
-          ∙ ap (λ (y : Fix). asks (length b) (call.Replay y (g .at-ms)) (stateOf (g .h) b)) (same-fix (g .lat) (g .lon) (s .fits .lat .sfits) (s .fits .lon .sfits)) in
+    ∙ ap (λ (y : Fix). asks (length b) (call.Replay y (g .at-ms)) (stateOf (g .h) b)) (same-fix (g .lat) (g .lon) (s .fits .lat .sfits) (s .fits .lon .sfits)) in
     subst (λ (r : Changed). Replays x (g .at-ms) (g .h) b r b) (sym (c .refused .ensures))
     (record {
       answered = no e tt (c .before .if1 .taken);
@@ -70,7 +70,7 @@ returns-2 c =
       answered = yes e (c .before .before .before .before .before .if1 .left) refl;
       called =
           takes-rule (call.Replay x (g .at-ms)) (g .h) (k .result) b (k .last .1 .0) (λ D. replay D _ (g .at-ms)) (sym e ∙ c .before .before .before .before .before .if1 .left)
-            (ap (λ (y : Fix). replay C y (g .at-ms) (stateOf (g .h) b) .state) same) (k .ensures);
+          (ap (λ (y : Fix). replay C y (g .at-ms) (stateOf (g .h) b) .state) same) (k .ensures);
     })
 
 pub replay-spec : {M : Type 1} → statement M

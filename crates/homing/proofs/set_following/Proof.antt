@@ -46,7 +46,7 @@ returns-2 c =
       answered = yes e (c .before .before .before .before .before .if1 .left) (k .ensures .answered);
       called =
           takes-rule (call.SetFollowing (now (g .line)) (g .follow) (g .now-ms)) (g .h) (k .result .homing) b (k .last .1 .0)
-            (λ C. setFollowing (g .follow) C (courseIn (now (g .line)) (stateOf (g .h) b)) (g .now-ms)) (sym e ∙ c .before .before .before .before .before .if1 .left) refl (k .ensures .follows);
+          (λ C. setFollowing (g .follow) C (courseIn (now (g .line)) (stateOf (g .h) b)) (g .now-ms)) (sym e ∙ c .before .before .before .before .before .if1 .left) refl (k .ensures .follows);
     }
 
 pub set-following-spec : {M : Type 1} → statement M

@@ -35,7 +35,7 @@ returns-3 c = λ b.
     let g = c .before .before .before .args in
     tells (arrivalFrom (g .h .arrived) (g .long) (g .direct) (g .e)) (g .h) b _ (done (g .e) (stateOf (g .h) b))
     (ap (λ (x : Bool). arrivalFrom x (g .long) (g .direct) (g .e) (stateOf (g .h) b)) (c .before .before .if1 .left)
-      ∙ away (g .long) (g .direct) (g .e) (stateOf (g .h) b) (ap (λ (x : Bool). x && lt (g .direct) arriveM) (c .before .if2 .taken) ∙ c .if3 .left))
+    ∙ away (g .long) (g .direct) (g .e) (stateOf (g .h) b) (ap (λ (x : Bool). x && lt (g .direct) arriveM) (c .before .if2 .taken) ∙ c .if3 .left))
     refl refl refl
 
 returns-4 : tie.Need-returns-4
@@ -43,7 +43,7 @@ returns-4 c = λ b.
     let g = c .before .before .args in
     tells (arrivalFrom (g .h .arrived) (g .long) (g .direct) (g .e)) (g .h) b _ (done (g .e) (stateOf (g .h) b))
     (ap (λ (x : Bool). arrivalFrom x (g .long) (g .direct) (g .e) (stateOf (g .h) b)) (c .before .if1 .left)
-      ∙ away (g .long) (g .direct) (g .e) (stateOf (g .h) b) (ap (λ (x : Bool). x && lt (g .direct) arriveM) (c .if2 .left)))
+    ∙ away (g .long) (g .direct) (g .e) (stateOf (g .h) b) (ap (λ (x : Bool). x && lt (g .direct) arriveM) (c .if2 .left)))
     refl refl refl
 
 pub arrival-spec : {M : Type 1} → statement M

@@ -33,8 +33,8 @@ returns c =
     let l = courseOf (g .h) (now (g .line)) in
     let way : Float → Point → Way = λ t q. record { mode = mode.Direct; track = t; off = plusZero; target = q } in
     let t =
-        subst (λ (q : Point). Tells (finished l (g .p) (way (recordedM (crumbs (g .h .trail .len) (now (g .crumbs))) (g .p)) q) event.Nothing) (g .h) (now (g .crumbs)) (c .finished .result)) (c .before .start .ensures)
-        (subst (λ (x : Float). Tells (finished l (g .p) (way x (c .before .start .result)) event.Nothing) (g .h) (now (g .crumbs)) (c .finished .result)) (c .before .before .recorded-m .ensures) (c .finished .ensures)) in
+    subst (λ (q : Point). Tells (finished l (g .p) (way (recordedM (crumbs (g .h .trail .len) (now (g .crumbs))) (g .p)) q) event.Nothing) (g .h) (now (g .crumbs)) (c .finished .result)) (c .before .start .ensures)
+    (subst (λ (x : Float). Tells (finished l (g .p) (way x (c .before .start .result)) event.Nothing) (g .h) (now (g .crumbs)) (c .finished .result)) (c .before .before .recorded-m .ensures) (c .finished .ensures)) in
     record { told = t .told; same = t .same; trail = t .trail }
 
 pub direct-spec : {M : Type 1} → statement M

@@ -39,7 +39,7 @@ guide-at-requires c κs =
     let g = s .args in
     let b = now (g .crumbs) in
     let e = ap (λ (x : State). x .course .«line_len») (c .before .arrival .ensures b .same)
-          ∙ ap (λ x. x .«line_len») (same-course (c .before .before .long-enough .result) (c .before .before .before .before .distance .result) (g .e) (stateOf (g .h) b) (g .h .arrived)) in
+    ∙ ap (λ x. x .«line_len») (same-course (c .before .before .long-enough .result) (c .before .before .before .before .distance .result) (g .e) (stateOf (g .h) b) (g .h .arrived)) in
     subst (λ (n : ℕ). n ≤ capacity (length (now (g .line)))) (sym e) (s .pre .placed)
 
 returns : tie.Need-returns
@@ -48,12 +48,12 @@ returns c =
     let b = now (g .crumbs) in
     let l = courseOf (g .h) (now (g .line)) in
     shows (g .h) b (now (g .line)) (g .p) (g .w) (g .e) (c .before .before .before .before .before .before .before .before .before .before .before .before .goal-on .result) (c .before .before .before .before .before .before .before .before .before .before .before .distance .result) (c .before .before .before .before .before .before .before .before .before .long-enough .result) (c .before .before .before .before .before .before .before .before .arrival .result) (c .before .before .before .before .before .before .guide-at .result)
-      (c .before .before .before .before .before .before .before .before .before .before .before .before .goal-on .ensures ∙ ap (λ (q : Point). goalOn (g .h .follow .line) l q) (c .before .before .before .before .before .before .before .before .before .before .before .before .before .start .ensures))
-      (c .before .before .before .before .before .before .before .before .before .before .before .distance .ensures)
-      (c .before .before .before .before .before .before .before .before .before .long-enough .ensures ∙ ap (λ (x : Bool). longEnough x (crumbs (g .h .trail .len) b)) (c .before .before .before .before .before .before .before .before .before .before .on-course .ensures))
-      (c .before .before .before .before .before .before .before .before .arrival .ensures b)
-      (c .before .before .before .before .before .before .guide-at .ensures b)
-      _ refl refl refl
+    (c .before .before .before .before .before .before .before .before .before .before .before .before .goal-on .ensures ∙ ap (λ (q : Point). goalOn (g .h .follow .line) l q) (c .before .before .before .before .before .before .before .before .before .before .before .before .before .start .ensures))
+    (c .before .before .before .before .before .before .before .before .before .before .before .distance .ensures)
+    (c .before .before .before .before .before .before .before .before .before .long-enough .ensures ∙ ap (λ (x : Bool). longEnough x (crumbs (g .h .trail .len) b)) (c .before .before .before .before .before .before .before .before .before .before .on-course .ensures))
+    (c .before .before .before .before .before .before .before .before .arrival .ensures b)
+    (c .before .before .before .before .before .before .guide-at .ensures b)
+    _ refl refl refl
 
 pub finished-spec : {M : Type 1} → statement M
 finished-spec =

@@ -56,11 +56,11 @@ returns c =
     let C = capacity (length (now (g .crumbs))) in
     let from : ℕ → ℕ → Best = λ x y. nearest (g .h .follow .line) l (g .p) (record { from = x; to = y }) s in
     updates-as (λ C. followOn C l (g .p) (g .now-ms)) (λ C. matchFrom (c .before .before .before .before .nearest .result) C l (g .p) (g .now-ms)) (g .h) (now (g .crumbs)) (k .result) (k .last .1 .1 .0)
-      (sym (ap (λ (b : Best). matchFrom b C l (g .p) (g .now-ms) s)
-        (c .before .before .before .before .nearest .ensures
-          ∙ ap (λ (x : ℕ). from x (c .before .before .before .before .before .before .search-to .result)) (c .before .before .before .before .before .before .before .before .search-from .ensures)
-          ∙ ap (λ (y : ℕ). from (max (g .h .follow .segment - 64) 1) y) (c .before .before .before .before .before .before .search-to .ensures ∙ ap (λ (n : ℕ). min (g .h .follow .segment + 4) (n - 1)) (c .before .before .before .before .before .before .before .followed-len .ensures ∙ followed-long (g .h) (now (g .line)) (now (g .crumbs)))))))
-      (k .ensures)
+    (sym (ap (λ (b : Best). matchFrom b C l (g .p) (g .now-ms) s)
+    (c .before .before .before .before .nearest .ensures
+    ∙ ap (λ (x : ℕ). from x (c .before .before .before .before .before .before .search-to .result)) (c .before .before .before .before .before .before .before .before .search-from .ensures)
+    ∙ ap (λ (y : ℕ). from (max (g .h .follow .segment - 64) 1) y) (c .before .before .before .before .before .before .search-to .ensures ∙ ap (λ (n : ℕ). min (g .h .follow .segment + 4) (n - 1)) (c .before .before .before .before .before .before .before .followed-len .ensures ∙ followed-long (g .h) (now (g .line)) (now (g .crumbs)))))))
+    (k .ensures)
 
 pub follow-on-spec : {M : Type 1} → statement M
 follow-on-spec =

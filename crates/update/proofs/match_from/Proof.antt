@@ -30,8 +30,8 @@ returns c =
     let g = s .args in
     let l = courseOf (g .h) (now (g .line)) in
     updates-as (λ C. matchFrom (g .best) C l (g .p) (g .now-ms)) (λ C x. done event.Nothing x) (g .h) (now (g .crumbs)) _ (now (g .crumbs))
-      (ap (λ (x : Best). matchFrom x (capacity (length (now (g .crumbs)))) l (g .p) (g .now-ms) (stateOf (g .h) (now (g .crumbs)))) (c .enum-told .given .1))
-      (updates-still (λ x. done event.Nothing x) (g .h) (now (g .crumbs)) _ (s .pre .0 .trail) (record { told = refl; same = refl; trail = refl }))
+    (ap (λ (x : Best). matchFrom x (capacity (length (now (g .crumbs)))) l (g .p) (g .now-ms) (stateOf (g .h) (now (g .crumbs)))) (c .enum-told .given .1))
+    (updates-still (λ x. done event.Nothing x) (g .h) (now (g .crumbs)) _ (s .pre .0 .trail) (record { told = refl; same = refl; trail = refl }))
 
 widened-requires : tie.Need-widened-requires
 widened-requires c κs = let s = c .before .before .before .before .before .before in (roomy (s .args .h) _ _ (s .pre .0), s .pre .1 .0)
@@ -54,9 +54,9 @@ returns-2 c =
     let k = c .before .before .matched-to in
     let C = capacity (length (now (g .crumbs))) in
     updates-as (λ C. matchFrom (g .best) C l (g .p) (g .now-ms)) (λ C. matchedTo C l (g .p) (g .now-ms) (c .before .before .before .before .widened .result)) (g .h) (now (g .crumbs)) (k .result) (k .last .1 .0)
-      (ap (λ (x : Best). matchFrom x C l (g .p) (g .now-ms) (stateOf (g .h) (now (g .crumbs)))) (c .before .before .before .before .before .before .before .best .given .1)
-        ∙ sym (ap (λ (n : Nearest). matchedTo C l (g .p) (g .now-ms) n (stateOf (g .h) (now (g .crumbs)))) (c .before .before .before .before .widened .ensures)))
-      (k .ensures)
+    (ap (λ (x : Best). matchFrom x C l (g .p) (g .now-ms) (stateOf (g .h) (now (g .crumbs)))) (c .before .before .before .before .before .before .before .best .given .1)
+    ∙ sym (ap (λ (n : Nearest). matchedTo C l (g .p) (g .now-ms) n (stateOf (g .h) (now (g .crumbs)))) (c .before .before .before .before .widened .ensures)))
+    (k .ensures)
 
 pub match-from-spec : {M : Type 1} → statement M
 match-from-spec =

@@ -28,8 +28,8 @@ returns c =
     let l = courseOf (g .h) (now (g .line)) in
     let k = c .before .before .ended-with in
     updates-as (λ C. matchedTo C l (g .p) (g .now-ms) (g .near)) (λ C. endedWith event.Dropped C l (g .p) (g .now-ms)) (g .h) (now (g .crumbs)) (k .result) (k .last .1 .1 .0)
-      (drops (capacity (length (now (g .crumbs)))) l (g .p) (g .now-ms) (g .near) (stateOf (g .h) (now (g .crumbs))) (c .before .before .before .before .if1 .taken))
-      (k .ensures)
+    (drops (capacity (length (now (g .crumbs)))) l (g .p) (g .now-ms) (g .near) (stateOf (g .h) (now (g .crumbs))) (c .before .before .before .before .if1 .taken))
+    (k .ensures)
 
 at-course-end-requires : tie.Need-at-course-end-requires
 at-course-end-requires c κs = search needs
@@ -47,8 +47,8 @@ returns-2 c =
     let l = courseOf (g .h) (now (g .line)) in
     let k = c .before .before .ended-with2 in
     updates-as (λ C. matchedTo C l (g .p) (g .now-ms) (g .near)) (λ C. endedWith event.CourseEnd C l (g .p) (g .now-ms)) (g .h) (now (g .crumbs)) (k .result) (k .last .1 .1 .0)
-      (reaches-end (capacity (length (now (g .crumbs)))) l (g .p) (g .now-ms) (g .near) (stateOf (g .h) (now (g .crumbs))) (c .before .before .before .before .before .before .if1 .left) (sym (c .before .before .before .before .before .at-course-end .ensures (now (g .crumbs))) ∙ c .before .before .before .before .if2 .taken))
-      (k .ensures)
+    (reaches-end (capacity (length (now (g .crumbs)))) l (g .p) (g .now-ms) (g .near) (stateOf (g .h) (now (g .crumbs))) (c .before .before .before .before .before .before .if1 .left) (sym (c .before .before .before .before .before .at-course-end .ensures (now (g .crumbs))) ∙ c .before .before .before .before .if2 .taken))
+    (k .ensures)
 
 matched-at-requires : tie.Need-matched-at-requires
 matched-at-requires c κs = let s = c .before .before .before .before .before .before .before in (roomy (s .args .h) _ _ (s .pre .0), s .pre .1)
@@ -63,8 +63,8 @@ returns-3 c =
     let l = courseOf (g .h) (now (g .line)) in
     let k = c .matched-at in
     updates-as (λ C. matchedTo C l (g .p) (g .now-ms) (g .near)) (λ C. matchedAt l (g .p) (g .now-ms) (g .near)) (g .h) (now (g .crumbs)) (k .result) (now (g .crumbs))
-      (goes-on (capacity (length (now (g .crumbs)))) l (g .p) (g .now-ms) (g .near) (stateOf (g .h) (now (g .crumbs))) (c .before .before .before .before .if1 .left) (sym (c .before .before .before .at-course-end .ensures (now (g .crumbs))) ∙ c .before .before .if2 .left))
-      (updates-still (matchedAt l (g .p) (g .now-ms) (g .near)) (g .h) (now (g .crumbs)) (k .result) (c .before .before .before .before .before .before .before .before .pre .0 .trail) (k .ensures))
+    (goes-on (capacity (length (now (g .crumbs)))) l (g .p) (g .now-ms) (g .near) (stateOf (g .h) (now (g .crumbs))) (c .before .before .before .before .if1 .left) (sym (c .before .before .before .at-course-end .ensures (now (g .crumbs))) ∙ c .before .before .if2 .left))
+    (updates-still (matchedAt l (g .p) (g .now-ms) (g .near)) (g .h) (now (g .crumbs)) (k .result) (c .before .before .before .before .before .before .before .before .pre .0 .trail) (k .ensures))
 
 pub matched-to-spec : {M : Type 1} → statement M
 matched-to-spec =
