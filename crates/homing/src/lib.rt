@@ -45,22 +45,18 @@ pub struct Followed {
     pub answer: Verdict,
 }
 
-fn refused(h: Homing, number: u8) -> Changed
-    ensures { λ r. ⌜ r ≡ record { homing = h; answer = reply.Refused number } ⌝ }
+fn refused(homing: Homing, number: u8) -> Changed
+    ensures { λ r. ⌜ r ≡ record { homing = homing; answer = reply.Refused number } ⌝ }
 {
-    Changed {
-        homing: h,
-        answer: Reply::Refused(number),
-    }
+    let answer = Reply::Refused(number);
+    Changed { homing, answer }
 }
 
-fn taken(h: Homing) -> Changed
-    ensures { λ r. ⌜ r ≡ record { homing = h; answer = reply.Taken } ⌝ }
+fn taken(homing: Homing) -> Changed
+    ensures { λ r. ⌜ r ≡ record { homing = homing; answer = reply.Taken } ⌝ }
 {
-    Changed {
-        homing: h,
-        answer: Reply::Taken,
-    }
+    let answer = Reply::Taken;
+    Changed { homing, answer }
 }
 
 // ---- the guide made anew

@@ -5,7 +5,7 @@ ghost use Rattle.plane.specs.Plane.{distance, atShare, project, offSegme
 ghost use Rattle.plane.specs.Fix.{eastPerE7, wrapped, frame};
 
 // Metres per 1e-7 degree of latitude, on a sphere of the mean Earth radius.
-const M_PER_E7: f32 = 0.011_119_508;
+pub const M_PER_E7: f32 = 0.011_119_508;
 
 // Angles are in 4096ths of a turn, clockwise from north.
 pub const TURN: u16 = 4096;

@@ -30,9 +30,6 @@ const LEAST: usize = 8;
 
 const MOST: usize = 4096;
 
-// The most points that a line may have room for.
-const POINTS: usize = 2048;
-
 // A place is at most this far from the origin, east or west, north or south.
 const PLACE_MOST_M: f32 = 100000000.0;
 
@@ -41,9 +38,6 @@ const ALONG_END_M: f32 = 1e16;
 
 // The east factor is at most this in size.
 const FACTOR_MOST: f32 = 0.02;
-
-// Riding back on this many fixes in a row starts following, so that their count stays below.
-const RETRACE_FIXES: u8 = 8;
 
 const LATITUDE_MOST: i32 = 900_000_000;
 
@@ -62,7 +56,7 @@ pub fn question4(size: usize, n: usize) -> bool
     ensures { λ r. ⌜ r ≡ question4 size n ⌝ }
 {
     let room = crumbs::capacity(size);
-    crumbs::whole(size) & (room <= POINTS) & (n <= room)
+    crumbs::whole(size) & (room <= course::POINTS) & (n <= room)
 }
 
 // ---- 10: numbers
@@ -186,7 +180,7 @@ fn follow_fits(on: Line, segment: usize, len: usize, line_len: usize) -> bool
 fn retrace_fits(t: Trail) -> bool
     ensures { λ r. ⌜ ((b : List Float) → r ≡ retraceFits (track t b)) ⌝ }
 {
-    (t.retrace < RETRACE_FIXES) & ((t.retrace == 0) | (t.retrace_len <= t.len))
+    (t.retrace < follow::RETRACE_FIXES) & ((t.retrace == 0) | (t.retrace_len <= t.len))
 }
 
 fn counts_fit(h: Homing) -> bool

@@ -27,9 +27,6 @@ ghost use Rattle.calls.specs.Follow.{brought, engagedOr, wayHome, follow, nearH
 ghost use Rattle.calls.specs.Line.{noLap, lined, awaiting, offCourse};
 ghost use Rattle.steer.specs.View.{Decides, Made, Resets, SetsLine};
 
-// Metres per 1e-7 degree of latitude, and of longitude until the ride's first fix.
-const M_PER_E7: f32 = 0.011_119_508;
-
 // ---- following begun and ended
 
 // The guide brought up to date where there is a place to show.
@@ -194,7 +191,7 @@ pub fn new() -> Homing
     let trail = trail::new();
     let frame = Frame {
         origin: Place::Missing,
-        east_per_e7: M_PER_E7,
+        east_per_e7: plane::M_PER_E7,
     };
     let motion = Motion {
         from: Spot::Nowhere,
