@@ -1,0 +1,9 @@
+pub mod Tests
+pub mod Entries
+pub mod Points
+pub mod Answering
+pub mod Stepping
+pub mod History
+pub mod Performing
+pub mod Riding
+pub mod Covers
