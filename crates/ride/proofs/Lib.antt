@@ -7,3 +7,4 @@ pub mod History
 pub mod Performing
 pub mod Riding
 pub mod Covers
+pub mod Taken

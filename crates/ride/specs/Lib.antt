@@ -1,3 +1,4 @@
 pub mod Script
 pub mod History
+pub mod Taken
 pub mod Promises
