@@ -1,7 +1,5 @@
 // Performs a recorded ride, a script of the guide's calls on standard input, and prints what the guide
 // answers. The file `stdout` holds what the Rust answers to the ride in `stdin`.
-mod script;
-mod transcript;
 
 use course::POINTS;
 use homing::Changed;

@@ -1,0 +1,6 @@
+pub mod Numbers
+pub mod Samples
+pub mod Chain
+pub mod Asking
+pub mod Theorems
+pub mod Slots

@@ -1,0 +1,36 @@
+-- A sample's place and time by its flags, and a sample by its record's count. Assumes nothing.
+use Prim.Native.Nat.{ℕ, _+_, _*_, _/_, _%_, _≤_, _<_}
+use mathlib.Core.Path.{_≡_, sym, ap, _∙_}
+use mathlib.Core.List.{List}
+use borrow.Author.Tests.{eq-eqb, ne-eqb, lt-ltb, le-ltb}
+use lib.IntN.{ℤ}
+use Rattle.state.specs.declared.Place.the-variants as place
+use Rattle.log.specs.declared.Utc.the-variants as utc
+use Rattle.log.specs.declared.Sample.{Sample}
+use Rattle.log.specs.Entry.{byteAt, u64At, i32At, countOf, located, timed, placeAt, utcAt, sampleAt, noSample, sampleIf, sampleOf}
+
+module _ (f : List ℕ) (at : ℕ) {n : ℕ} (flags : n ≡ byteAt f at) where
+  pub place-there : {lat lon : ℤ} → n % 2 ≡ 1 → lat ≡ i32At f (at + 4) → lon ≡ i32At f (at + 8) → place.At lat lon ≡ placeAt (located (byteAt f at)) f at
+  unfolding placeAt located
+  place-there h x y = rw (← flags, eq-eqb (n % 2) 1 h, x, y)
+
+  pub place-missing : (n % 2 ≡ 1 → ⊥) → place.Missing ≡ placeAt (located (byteAt f at)) f at
+  unfolding placeAt located
+  place-missing h = rw (← flags, ne-eqb (n % 2) 1 h)
+
+  pub utc-there : {ms : ℕ} → n / 2 % 2 ≡ 1 → ms ≡ u64At f (at + 12) → utc.At ms ≡ utcAt (timed (byteAt f at)) f at
+  unfolding utcAt timed
+  utc-there h x = rw (← flags, eq-eqb (n / 2 % 2) 1 h, x)
+
+  pub utc-unknown : (n / 2 % 2 ≡ 1 → ⊥) → utc.Unknown ≡ utcAt (timed (byteAt f at)) f at
+  unfolding utcAt timed
+  utc-unknown h = rw (← flags, ne-eqb (n / 2 % 2) 1 h)
+
+module _ (f : List ℕ) (r k : ℕ) {n : ℕ} (count : n ≡ countOf f r) where
+  pub sample-used : {s : ℕ} {x : Sample} → k < n → s ≡ 96 * r → x ≡ sampleAt f (s + 16 + 20 * k) → x ≡ sampleOf f r k
+  unfolding sampleOf sampleIf
+  sample-used {s} {x} h e i = i ∙ ap (λ b. sampleAt f (b + 16 + 20 * k)) e ∙ sym (rw (← count, lt-ltb k n h))
+
+  pub sample-unused : n ≤ k → noSample ≡ sampleOf f r k
+  unfolding sampleOf sampleIf
+  sample-unused h = rw (← count, le-ltb k n h)

@@ -1,0 +1,22 @@
+-- `log::byte_at` meets its contract. Assumes nothing.
+use mathlib.Core.Path.{refl, sym}
+use lib.ListN.{List·getD-eq-default}
+use denote.Ref.{now}
+use Rattle.log.specs.Entry.{byteAt}
+use borrow.Author.Needs.{needs}
+use Rattle.log.proofs.byte_at.Statement.{statement}
+use Rattle.log.proofs.byte_at.Tie as tie
+
+shared-slice-read-result : tie.Need-shared-slice-read-result
+shared-slice-read-result c = search needs
+
+returns : tie.Need-returns
+unfolding byteAt
+returns c = refl
+
+returns-2 : tie.Need-returns-2
+unfolding byteAt
+returns-2 c = sym (List·getD-eq-default (now (c .before .args .file)) 0 (c .if1 .left))
+
+pub byte-at-spec : {M : Type 1} → statement M
+byte-at-spec = tie.close (tie.spec shared-slice-read-result returns returns-2)

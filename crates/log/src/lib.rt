@@ -1,0 +1,348 @@
+// The ride log: entries of up to four samples, and the chain file that holds them. What a file has is
+// read where it stands; a byte behind its end counts as 0.
+
+use state::Place;
+ghost use mathlib.Core.Path.{_≡_};
+ghost use Prim.Native.Nat.{_*_, _^_, _<_, _≤_};
+ghost use Rattle.log.specs.Entry.{byteAt, u32At, u64At, signed as signedOf, i32At, recordCount, nextOf, rideOf, kindNumber, countOf, kindOf, located, timed, placeAt, utcAt, sampleAt, sampleOf, samplesOf, entryAt, used, recovered as recoveredOf, chain};
+ghost use Rattle.log.specs.Questions.{question6 as question6Of, question7 as question7Of, question8 as question8Of, asksPlace, asksSamples, asksEntry, asksRecord, asksRecords, asksFile};
+
+// What an entry is, 1 to 7.
+pub enum Kind {
+    Start,
+    Samples,
+    Pause,
+    Resume,
+    Finish,
+    Recovered,
+    Full,
+}
+
+// A time of day, where it is known.
+pub enum Utc {
+    At(u64),
+    Unknown,
+}
+
+pub struct Sample {
+    pub place: Place,
+    pub utc: Utc,
+}
+
+// An entry carries four samples, of which `count` are used.
+pub struct Entry {
+    pub ride: u32,
+    pub kind: Kind,
+    pub count: u8,
+    pub samples: [Sample; 4],
+}
+
+// The bytes of a record, those before its samples, and those of a sample.
+const RECORD: usize = 96;
+
+const HEAD: usize = 16;
+
+const SAMPLE: usize = 20;
+
+// The samples of an entry.
+const SAMPLES: u8 = 4;
+
+// The most records of a file.
+const MOST: usize = 682;
+
+// ---- numbers, little-endian
+
+fn byte_at(file: &[u8], at: usize) -> u8
+    ensures { λ r. ⌜ r ≡ byteAt (now (file .entry)) at ⌝ }
+{
+    if at < file.len() {
+        return file[at];
+    }
+    0
+}
+
+fn u32_at(file: &[u8], at: usize) -> u32
+    requires { ⌜ at < 2 ^ 42 ⌝ }
+    ensures { λ r. ⌜ r ≡ u32At (now (file .entry)) at ⌝ }
+{
+    let b0 = byte_at(file, at) as u32;
+    let b1 = byte_at(file, at + 1) as u32;
+    let b2 = byte_at(file, at + 2) as u32;
+    let b3 = byte_at(file, at + 3) as u32;
+    b0 + 256 * b1 + 65536 * b2 + 16777216 * b3
+}
+
+fn u64_at(file: &[u8], at: usize) -> u64
+    requires { ⌜ at < 2 ^ 41 ⌝ }
+    ensures { λ r. ⌜ r ≡ u64At (now (file .entry)) at ⌝ }
+{
+    let low = u32_at(file, at) as u64;
+    let high = u32_at(file, at + 4) as u64;
+    low + 4294967296 * high
+}
+
+// Two's complement: from 2^31 on, a number stands for the one 2^32 below it.
+fn signed(n: u32) -> i32
+    ensures { λ r. ⌜ r ≡ signedOf n ⌝ }
+{
+    if n < 2147483648 {
+        return n as i32;
+    }
+    -1 - ((4294967295 - n) as i32)
+}
+
+fn i32_at(file: &[u8], at: usize) -> i32
+    requires { ⌜ at < 2 ^ 42 ⌝ }
+    ensures { λ r. ⌜ r ≡ i32At (now (file .entry)) at ⌝ }
+{
+    signed(u32_at(file, at))
+}
+
+// ---- records
+
+fn start_of(index: u32) -> usize
+    ensures { λ r. ⌜ r ≡ 96 * index ⌝ }
+{
+    RECORD * (index as usize)
+}
+
+// The index of the record after record `index` along the chain, 0 where the chain ends.
+pub fn next_of(file: &[u8], index: u32) -> u32
+    ensures { λ r. ⌜ r ≡ nextOf (now (file .entry)) index ⌝ }
+{
+    u32_at(file, start_of(index))
+}
+
+fn ride_of(file: &[u8], index: u32) -> u32
+    ensures { λ r. ⌜ r ≡ rideOf (now (file .entry)) index ⌝ }
+{
+    u32_at(file, start_of(index) + 4)
+}
+
+fn kind_number(file: &[u8], index: u32) -> u8
+    ensures { λ r. ⌜ r ≡ kindNumber (now (file .entry)) index ⌝ }
+{
+    byte_at(file, start_of(index) + 8)
+}
+
+fn count_of(file: &[u8], index: u32) -> u8
+    ensures { λ r. ⌜ r ≡ countOf (now (file .entry)) index ⌝ }
+{
+    byte_at(file, start_of(index) + 9)
+}
+
+fn kind_of(number: u8) -> Kind
+    ensures { λ r. ⌜ r ≡ kindOf number ⌝ }
+{
+    match number {
+        1 => Kind::Start,
+        2 => Kind::Samples,
+        3 => Kind::Pause,
+        4 => Kind::Resume,
+        5 => Kind::Finish,
+        6 => Kind::Recovered,
+        _ => Kind::Full,
+    }
+}
+
+// ---- samples
+
+fn place_at(file: &[u8], at: usize) -> Place
+    requires { ⌜ at < 2 ^ 40 ⌝ }
+    ensures { λ r. ⌜ r ≡ placeAt (located (byteAt (now (file .entry)) at)) (now (file .entry)) at ⌝ }
+{
+    if byte_at(file, at) % 2 == 1 {
+        return Place::At(i32_at(file, at + 4), i32_at(file, at + 8));
+    }
+    Place::Missing
+}
+
+fn utc_at(file: &[u8], at: usize) -> Utc
+    requires { ⌜ at < 2 ^ 40 ⌝ }
+    ensures { λ r. ⌜ r ≡ utcAt (timed (byteAt (now (file .entry)) at)) (now (file .entry)) at ⌝ }
+{
+    if byte_at(file, at) / 2 % 2 == 1 {
+        return Utc::At(u64_at(file, at + 12));
+    }
+    Utc::Unknown
+}
+
+fn sample_at(file: &[u8], at: usize) -> Sample
+    requires { ⌜ at < 2 ^ 40 ⌝ }
+    ensures { λ r. ⌜ r ≡ sampleAt (now (file .entry)) at ⌝ }
+{
+    Sample {
+        place: place_at(file, at),
+        utc: utc_at(file, at),
+    }
+}
+
+// Sample `k`, where the record's count reaches it.
+fn sample_of(file: &[u8], index: u32, k: u8) -> Sample
+    requires { ⌜ k < 4 ⌝ }
+    ensures { λ r. ⌜ r ≡ sampleOf (now (file .entry)) index k ⌝ }
+{
+    if k < count_of(file, index) {
+        return sample_at(file, start_of(index) + HEAD + SAMPLE * (k as usize));
+    }
+    Sample {
+        place: Place::Missing,
+        utc: Utc::Unknown,
+    }
+}
+
+fn samples_of(file: &[u8], index: u32) -> [Sample; 4]
+    ensures { λ r. ⌜ r ≡ samplesOf (now (file .entry)) index ⌝ }
+{
+    [
+        sample_of(file, index, 0),
+        sample_of(file, index, 1),
+        sample_of(file, index, 2),
+        sample_of(file, index, 3),
+    ]
+}
+
+// The entry of record `index`. Samples past its count, and what their flags lack, are not read.
+pub fn entry_at(file: &[u8], index: u32) -> Entry
+    ensures { λ r. ⌜ r ≡ entryAt (now (file .entry)) index ⌝ }
+{
+    Entry {
+        ride: ride_of(file, index),
+        kind: kind_of(kind_number(file, index)),
+        count: count_of(file, index),
+        samples: samples_of(file, index),
+    }
+}
+
+// The ride that a restart cut short.
+pub fn recovered(file: &[u8]) -> u32
+    ensures { λ r. ⌜ r ≡ recoveredOf (now (file .entry)) ⌝ }
+{
+    ride_of(file, 0)
+}
+
+// ---- the questions put to an entry
+
+fn asks_place(place: Place) -> u8
+    ensures { λ r. ⌜ r ≡ asksPlace place ⌝ }
+{
+    match place {
+        Place::At(lat, lon) => questions::asks_fix(lat, lon),
+        Place::Missing => 0,
+    }
+}
+
+fn asks_sample(sample: Sample) -> u8
+    ensures { λ r. ⌜ r ≡ asksPlace (sample .place) ⌝ }
+{
+    let place = sample.place;
+    asks_place(place)
+}
+
+// The places of the samples that are used.
+fn asks_used(e: Entry) -> u8
+    requires { ⌜ e .count ≤ 4 ⌝ }
+    ensures { λ r. ⌜ r ≡ asksSamples (used e) ⌝ }
+{
+    let n = e.count as usize;
+    let mut i = 0;
+    while i < n {
+        let asked = asks_sample(e.samples[i]);
+        if asked != 0 {
+            return asked;
+        }
+        i += 1;
+    }
+    0
+}
+
+// An entry of any kind is asked about its count, then about its places.
+pub fn asks_entry(e: Entry) -> u8
+    ensures { λ r. ⌜ r ≡ asksEntry e ⌝ }
+{
+    if SAMPLES < e.count {
+        return 5;
+    }
+    asks_used(e)
+}
+
+// ---- the questions put to a file
+
+fn question6(size: usize) -> bool
+    ensures { λ r. ⌜ r ≡ question6Of size ⌝ }
+{
+    let count = size / RECORD;
+    (size % RECORD == 0) & (1 <= count) & (count <= MOST)
+}
+
+fn question8(kind: u8) -> bool
+    ensures { λ r. ⌜ r ≡ question8Of kind ⌝ }
+{
+    (1 <= kind) & (kind <= 7)
+}
+
+// Whether every next met is below the record count, and none is reached twice. A chain of as many
+// records as there are has reached one of them twice, and one that ends has not.
+fn question7(file: &[u8], count: u32) -> bool
+    requires { ⌜ (count ≡ recordCount (now file)) × (1 ≤ count) ⌝ }
+    ensures { λ r. ⌜ r ≡ question7Of (now (file .entry)) ⌝ }
+{
+    let mut index = next_of(file, 0);
+    let mut left = count;
+    while 0 < left {
+        if index == 0 {
+            return true;
+        }
+        if count <= index {
+            return false;
+        }
+        index = next_of(file, index);
+        left -= 1;
+    }
+    false
+}
+
+fn asks_record(file: &[u8], index: u32) -> u8
+    ensures { λ r. ⌜ r ≡ asksRecord (now (file .entry)) index ⌝ }
+{
+    if !question8(kind_number(file, index)) {
+        return 8;
+    }
+    asks_entry(entry_at(file, index))
+}
+
+// The records along the chain, in its order.
+fn asks_records(file: &[u8], count: u32) -> u8
+    requires { ⌜ count ≡ recordCount (now file) ⌝ }
+    ensures { λ r. ⌜ r ≡ asksRecords (now (file .entry)) (chain (now (file .entry))) ⌝ }
+{
+    let mut index = next_of(file, 0);
+    let mut left = count;
+    while 0 < left {
+        if index == 0 {
+            return 0;
+        }
+        let asked = asks_record(file, index);
+        if asked != 0 {
+            return asked;
+        }
+        index = next_of(file, index);
+        left -= 1;
+    }
+    0
+}
+
+// The number of the first question about the file that says no, 0 where none does.
+pub fn asks_file(file: &[u8]) -> u8
+    ensures { λ r. ⌜ r ≡ asksFile (now (file .entry)) ⌝ }
+{
+    let size = file.len();
+    if !question6(size) {
+        return 6;
+    }
+    let count = (size / RECORD) as u32;
+    if !question7(file, count) {
+        return 7;
+    }
+    asks_records(file, count)
+}
