@@ -1,6 +1,5 @@
 // What a guide answers, as text. Numbers are decimal, an f32 is its pattern in eight hexadecimal capitals,
 // a flag is 0 or 1, and `-` stands for none.
-use script::Question;
 use answers::Ahead;
 use answers::Angle;
 use answers::Back;
@@ -13,6 +12,7 @@ use libc::STDOUT_FILENO;
 use plane::Heading;
 use plane::Point;
 use plane::Spot;
+use script::Question;
 use state::Event;
 use state::Guide;
 use state::Homing;
