@@ -1,0 +1,250 @@
+// After a restart: the breadcrumb and the start of a ride the restart cut short, read back from the log
+// for the ride that carries on from it.
+//
+// The recovered ride's fixes are replayed, then those of the later ride. The later ride's first fix
+// decides whether it carries on: at most `CONTINUE_MS` from the recovered ride's last fix it does; farther
+// apart, or without the time of either, the breadcrumb starts again from it.
+
+use log::Entry;
+use log::Kind;
+use log::Sample;
+use log::Utc;
+use state::Homing;
+use state::Place;
+ghost use mathlib.Core.Path.{_≡_};
+ghost use Prim.Native.Nat.{_≤_};
+ghost use lib.ListN.{length};
+ghost use Rattle.trail.specs.View as trail;
+ghost use Rattle.rebuild.specs.Rebuild.{new, ticked, apart, carriesOn, decide, orElse, skips, meets, visitSample, samplesOf, isLater, visitSamples, visit, caughtUp, settle};
+ghost use Rattle.rebuild.specs.View.{Makes, Settles};
+
+// The later ride carries on if its first fix is this soon after the recovered ride's last.
+const CONTINUE_MS: u64 = 30 * 60_000;
+// The log holds a sample a second while recording.
+const SAMPLE_MS: u64 = 1_000;
+
+const CLOCK_MOST: u64 = 0xFFFF_FFFF_FFFF_FFFF;
+
+pub enum Stage {
+    // Before the later ride's first fix: when the recovered ride's latest fix was, if known.
+    Pending(Utc),
+    // That fix came: the breadcrumb is settled.
+    Decided,
+}
+
+// How far the log is read: the next slot.
+pub struct Walk {
+    pub slot: usize,
+}
+
+pub struct Rebuild {
+    pub recovered: u32,
+    pub walk: Walk,
+    pub stage: Stage,
+    // Time through the replayed samples, for the heading.
+    pub clock_ms: u64,
+}
+
+pub struct Visited {
+    pub rebuild: Rebuild,
+    pub homing: Homing,
+}
+
+// Read ride `recovered` and the ride after it back from a log whose slots below `_upper` are written. The
+// walk begins at slot 0, however many are.
+pub fn new(recovered: u32, _upper: usize) -> Rebuild
+    ensures { λ r. ⌜ r ≡ new recovered ⌝ }
+{
+    Rebuild {
+        recovered,
+        walk: Walk { slot: 0 },
+        stage: Stage::Pending(Utc::Unknown),
+        clock_ms: 0,
+    }
+}
+
+// ---- whether the later ride carries on
+
+fn apart(a: u64, b: u64) -> u64
+    ensures { λ r. ⌜ r ≡ apart a b ⌝ }
+{
+    if a < b {
+        return b - a;
+    }
+    a - b
+}
+
+fn carries_on(last: Utc, first: Utc) -> bool
+    ensures { λ r. ⌜ r ≡ carriesOn last first ⌝ }
+{
+    let Utc::At(a) = last else {
+        return false;
+    };
+    let Utc::At(b) = first else {
+        return false;
+    };
+    apart(a, b) <= CONTINUE_MS
+}
+
+fn decide(r: Rebuild, h: Homing, last: Utc, first: Utc) -> Visited
+    ensures { λ v. ⌜ Settles (decide last first r) h v ⌝ }
+{
+    let rebuild = Rebuild {
+        stage: Stage::Decided,
+        ..r
+    };
+    if carries_on(last, first) {
+        return Visited { rebuild, homing: h };
+    }
+    let homing = steer::reset(h);
+    Visited { rebuild, homing }
+}
+
+// Settle the breadcrumb on a live fix at `utc` instead of the later ride's first one in the log, which a
+// paused ride or a failing medium may never write.
+pub fn settle(r: Rebuild, h: Homing, utc: Utc) -> Visited
+    ensures { λ v. ⌜ Settles (settle utc r) h v ⌝ }
+{
+    let stage = r.stage;
+    match stage {
+        Stage::Pending(last) => decide(r, h, last, utc),
+        Stage::Decided => Visited {
+            rebuild: r,
+            homing: h,
+        },
+    }
+}
+
+// ---- a sample
+
+fn ticked(r: Rebuild) -> Rebuild
+    ensures { λ n. ⌜ n ≡ ticked r ⌝ }
+{
+    if r.clock_ms > CLOCK_MOST - SAMPLE_MS {
+        return Rebuild {
+            clock_ms: CLOCK_MOST,
+            ..r
+        };
+    }
+    Rebuild {
+        clock_ms: r.clock_ms + SAMPLE_MS,
+        ..r
+    }
+}
+
+fn or_else(utc: Utc, before: Utc) -> Utc
+    ensures { λ t. ⌜ t ≡ orElse utc before ⌝ }
+{
+    match utc {
+        Utc::At(_) => utc,
+        Utc::Unknown => before,
+    }
+}
+
+// Once the breadcrumb is settled the recovered ride's fixes are read no more.
+fn skips(stage: Stage, later: bool) -> bool
+    ensures { λ b. ⌜ b ≡ skips stage later ⌝ }
+{
+    match stage {
+        Stage::Pending(_) => false,
+        Stage::Decided => !later,
+    }
+}
+
+// What a fix decides before it is replayed.
+fn meets(r: Rebuild, h: Homing, later: bool, utc: Utc) -> Visited
+    ensures { λ v. ⌜ Settles (meets (r .stage) later utc r) h v ⌝ }
+{
+    let was = r.stage;
+    let Stage::Pending(last) = was else {
+        return Visited {
+            rebuild: r,
+            homing: h,
+        };
+    };
+    if later {
+        return decide(r, h, last, utc);
+    }
+    let latest = or_else(utc, last);
+    let rebuild = Rebuild {
+        stage: Stage::Pending(latest),
+        ..r
+    };
+    Visited { rebuild, homing: h }
+}
+
+// A sample of the recovered ride, or of the later one. The clock goes on with each, located or not.
+fn visit_sample(r: Rebuild, h: Homing, crumbs: &mut [f32], later: bool, sample: Sample) -> Visited
+    requires { ⌜ trail.Fit (h .trail) (length (now crumbs)) ⌝ }
+    ensures { λ v. ⌜ Makes (visitSample later sample r) h (now (crumbs .entry)) v (now (crumbs .exit)) ⌝ }
+{
+    let on = ticked(r);
+    let place = sample.place;
+    let Place::At(lat, lon) = place else {
+        return Visited {
+            rebuild: on,
+            homing: h,
+        };
+    };
+    let stage = on.stage;
+    if skips(stage, later) {
+        return Visited {
+            rebuild: on,
+            homing: h,
+        };
+    }
+    let utc = sample.utc;
+    let met = meets(on, h, later, utc);
+    let rebuild = met.rebuild;
+    let there = met.homing;
+    let homing = fix::replay(there, crumbs, lat, lon, rebuild.clock_ms);
+    Visited { rebuild, homing }
+}
+
+// ---- an entry
+
+// Of the four samples the first `count`.
+fn visit_samples(r: Rebuild, h: Homing, crumbs: &mut [f32], e: Entry) -> Visited
+    requires { ⌜ trail.Fit (h .trail) (length (now crumbs)) ⌝ }
+    requires { ⌜ e .count ≤ 4 ⌝ }
+    ensures { λ v. ⌜ Makes (visitSamples (isLater e r) (samplesOf e) r) h (now (crumbs .entry)) v (now (crumbs .exit)) ⌝ }
+{
+    let later = e.ride != r.recovered;
+    let count = e.count as usize;
+    let mut rebuild = r;
+    let mut homing = h;
+    let mut i = 0;
+    while i < count {
+        let sample = e.samples[i];
+        let v = visit_sample(rebuild, homing, crumbs, later, sample);
+        rebuild = v.rebuild;
+        homing = v.homing;
+        i += 1;
+    }
+    Visited { rebuild, homing }
+}
+
+// Only an entry of samples is read.
+pub fn visit(r: Rebuild, h: Homing, crumbs: &mut [f32], e: Entry) -> Visited
+    requires { ⌜ trail.Fit (h .trail) (length (now crumbs)) ⌝ }
+    requires { ⌜ e .count ≤ 4 ⌝ }
+    ensures { λ v. ⌜ Makes (visit e r) h (now (crumbs .entry)) v (now (crumbs .exit)) ⌝ }
+{
+    let kind = e.kind;
+    let Kind::Samples = kind else {
+        return Visited {
+            rebuild: r,
+            homing: h,
+        };
+    };
+    visit_samples(r, h, crumbs, e)
+}
+
+// ---- the slots
+
+// Every slot below `upper` is read.
+pub fn caught_up(r: Rebuild, upper: usize) -> bool
+    ensures { λ b. ⌜ b ≡ caughtUp upper r ⌝ }
+{
+    upper <= r.walk.slot
+}
