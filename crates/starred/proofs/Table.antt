@@ -22,6 +22,7 @@ use Rattle.motion.specs.Pass.{passArmM, passM, passEndM, fromStage, stepOf}
 use Rattle.state.specs.Guide.{arrow, arrowFrom}
 use Rattle.search.specs.Constants.{onM}
 use Rattle.update.specs.Update.{offM, offNow}
+use Rattle.rebuild.proofs.Starred as rebuild
 use Rattle.starred.specs.Table.{Table}
 
 zeros-level : (s : Bool) (a b : ℕ) → a ≤ b → b ≡ 0 → level s a false b ≡ true
@@ -59,4 +60,8 @@ table =
       not-armed = λ moving. refl;
       stays-on = refl;
       clears = refl;
+      carries-on = rebuild.carries-on;
+      carries-on-back = rebuild.carries-on-back;
+      resets = rebuild.resets;
+      resets-back = rebuild.resets-back;
     }

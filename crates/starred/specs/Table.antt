@@ -1,5 +1,5 @@
 -- Document 01, "For those who test": "Prove the starred lines together as one table about the rules". `proofs/Table.antt` proves it.
-use Prim.Native.Nat.{ℕ, _*_, _%_, _^_, _≤_}
+use Prim.Native.Nat.{ℕ, _+_, _*_, _%_, _^_, _≤_}
 use mathlib.Core.Path.{_≡_}
 use mathlib.Core.Bool.{Bool, true, false}
 use mathlib.Core.List.{List, [], _∷_, map}
@@ -21,6 +21,10 @@ use Rattle.motion.specs.Pass.{stepOf}
 use Rattle.state.specs.declared.Guide.{Guide}
 use Rattle.state.specs.Guide.{arrow}
 use Rattle.update.specs.Update.{offNow}
+use Rattle.calls.specs.Calls.{Reset}
+use Rattle.log.specs.declared.Utc.the-variants as utc
+use Rattle.rebuild.specs.declared.Rebuild.{Rebuild}
+use Rattle.rebuild.specs.Rebuild.{decide}
 
 -- a whole number as an f32
 abbrev pub number : ℕ → Float
@@ -81,3 +85,8 @@ pub record Table : Type 0 where
   -- "Off 50 stays on; 25 clears."
   pub stays-on : offNow false (number 50) ≡ false
   pub clears : offNow true (number 25) ≡ false
+  -- "UTC 1,800,000 ms apart carries on; 1,800,001 resets.", whichever of the two times is the later
+  pub carries-on : (t : ℕ) (r : Rebuild) → decide (utc.At t) (utc.At (t + 1800000)) r .calls ≡ []
+  pub carries-on-back : (t : ℕ) (r : Rebuild) → decide (utc.At (t + 1800000)) (utc.At t) r .calls ≡ []
+  pub resets : (t : ℕ) (r : Rebuild) → decide (utc.At t) (utc.At (t + 1800001)) r .calls ≡ Reset ∷ []
+  pub resets-back : (t : ℕ) (r : Rebuild) → decide (utc.At (t + 1800001)) (utc.At t) r .calls ≡ Reset ∷ []
