@@ -2,5 +2,5 @@
 mod Moving
 mod Growing
 mod Beginning
-mod Arriving
+pub mod Arriving
 mod Turning

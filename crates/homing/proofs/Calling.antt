@@ -92,12 +92,6 @@ module _ (c : Call) (h r : Homing) (entry exit : List Float) where
 pub same-at : (lat lon : ℤ) → mag lat < 2 ^ 31 → mag lon < 2 ^ 31 → place.At (handed lat) (handed lon) ≡ place.At lat lon
 same-at lat lon a b = ap (λ (c : ℤ). place.At c (handed lon)) (toZ-ofZ w32 lat (record { sfits = a })) ∙ ap (λ (d : ℤ). place.At lat d) (toZ-ofZ w32 lon (record { sfits = b }))
 
-abbrev fixAt : ℤ → ℤ → Fix
-fixAt lat lon = record { lat = lat; lon = lon }
-
-pub same-fix : (lat lon : ℤ) → mag lat < 2 ^ 31 → mag lon < 2 ^ 31 → fixAt (handed lat) (handed lon) ≡ fixAt lat lon
-same-fix lat lon a b = ap (λ (c : ℤ). fixAt c (handed lon)) (toZ-ofZ w32 lat (record { sfits = a })) ∙ ap (λ (d : ℤ). fixAt lat d) (toZ-ofZ w32 lon (record { sfits = b }))
-
 -- ---- what the inner functions require
 pub ready : (size : ℕ) (line : List Float) (h : Homing) (b : List Float) → asksBoth size line (stateOf h b) ≡ 0 → Ready h size (length line)
 ready size line h b e =

@@ -23,7 +23,8 @@ use Rattle.log.specs.declared.Utc.the-variants as utc
 use Rattle.log.specs.declared.Sample.{Sample}
 use Rattle.log.specs.declared.Entry.{Entry}
 use Rattle.log.specs.Entry.{nextOf, recordCount, walk, chain, used, kindNumber, entryAt}
-use Rattle.log.specs.Questions.{question6, question7, question8, asksPlace, asksSamples, asksEntry, asksRecord, asksRecords, asksChain, asksFile}
+use Rattle.calls.specs.Calls.{asksPlace}
+use Rattle.log.specs.Questions.{question6, question7, question8, asksSamples, asksEntry, asksRecord, asksRecords, asksChain, asksFile}
 use Rattle.log.proofs.Chain.{and-left, and-right, ends, steps-are}
 
 -- ---- the count of steps

@@ -4,9 +4,8 @@ use mathlib.Core.Bool.{Bool, true, false, not, _&&_, _||_}
 use mathlib.Core.List.{List, [], _∷_}
 use lib.Dec.{leb, ltb, eqb}
 use lib.ListN.{length}
-use Rattle.state.specs.declared.Place.{Place}
-use Rattle.state.specs.declared.Place.the-variants.{At, Missing}
-use Rattle.calls.specs.Questions.{asksFix, unless, _orElse_}
+use Rattle.calls.specs.Questions.{unless, _orElse_}
+use Rattle.calls.specs.Calls.{asksPlace}
 use Rattle.log.specs.declared.Sample.{Sample}
 use Rattle.log.specs.declared.Entry.{Entry}
 use Rattle.log.specs.Entry.{recordCount, chain, kindNumber, entryAt, used}
@@ -39,10 +38,6 @@ unfoldable pub question8 : ℕ → Bool
 question8 kind = leb 1 kind && leb kind 7
 
 -- ---- 2 and 3, of each place that is located
-unfoldable pub asksPlace : Place → ℕ
-asksPlace (At lat lon) = asksFix (record { lat = lat; lon = lon })
-asksPlace Missing = 0
-
 unfoldable pub asksSamples : List Sample → ℕ
 asksSamples [] = 0
 asksSamples (s ∷ l) = asksPlace (s .place) orElse asksSamples l

@@ -5,7 +5,8 @@ use state::Place;
 ghost use mathlib.Core.Path.{_≡_};
 ghost use Prim.Native.Nat.{_*_, _^_, _<_, _≤_};
 ghost use Rattle.log.specs.Entry.{byteAt, u32At, u64At, signed as signedOf, i32At, recordCount, nextOf, rideOf, kindNumber, countOf, kindOf, located, timed, placeAt, utcAt, sampleAt, sampleOf, samplesOf, entryAt, used, recovered as recoveredOf, chain};
-ghost use Rattle.log.specs.Questions.{question6 as question6Of, question7 as question7Of, question8 as question8Of, asksPlace, asksSamples, asksEntry, asksRecord, asksRecords, asksFile};
+ghost use Rattle.calls.specs.Calls.{asksPlace};
+ghost use Rattle.log.specs.Questions.{question6 as question6Of, question7 as question7Of, question8 as question8Of, asksSamples, asksEntry, asksRecord, asksRecords, asksFile};
 
 // What an entry is, 1 to 7.
 pub enum Kind {

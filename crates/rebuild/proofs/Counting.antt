@@ -25,7 +25,8 @@ use Rattle.rebuild.specs.declared.Stage.{Stage}
 use Rattle.rebuild.specs.declared.Stage.the-variants as stage
 use Rattle.rebuild.specs.declared.Rebuild.{Rebuild}
 use Rattle.rebuild.specs.Made.{quiet, _then_, perform}
-use Rattle.rebuild.specs.Rebuild.{ticked, carriesOn, decide, skips, meets, replays, visitFix, visitPlace, visitSample, visitSamples, samplesOf, isLater, visitKind, visit, caughtUp, look, pastSlot, walk, settleFrom, settle}
+use Rattle.log.specs.Entry.{used}
+use Rattle.rebuild.specs.Rebuild.{ticked, carriesOn, decide, skips, meets, replays, visitFix, visitPlace, visitSample, visitSamples, isLater, visitKind, visit, caughtUp, look, pastSlot, walk, settleFrom, settle}
 use Rattle.rebuild.proofs.Keeping.{oneOf}
 use Rattle.rebuild.proofs.Theorems.{journal-same}
 
@@ -55,7 +56,7 @@ SamplesOnGlobe (x ∷ xs) = PlaceOnGlobe (x .place) × SamplesOnGlobe xs
 
 abbrev pub SlotOnGlobe : Option Entry → Type 0
 SlotOnGlobe none = Unit {0}
-SlotOnGlobe (some e) = SamplesOnGlobe (samplesOf e)
+SlotOnGlobe (some e) = SamplesOnGlobe (used e)
 
 decide-makes : (last first : Utc) (r : Rebuild) → Rebuilding (decide last first r .calls)
 unfolding decide
@@ -89,9 +90,9 @@ unfolding visitSamples visitSample
 samples-make later [] r on = nothing
 samples-make later (x ∷ xs) r on = both (place-makes (x .place) later (x .utc) (ticked r) (on .0)) (samples-make later xs _ (on .1))
 
-kind-makes : (k : Kind) (e : Entry) (r : Rebuild) → SamplesOnGlobe (samplesOf e) → Rebuilding (visitKind k e r .calls)
+kind-makes : (k : Kind) (e : Entry) (r : Rebuild) → SamplesOnGlobe (used e) → Rebuilding (visitKind k e r .calls)
 unfolding visitKind
-kind-makes kind.Samples e r on = samples-make (isLater e r) (samplesOf e) r on
+kind-makes kind.Samples e r on = samples-make (isLater e r) (used e) r on
 kind-makes kind.Start e r on = nothing
 kind-makes kind.Pause e r on = nothing
 kind-makes kind.Resume e r on = nothing
@@ -99,7 +100,7 @@ kind-makes kind.Finish e r on = nothing
 kind-makes kind.Recovered e r on = nothing
 kind-makes kind.Full e r on = nothing
 
-pub visit-makes : (e : Entry) (r : Rebuild) → SamplesOnGlobe (samplesOf e) → Rebuilding (visit e r .calls)
+pub visit-makes : (e : Entry) (r : Rebuild) → SamplesOnGlobe (used e) → Rebuilding (visit e r .calls)
 unfolding visit
 visit-makes e r on = kind-makes (e .kind) e r on
 

@@ -16,7 +16,8 @@ use Rattle.rebuild.specs.declared.Stage.{Stage}
 use Rattle.rebuild.specs.declared.Stage.the-variants as stage
 use Rattle.rebuild.specs.declared.Rebuild.{Rebuild}
 use Rattle.rebuild.specs.Made.{Made, quiet, _then_}
-use Rattle.rebuild.specs.Rebuild.{ticked, decide, skips, meets, replays, visitFix, visitPlace, visitSample, visitSamples, samplesOf, isLater, visitKind, visit, look}
+use Rattle.log.specs.Entry.{used}
+use Rattle.rebuild.specs.Rebuild.{ticked, decide, skips, meets, replays, visitFix, visitPlace, visitSample, visitSamples, isLater, visitKind, visit, look}
 
 pub record Keeps (r n : Rebuild) : Type 0 where
   pub walk : n .walk ≡ r .walk
@@ -66,7 +67,7 @@ samples-keep later (x ∷ xs) r = both (sample-keeps later x r) (samples-keep la
 
 kind-keeps : (k : Kind) (e : Entry) (r : Rebuild) → Keeps r (visitKind k e r .rebuild)
 unfolding visitKind
-kind-keeps kind.Samples e r = samples-keep (isLater e r) (samplesOf e) r
+kind-keeps kind.Samples e r = samples-keep (isLater e r) (used e) r
 kind-keeps kind.Start e r = kept r
 kind-keeps kind.Pause e r = kept r
 kind-keeps kind.Resume e r = kept r

@@ -63,13 +63,6 @@ module _ (later : Bool) (x : Sample) (r on : Rebuild) (ticks : on ≡ ticked r) 
         (settled _ h entry met fit m)
         (replayed f (met .rebuild) (met .homing) n entry exit k))
 
--- a fix that is handed on by its bits is the same
-abbrev pub fixAt : ℤ → ℤ → Fix
-fixAt lat lon = record { lat = lat; lon = lon }
-
-pub handed-fix : (lat lon : ℤ) → mag lat < 2 ^ 31 → mag lon < 2 ^ 31 → fixAt (handed lat) (handed lon) ≡ fixAt lat lon
-handed-fix lat lon a b = ap₂ fixAt (toZ-ofZ w32 lat (record { sfits = a })) (toZ-ofZ w32 lon (record { sfits = b }))
-
 -- ---- the clock
 pub clock-stops : (clock : ℕ) → clockMost - sampleMs < clock → clockMost ≡ min (clock + sampleMs) clockMost
 clock-stops clock h = omega arith

@@ -4,7 +4,6 @@ use mathlib.Core.Bool.{Bool, true, false, _&&_, not, cond}
 use mathlib.Core.List.{List, [], _∷_}
 use mathlib.Core.Option.{Option, none, some}
 use lib.Dec.{leb, eqb}
-use lib.ListN.{take}
 use Rattle.state.specs.declared.Place.{Place}
 use Rattle.state.specs.declared.Place.the-variants as place
 use Rattle.log.specs.declared.Kind.{Kind}
@@ -13,6 +12,7 @@ use Rattle.log.specs.declared.Utc.{Utc}
 use Rattle.log.specs.declared.Utc.the-variants as utc
 use Rattle.log.specs.declared.Sample.{Sample}
 use Rattle.log.specs.declared.Entry.{Entry}
+use Rattle.log.specs.Entry.{used}
 use Rattle.course.specs.Fix.{Fix}
 use Rattle.calls.specs.Calls.{Reset, Replay}
 use Rattle.rebuild.specs.declared.Stage.{Stage}
@@ -100,16 +100,12 @@ visitSamples later [] r = quiet r
 visitSamples later (x ∷ xs) r = visitSample later x r then λ next. visitSamples later xs next
 
 -- ---- an entry
--- "An entry carries four samples, of which count are used."
-unfoldable pub samplesOf : Entry → List Sample
-samplesOf e = take (e .count) (e .samples)
-
 -- whether an entry is of the ride that may carry on, and not of the recovered one
 unfoldable pub isLater : Entry → Rebuild → Bool
 isLater e r = not (eqb (e .ride) (r .recovered))
 
 unfoldable pub visitKind : Kind → Entry → Rebuild → Made
-visitKind kind.Samples e r = visitSamples (isLater e r) (samplesOf e) r
+visitKind kind.Samples e r = visitSamples (isLater e r) (used e) r
 visitKind kind.Start e r = quiet r
 visitKind kind.Pause e r = quiet r
 visitKind kind.Resume e r = quiet r

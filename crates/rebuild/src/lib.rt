@@ -15,7 +15,8 @@ ghost use mathlib.Core.Path.{_≡_};
 ghost use Prim.Native.Nat.{_≤_};
 ghost use lib.ListN.{length};
 ghost use Rattle.trail.specs.View as trail;
-ghost use Rattle.rebuild.specs.Rebuild.{new, ticked, apart, carriesOn, decide, orElse, skips, meets, visitSample, samplesOf, isLater, visitSamples, visit, caughtUp, settle};
+ghost use Rattle.log.specs.Entry.{used};
+ghost use Rattle.rebuild.specs.Rebuild.{new, ticked, apart, carriesOn, decide, orElse, skips, meets, visitSample, isLater, visitSamples, visit, caughtUp, settle};
 ghost use Rattle.rebuild.specs.View.{Makes, Settles};
 
 // The later ride carries on if its first fix is this soon after the recovered ride's last.
@@ -207,7 +208,7 @@ fn visit_sample(r: Rebuild, h: Homing, crumbs: &mut [f32], later: bool, sample: 
 fn visit_samples(r: Rebuild, h: Homing, crumbs: &mut [f32], e: Entry) -> Visited
     requires { ⌜ trail.Fit (h .trail) (length (now crumbs)) ⌝ }
     requires { ⌜ e .count ≤ 4 ⌝ }
-    ensures { λ v. ⌜ Makes (visitSamples (isLater e r) (samplesOf e) r) h (now (crumbs .entry)) v (now (crumbs .exit)) ⌝ }
+    ensures { λ v. ⌜ Makes (visitSamples (isLater e r) (used e) r) h (now (crumbs .entry)) v (now (crumbs .exit)) ⌝ }
 {
     let later = e.ride != r.recovered;
     let count = e.count as usize;

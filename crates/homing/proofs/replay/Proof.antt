@@ -13,7 +13,8 @@ use Rattle.answers.proofs.Answering.{no, yes}
 use Rattle.homing.specs.declared.Changed.{Changed}
 use Rattle.homing.specs.Answers.{saysReply}
 use Rattle.homing.specs.Promises.{Replays}
-use Rattle.homing.proofs.Calling.{or-zero, refuses, takes-rule, same-fix}
+use Rattle.fix.proofs.Arriving.{handed-fix}
+use Rattle.homing.proofs.Calling.{or-zero, refuses, takes-rule}
 use borrow.Author.Needs.{needs}
 use Rattle.homing.proofs.replay.Statement.{statement}
 use Rattle.homing.proofs.replay.Tie as tie
@@ -35,7 +36,7 @@ returns c =
     let b = now (g .crumbs) in
     let x : Fix = record { lat = g .lat; lon = g .lon } in
     let e = c .before .before .asks-replay .ensures (g .at-ms)
-    ∙ ap (λ (y : Fix). asks (length b) (call.Replay y (g .at-ms)) (stateOf (g .h) b)) (same-fix (g .lat) (g .lon) (s .fits .lat .sfits) (s .fits .lon .sfits)) in
+    ∙ ap (λ (y : Fix). asks (length b) (call.Replay y (g .at-ms)) (stateOf (g .h) b)) (handed-fix (g .lat) (g .lon) (s .fits .lat .sfits) (s .fits .lon .sfits)) in
     subst (λ (r : Changed). Replays x (g .at-ms) (g .h) b r b) (sym (c .refused .ensures))
     (record {
       answered = no e tt (c .before .if1 .taken);
@@ -61,7 +62,7 @@ returns-2 c =
     let g = s .args in
     let b = now (g .crumbs) in
     let x : Fix = record { lat = g .lat; lon = g .lon } in
-    let same = same-fix (g .lat) (g .lon) (s .fits .lat .sfits) (s .fits .lon .sfits) in
+    let same = handed-fix (g .lat) (g .lon) (s .fits .lat .sfits) (s .fits .lon .sfits) in
     let e = c .before .before .before .before .before .before .asks-replay .ensures (g .at-ms) ∙ ap (λ (y : Fix). asks (length b) (call.Replay y (g .at-ms)) (stateOf (g .h) b)) same in
     let k = c .before .before .before .replay in
     let C = capacity (length b) in

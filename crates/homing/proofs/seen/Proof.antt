@@ -13,7 +13,8 @@ use Rattle.calls.specs.Calls as call
 use Rattle.calls.specs.Calls.{asks, courseIn, performs}
 use Rattle.answers.proofs.Answering.{no, yes}
 use Rattle.homing.specs.Answers.{saysSight}
-use Rattle.homing.proofs.Calling.{or-zero, refuses, takes-rule, same-at, same-fix, ready}
+use Rattle.fix.proofs.Arriving.{handed-fix}
+use Rattle.homing.proofs.Calling.{or-zero, refuses, takes-rule, same-at, ready}
 use borrow.Author.Needs.{needs}
 use Rattle.homing.proofs.seen.Statement.{statement}
 use Rattle.homing.proofs.seen.Tie as tie
@@ -53,7 +54,7 @@ returns-2 c =
     let g = s .args in
     let b = now (g .crumbs) in
     let l = courseIn (now (g .line)) (stateOf (g .h) b) in
-    let same = same-fix (g .lat) (g .lon) (s .fits .lat .sfits) (s .fits .lon .sfits) in
+    let same = handed-fix (g .lat) (g .lon) (s .fits .lat .sfits) (s .fits .lon .sfits) in
     let e = c .before .before .before .before .before .before .asks-seen .ensures (g .now-ms)
     ∙ ap (λ (x : Place). asks (length b) (call.Observe (now (g .line)) x (g .now-ms)) (stateOf (g .h) b)) (same-at (g .lat) (g .lon) (s .fits .lat .sfits) (s .fits .lon .sfits)) in
     let u = c .before .before .before .seen in

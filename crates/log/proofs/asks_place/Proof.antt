@@ -1,6 +1,6 @@
 -- `log::asks_place` meets its contract. Assumes nothing.
 use mathlib.Core.Path.{sym, ap}
-use Rattle.log.specs.Questions.{asksPlace}
+use Rattle.calls.specs.Calls.{asksPlace}
 use Rattle.log.proofs.Asking.{place-asked}
 use borrow.Author.Needs.{needs}
 use Rattle.log.proofs.asks_place.Statement.{statement}

@@ -5,7 +5,8 @@ use lib.ListN.{length}
 use Rattle.follow.specs.View.{Follows}
 use Rattle.course.specs.Fix.{Fix}
 use Rattle.calls.specs.Fix.{replay}
-use Rattle.rebuild.proofs.Visiting.{unlocated, skipped, not-skipped, fixAt, handed-fix}
+use Rattle.fix.proofs.Arriving.{fixAt, handed-fix}
+use Rattle.rebuild.proofs.Visiting.{unlocated, skipped, not-skipped}
 use borrow.Author.Needs.{needs}
 use Rattle.rebuild.proofs.visit_sample.Statement.{statement}
 use Rattle.rebuild.proofs.visit_sample.Tie as tie

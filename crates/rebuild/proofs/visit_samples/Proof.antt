@@ -3,7 +3,8 @@ use Prim.Native.Nat.{_-_, _≤_}
 use native.Mathlib.Omega.{arith}
 use mathlib.Core.Path.{_≡_, sym, _∙_, subst}
 use lib.ListN.{length, length-map}
-use Rattle.rebuild.specs.Rebuild.{samplesOf, isLater}
+use Rattle.log.specs.Entry.{used}
+use Rattle.rebuild.specs.Rebuild.{isLater}
 use Rattle.rebuild.proofs.Visiting.{Going, going-start, going-on, going-out}
 use borrow.Author.Needs.{needs}
 use Rattle.rebuild.proofs.visit_samples.Statement.{statement}
@@ -48,7 +49,7 @@ same-length : tie.Need-same-length Inv-loop μ-loop
 same-length c = c .before .loop .inv .made .size
 
 returns : tie.Need-returns Inv-loop μ-loop
-unfolding samplesOf isLater
+unfolding used isLater
 returns c = going-out (c .before .loop .inv) (c .loop-test .left)
 
 pub visit-samples-spec : {M : Type 1} → statement M
