@@ -1,8 +1,11 @@
-//! Puts the handed-over sources in place, byte for byte, beside the stand-ins for what is missing.
-//! `probe.rs` follows the text of homing.rs. The sources are in the folder `SEEDS`, else in
-//! `shared/docs/src` beside the project.
+//! Puts the handed-over sources in place, byte for byte, beside the stand-ins for what is missing,
+//! and copies of homing.rs and thin.rs with the edits of `copies.rs`. `probe.rs` follows the text of
+//! each homing.rs. The sources are in the folder `SEEDS`, else in `shared/docs/src` beside the
+//! project.
 use std::path::{Path, PathBuf};
 use std::{env, fs};
+
+mod copies;
 
 /// Sources, by their path below apps/vana/src.
 const SOURCES: [&str; 6] = [
@@ -24,23 +27,62 @@ const STANDINS: [&str; 5] = [
 
 fn main() {
     println!("cargo::rerun-if-env-changed=SEEDS");
+    println!("cargo::rerun-if-changed=copies.rs");
+    println!("cargo::rerun-if-changed=build.rs");
     let package = PathBuf::from(env::var_os("CARGO_MANIFEST_DIR").unwrap());
     let out = PathBuf::from(env::var_os("OUT_DIR").unwrap());
     let beside = package.join("../../../shared/docs/src");
     let seeds = env::var_os("SEEDS").map_or(beside, PathBuf::from);
-    for path in SOURCES {
+    let source = |path: &str| {
         let name = format!("src--apps--vana--src--{}.txt", path.replace('/', "--"));
-        let mut text = read(&seeds.join(name));
-        if path == "ride/homing.rs" {
-            text += &read(&package.join("probe.rs"));
-        }
-        write(&out.join(path), &text);
+        read(&seeds.join(name))
+    };
+    let probe = read(&package.join("probe.rs"));
+    for path in SOURCES {
+        let more = if path == "ride/homing.rs" { probe.as_str() } else { "" };
+        write(&out.join(path), &(source(path) + more));
     }
     for path in STANDINS {
         write(&out.join(path), &read(&package.join("../standin").join(path)));
     }
-    let module = out.join("ride/mod.rs");
-    write(&out.join("vana.rs"), &format!("#[path = {module:?}]\npub mod ride;\n"));
+    let mut modules = module(&out, "ride");
+    for (name, edits) in [("added", added()), ("mistaken", mistaken())] {
+        let mut texts = [source("ride/homing.rs"), source("ride/thin.rs")];
+        edits.iter().for_each(|edit| replace(&mut texts, edit));
+        let [homing, thin] = texts;
+        write(&out.join(name).join("homing.rs"), &(homing + &probe));
+        write(&out.join(name).join("homing/rebuild.rs"), &source("ride/homing/rebuild.rs"));
+        write(&out.join(name).join("thin.rs"), &thin);
+        write(&out.join(name).join("mod.rs"), "pub mod homing;\npub mod thin;\n");
+        modules += &module(&out, name);
+    }
+    write(&out.join("vana.rs"), &modules);
+}
+
+type Edit = (&'static str, String);
+
+fn added() -> Vec<Edit> {
+    [copies::BESIDE, copies::ADDED].map(|(old, new)| (old, new.to_owned())).into()
+}
+
+/// As `added`, and the mistakes, each numbered by its place.
+fn mistaken() -> Vec<Edit> {
+    let made = |k| format!("crate::mistakes::made({k})");
+    let mistakes = copies::MISTAKES.iter().enumerate();
+    added()
+        .into_iter()
+        .chain(mistakes.map(|(k, (_, (old, new)))| (*old, new.replace("MADE", &made(k)))))
+        .collect()
+}
+
+fn replace(texts: &mut [String; 2], (old, new): &Edit) {
+    let found: usize = texts.iter().map(|text| text.matches(old).count()).sum();
+    assert_eq!(found, 1, "times that the sources have this text: {old}");
+    *texts = texts.each_ref().map(|text| text.replace(old, new));
+}
+
+fn module(out: &Path, name: &str) -> String {
+    format!("#[path = {:?}]\npub mod {name};\n", out.join(name).join("mod.rs"))
 }
 
 fn read(path: &Path) -> String {

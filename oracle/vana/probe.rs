@@ -1,6 +1,7 @@
 /// What is private above, for the comparison. Follows the copy of homing.rs; see build.rs.
 pub mod probe {
     use super::{Homing, Line, Point};
+    use crate::state::State;
 
     pub fn distance(a: Point, b: Point) -> f32 {
         super::distance(a, b)
@@ -38,28 +39,6 @@ pub mod probe {
         homing.frame(lat, lon)
     }
 
-    /// Of a guide's private state what the coverage of a script reads.
-    #[derive(Clone, Copy)]
-    pub struct State {
-        pub capacity: usize,
-        pub len: usize,
-        pub tolerance: f32,
-        pub window_len: usize,
-        pub line_len: usize,
-        pub unplaced: bool,
-        pub join_fixes: u8,
-        pub origin: Option<(i32, i32)>,
-        pub fed: Option<(i32, i32)>,
-        pub here: Option<Point>,
-        pub here_ms: u64,
-        pub heading: Option<u16>,
-        pub breadcrumb: bool,
-        pub course: bool,
-        pub retrace: u8,
-        pub off: bool,
-        pub updated_ms: u64,
-    }
-
     pub fn state(homing: &Homing) -> State {
         State {
             capacity: homing.crumbs.len(),
@@ -70,14 +49,17 @@ pub mod probe {
             unplaced: homing.unplaced,
             join_fixes: homing.join_fixes,
             origin: homing.origin,
+            east_per_e7: homing.east_per_e7,
             fed: homing.fed,
             here: homing.here,
             here_ms: homing.here_ms,
             heading: homing.heading,
             breadcrumb: homing.following == Some(Line::Breadcrumb),
             course: homing.following == Some(Line::Course),
+            matched: homing.matched.is_some(),
             retrace: homing.retrace,
             off: homing.off,
+            arrived: homing.arrived,
             updated_ms: homing.updated_ms,
         }
     }

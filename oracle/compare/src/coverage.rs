@@ -1,21 +1,39 @@
 //! What a script's calls meet, seen through the guide's private state: classes of calls, thinnings,
 //! and where the domain of comparison ends.
 use crate::script::Call;
-use crate::transcript::{Answer, EVENTS, Guide, MODES};
-use vana::ride::homing::probe::State;
+use crate::transcript::{Answer, Answers, EVENTS, Guide, MODES};
+use vana::state::State;
 
-/// A call with what it answered, the state before and after it, and the guide after it.
+/// A call with what it answered, the state before and after it, and what the guide answers after it.
 pub struct Step<'a> {
     pub call: &'a Call,
     pub answer: Answer,
     pub before: State,
     pub after: State,
-    pub guide: Option<Guide>,
+    pub answers: Answers,
+    /// The domain of comparison holds.
+    pub inside: bool,
+    /// Why it ends with this call.
+    pub leaves: Option<&'static str>,
+    /// It begins again with this call.
+    pub returns: bool,
 }
 
 impl Step<'_> {
     fn observes(&self) -> bool {
-        matches!(self.call, Call::Observe(Some(_), _))
+        matches!(self.call, Call::Observe(Some(_), _)) && !self.refused()
+    }
+
+    fn replays(&self) -> bool {
+        matches!(self.call, Call::Replay(..)) && !self.refused()
+    }
+
+    fn refused(&self) -> bool {
+        matches!(self.answer, Answer::Refused(_))
+    }
+
+    fn refused_by(&self, question: u8) -> bool {
+        self.answer == Answer::Refused(question)
     }
 
     /// The fix is missing, and there was a place.
@@ -29,7 +47,7 @@ impl Step<'_> {
 
     /// Whether such a guide is shown after a fix.
     fn shows(&self, such: impl Fn(Guide) -> bool) -> bool {
-        self.observes() && self.guide.is_some_and(such)
+        self.observes() && self.answers.guide.is_some_and(such)
     }
 
     fn mode(&self, name: &str) -> bool {
@@ -38,7 +56,7 @@ impl Step<'_> {
 
     /// The fix is the one before again.
     fn repeats(&self) -> bool {
-        matches!(self.call, Call::Observe(Some(fix), _) if self.before.fed == Some(*fix))
+        matches!(self.call, Call::Observe(fix, _) if fix.is_some() && self.before.fed == *fix)
     }
 
     fn too_early(&self) -> bool {
@@ -90,20 +108,58 @@ impl Step<'_> {
         self.passes()?;
         let found = if self.observes() { &self.after } else { &self.before };
         if found.retrace > 0 {
-            return Some("a thinning finds `retrace` above 0");
+            return Some(RETRACE);
         }
-        self.before.breadcrumb.then_some("a thinning finds the breadcrumb followed")
+        self.before.breadcrumb.then_some(FOLLOWED)
     }
 }
+
+const RETRACE: &str = "a thinning finds `retrace` above 0";
+const FOLLOWED: &str = "a thinning finds the breadcrumb followed";
 
 fn follows(state: &State) -> bool {
     state.breadcrumb || state.course
 }
 
+impl Step<'_> {
+    /// The fix given lies at a pole.
+    fn pole(&self) -> bool {
+        let (Call::Observe(Some((lat, _)), _) | Call::Replay((lat, _), _)) = self.call else {
+            return false;
+        };
+        lat.abs() == 900_000_000
+    }
+
+    /// A follow of the breadcrumb ends, other than by a reset or a thinning.
+    fn stops(&self) -> bool {
+        let ended = self.before.breadcrumb && !self.after.breadcrumb;
+        ended && *self.call != Call::Reset && !self.replays()
+    }
+
+    /// The points of the course that is set.
+    fn points(&self) -> Option<usize> {
+        match self.call {
+            Call::SetCourse(places) if !self.refused() => Some(places.len()),
+            _ => None,
+        }
+    }
+
+    fn clock_jumps(&self) -> bool {
+        matches!(self.call, Call::Observe(_, now) if *now > self.before.here_ms + 3_600_000)
+            && self.before.here.is_some()
+    }
+
+    /// Metres along the breadcrumb.
+    fn along(&self) -> f32 {
+        self.answers.crumbs.last().map_or(0.0, |crumb| f32::from_bits(crumb.0[2]))
+    }
+}
+
 /// A name, and what holds of the class's calls.
 type Class = (&'static str, fn(&Step) -> bool);
 
-const CLASSES: [Class; 48] = [
+/// What a list of calls inside the domain has to meet.
+const CLASSES: &[Class] = &[
     ("event following: turn-round", |s| s.event("following") && s.after.breadcrumb),
     ("event following: course joined", |s| s.event("following") && s.after.course),
     ("event off_track: first, breadcrumb", |s| {
@@ -127,6 +183,7 @@ const CLASSES: [Class; 48] = [
     ("turn-round broken off", |s| s.event("-") && s.before.retrace > 0 && s.after.retrace == 0),
     ("join counted", |s| s.after.join_fixes > s.before.join_fixes),
     ("join broken off", |s| s.event("-") && s.before.join_fixes > 0 && s.after.join_fixes == 0),
+    ("breadcrumb stopped with a match", |s| s.stops() && s.before.matched),
     ("window full, 48", |s| s.before.window_len == 48 && s.after.window_len == 1),
     ("fix missing, place stays", |s| s.misses() && s.after.here.is_some()),
     ("fix missing, place cleared", |s| s.misses() && s.after.here.is_none()),
@@ -136,12 +193,16 @@ const CLASSES: [Class; 48] = [
     ("heading stale", |s| s.observes() && s.before.heading.is_some() && s.after.heading.is_none()),
     ("wrap", |s| s.east_e7().abs() > 1_800_000_000),
     ("half a turn, no wrap", |s| s.east_e7().abs() == 1_800_000_000),
+    ("pole", |s| s.pole() && !s.refused()),
+    ("east factor 0", |s| s.observes() && s.after.east_per_e7 == 0.0),
     ("thinning, 1 pass", |s| s.passes() == Some(1)),
     ("thinning, 2 to 17 passes", |s| s.passes().is_some_and(|passes| (2..18).contains(&passes))),
     ("thinning, 18 passes", |s| s.passes() == Some(18)),
     ("thinning, course followed", |s| s.passes().is_some() && s.before.course),
     ("thinning in set_following", |s| s.passes().is_some() && s.sets_following(true)),
-    ("thinning in replay", |s| s.passes().is_some() && matches!(s.call, Call::Replay(..))),
+    ("thinning in replay", |s| s.passes().is_some() && s.replays()),
+    ("replay, breadcrumb followed", |s| s.replays() && s.before.breadcrumb),
+    ("replay, course followed", |s| s.replays() && s.before.course),
     ("set_following 1: breadcrumb", |s| s.starts_by_hand() && s.after.breadcrumb),
     ("set_following 1: course", |s| s.starts_by_hand() && s.after.course),
     ("set_following 1: no way back", |s| s.sets_following(true) && s.answer == Answer::Flag(false)),
@@ -151,50 +212,163 @@ const CLASSES: [Class; 48] = [
         *s.call == Call::SetAutoFollow(false) && follows(&s.before) && !follows(&s.after)
     }),
     ("set_auto_follow 1", |s| *s.call == Call::SetAutoFollow(true)),
-    ("set_course: placed", |s| matches!(s.call, Call::SetCourse(_)) && s.after.line_len >= 2),
-    ("set_course: waits for a fix", |s| matches!(s.call, Call::SetCourse(_)) && s.after.unplaced),
-    ("set_course: emptied", |s| matches!(s.call, Call::SetCourse(places) if places.len() < 2)),
+    ("set_course: placed", |s| s.points().is_some() && s.after.line_len >= 2),
+    ("set_course: waits for a fix", |s| s.points().is_some() && s.after.unplaced),
+    ("set_course: 0 points", |s| s.points() == Some(0)),
+    ("set_course: 1 point", |s| s.points() == Some(1)),
+    ("set_course: course followed", |s| s.points().is_some() && s.before.course),
+    ("set_course: breadcrumb followed", |s| s.points().is_some() && s.before.breadcrumb),
     ("end_replay", |s| *s.call == Call::EndReplay),
     ("reset", |s| *s.call == Call::Reset),
+    ("refused by question 2", |s| s.refused_by(2)),
+    ("refused by question 3", |s| s.refused_by(3)),
+    ("refused by question 4", |s| s.refused_by(4)),
 ];
+
+/// What random scripts have to meet besides.
+const RANDOM: &[Class] = &[
+    ("breadcrumb stopped without a match", |s| s.stops() && !s.before.matched),
+    ("refused follow with points in the window", |s| {
+        s.sets_following(true) && s.answer == Answer::Flag(false) && s.before.window_len > 0
+    }),
+    ("event following, nothing followed", |s| s.event("following") && !follows(&s.after)),
+    ("set_following 1: true, nothing followed", |s| {
+        s.sets_following(true) && s.answer == Answer::Flag(true) && !follows(&s.after)
+    }),
+    ("arrived without the event", |s| s.after.arrived && !s.before.arrived && !s.event("arrived")),
+    ("set_course: 2 points", |s| s.points() == Some(2)),
+    ("set_course: 300 points or more", |s| s.points().is_some_and(|points| points >= 300)),
+    ("clock jumps an hour", |s| s.clock_jumps()),
+    ("clock at its largest", |s| matches!(s.call, Call::Observe(_, u64::MAX))),
+    ("breadcrumb of 2^24 m", |s| s.along() >= 16_777_216.0),
+    ("breadcrumb of 2^32 m", |s| s.along() >= 4_294_967_296.0),
+    ("thinning of 4,096 crumbs", |s| s.passes().is_some() && s.before.capacity == 4_096),
+    ("reset, breadcrumb followed", |s| *s.call == Call::Reset && s.before.breadcrumb),
+    ("reset, course followed", |s| *s.call == Call::Reset && s.before.course),
+    ("domain ends: retrace above 0", |s| s.leaves == Some(RETRACE)),
+    ("domain ends: breadcrumb followed", |s| s.leaves == Some(FOLLOWED)),
+    ("outside the domain", |s| !s.inside),
+    ("outside the domain: thinning", |s| !s.inside && s.passes().is_some()),
+    ("outside the domain: turn-round", |s| !s.inside && s.event("following") && s.after.breadcrumb),
+    ("outside the domain: dropped", |s| !s.inside && s.event("dropped")),
+    ("outside the domain: reset ends it", |s| s.returns),
+];
+
+/// The most passes of a thinning.
+const PASSES: usize = 18;
+
+/// Calls, and scripts with such a call.
+#[derive(Clone, Copy, Default)]
+struct Met {
+    calls: u64,
+    scripts: u64,
+    /// The script under way has one.
+    here: bool,
+}
+
+impl Met {
+    fn note(&mut self, meets: bool) {
+        self.calls += u64::from(meets);
+        self.here |= meets;
+    }
+
+    fn end_script(&mut self) {
+        self.scripts += u64::from(std::mem::take(&mut self.here));
+    }
+}
 
 /// How many calls of each class there were, and how many thinnings of each number of passes.
 pub struct Coverage {
+    scripts: u64,
     calls: u64,
-    met: [u64; CLASSES.len()],
-    passes: [u64; 19],
+    inside: u64,
+    met: Vec<Met>,
+    passes: [Met; PASSES],
 }
 
 impl Default for Coverage {
     fn default() -> Self {
-        Self { calls: 0, met: [0; CLASSES.len()], passes: [0; 19] }
+        let met = vec![Met::default(); CLASSES.len() + RANDOM.len()];
+        Self { scripts: 0, calls: 0, inside: 0, met, passes: [Met::default(); PASSES] }
     }
+}
+
+fn classes() -> impl Iterator<Item = &'static Class> {
+    CLASSES.iter().chain(RANDOM)
 }
 
 impl Coverage {
     pub fn note(&mut self, step: &Step) {
         self.calls += 1;
-        for ((_, meets), met) in CLASSES.iter().zip(&mut self.met) {
-            *met += u64::from(meets(step));
+        self.inside += u64::from(step.inside);
+        for ((_, meets), met) in classes().zip(&mut self.met) {
+            met.note(meets(step));
         }
         if let Some(passes) = step.passes() {
-            self.passes[passes as usize] += 1;
+            self.passes[passes as usize - 1].note(true);
         }
     }
 
-    /// The classes that no call met.
-    pub fn unmet(&self) -> Vec<&'static str> {
-        let unmet = CLASSES.iter().zip(self.met).filter(|(_, met)| *met == 0);
-        unmet.map(|((name, _), _)| *name).collect()
+    pub fn end_script(&mut self) {
+        self.scripts += 1;
+        self.met.iter_mut().chain(&mut self.passes).for_each(Met::end_script);
+    }
+
+    pub fn add(&mut self, other: &Self) {
+        self.scripts += other.scripts;
+        self.calls += other.calls;
+        self.inside += other.inside;
+        let others = other.met.iter().chain(&other.passes);
+        for (met, other) in self.met.iter_mut().chain(&mut self.passes).zip(others) {
+            met.calls += other.calls;
+            met.scripts += other.scripts;
+        }
+    }
+
+    /// Scripts and calls.
+    pub fn size(&self) -> (u64, u64) {
+        (self.scripts, self.calls)
+    }
+
+    /// Names and counts.
+    fn table(&self) -> impl Iterator<Item = (String, Met)> {
+        let classes = classes().map(|(name, _)| (*name).to_owned());
+        let passes = (1..=PASSES).map(|passes| format!("thinning of {passes} passes"));
+        classes.zip(self.met.clone()).chain(passes.zip(self.passes))
+    }
+
+    fn unmet_of(&self, first: usize) -> Vec<String> {
+        let unmet = self.table().take(first).filter(|(_, met)| met.calls == 0);
+        unmet.map(|(name, _)| name).collect()
+    }
+
+    /// The classes of a list inside the domain that no call met.
+    pub fn unmet(&self) -> Vec<String> {
+        self.unmet_of(CLASSES.len())
+    }
+
+    /// The classes that no call of random scripts met.
+    pub fn unmet_at_random(&self) -> Vec<String> {
+        self.unmet_of(usize::MAX)
+    }
+
+    /// A Markdown table.
+    pub fn per_thousand(&self) -> String {
+        let rate = |count: u64| count as f64 * 1_000.0 / self.scripts as f64;
+        let mut text = "| per 1,000 scripts | calls | scripts |\n|---|--:|--:|\n".to_owned();
+        let of_all = |name: &str, calls| format!("| {name} | {:.1} | |\n", rate(calls));
+        text += &of_all("calls", self.calls);
+        text += &of_all("calls inside the domain", self.inside);
+        for (name, met) in self.table() {
+            text += &format!("| {name} | {:.2} | {:.2} |\n", rate(met.calls), rate(met.scripts));
+        }
+        text
     }
 
     pub fn print(&self) {
         eprintln!("calls: {}", self.calls);
-        for ((name, _), met) in CLASSES.iter().zip(self.met) {
-            eprintln!("{name}: {met}");
-        }
-        for (passes, met) in self.passes.iter().enumerate().filter(|(_, met)| **met > 0) {
-            eprintln!("thinnings of {passes} passes: {met}");
+        for (name, met) in self.table() {
+            eprintln!("{name}: {}", met.calls);
         }
     }
 }

@@ -1,34 +1,40 @@
-//! Drives the handed-over guide through a script.
-use crate::coverage::{Coverage, Step};
-use crate::homing::{answers, perform};
+//! Drives the Rust through a script.
+use crate::coverage::Coverage;
+use crate::guide::Guide;
+use crate::original::{Buffers, Original};
 use crate::script::Script;
 use crate::transcript;
-use vana::ride::homing::probe::state;
-use vana::ride::homing::{Crumb, Homing};
 
-/// Writes the transcript. An error where the script leaves the domain of comparison, unless it may
-/// go `beyond`.
+/// Writes the transcript by the Rust. An error where the script leaves the domain of comparison,
+/// unless it may go `beyond`.
 pub fn drive(
     script: &Script,
     beyond: bool,
     coverage: &mut Coverage,
     out: &mut String,
 ) -> Result<(), String> {
-    let mut crumbs = vec![Crumb::default(); script.capacity];
-    let mut line = vec![Crumb::default(); script.room];
-    let mut homing = Homing::new(&mut crumbs).with_line(&mut line);
-    *out += &transcript::begin(&answers(&homing));
+    let mut buffers = Buffers::of(script);
+    let mut original = Original::new(&mut buffers);
+    *out += &transcript::begin(&original.answers());
     for (number, call) in (2..).zip(&script.calls) {
-        let before = state(&homing);
-        let answer = perform(&mut homing, call);
-        let told = answers(&homing);
-        *out += &transcript::after(number, call, answer, &told);
-        let step = Step { call, answer, before, after: state(&homing), guide: told.guide };
+        let step = original.step(call);
+        *out += &transcript::after(number, call, step.answer, &step.answers);
         coverage.note(&step);
-        if let Some(why) = step.leaves_domain().filter(|_| !beyond) {
+        if let Some(why) = step.leaves.filter(|_| !beyond) {
             return Err(format!("call {number}, {call}: the domain of comparison ends: {why}"));
         }
     }
-    *out += &transcript::end(&answers(&homing));
+    coverage.end_script();
+    *out += &transcript::end(&original.answers());
     Ok(())
+}
+
+/// Writes the transcript by another guide.
+pub fn drive_by(guide: &mut impl Guide, script: &Script, out: &mut String) {
+    *out += &transcript::begin(&guide.answers());
+    for (number, call) in (2..).zip(&script.calls) {
+        let answer = guide.perform(call);
+        *out += &transcript::after(number, call, answer, &guide.answers());
+    }
+    *out += &transcript::end(&guide.answers());
 }

@@ -2,11 +2,14 @@
 pub mod classes;
 pub mod coverage;
 pub mod driver;
+pub mod guide;
 pub mod homing;
 pub mod inputs;
 pub mod lines;
 pub mod options;
+pub mod original;
 pub mod proved;
+pub mod questions;
 pub mod random;
 pub mod reference;
 pub mod script;

@@ -5,6 +5,7 @@ use std::fmt;
 use std::str::{FromStr, SplitWhitespace};
 
 /// A guide's calls, from `new` on.
+#[derive(Clone)]
 pub struct Script {
     /// Crumbs that the lent buffer has room for.
     pub capacity: usize,
@@ -89,14 +90,14 @@ impl Call {
         }
     }
 
-    fn read(word: &str, numbers: &mut Numbers, room: usize) -> Result<Self, String> {
+    fn read(word: &str, numbers: &mut Numbers) -> Result<Self, String> {
         Ok(match word {
             "reset" => Self::Reset,
             "observe" => Self::Observe(Some(numbers.place()?), numbers.next()?),
             "missing" => Self::Observe(None, numbers.next()?),
             "replay" => Self::Replay(numbers.place()?, numbers.next()?),
             "end_replay" => Self::EndReplay,
-            "set_course" => Self::SetCourse(numbers.places(room)?),
+            "set_course" => Self::SetCourse(numbers.places()?),
             "set_auto_follow" => Self::SetAutoFollow(numbers.flag()?),
             "set_following" => Self::SetFollowing(numbers.flag()?, numbers.next()?),
             "dump" => Self::Dump,
@@ -133,8 +134,11 @@ impl fmt::Display for Script {
     }
 }
 
-/// The numbers behind a word. What document 01's questions would refuse is an error: the Rust puts
-/// no questions.
+/// The most points of a course, and the most places of a line.
+pub const POINTS: usize = 2_048;
+
+/// The numbers behind a word. A guide has its buffers from `new`, where those that document 01's
+/// questions would refuse are an error.
 struct Numbers<'a>(SplitWhitespace<'a>);
 
 impl Numbers<'_> {
@@ -152,26 +156,23 @@ impl Numbers<'_> {
     }
 
     fn place(&mut self) -> Result<Place, String> {
-        let (lat, lon) = (self.next()?, self.next()?);
-        refuse(2, !(-900_000_000..=900_000_000).contains(&lat))?;
-        refuse(3, !(-1_800_000_000..=1_800_000_000).contains(&lon))?;
-        Ok((lat, lon))
+        Ok((self.next()?, self.next()?))
     }
 
     /// The places up to the line's end.
-    fn places(&mut self, room: usize) -> Result<Vec<Place>, String> {
+    fn places(&mut self) -> Result<Vec<Place>, String> {
         let mut places = Vec::new();
         while self.0.clone().next().is_some() {
             places.push(self.place()?);
         }
-        refuse(4, places.len() > room)?;
-        Ok(places)
+        let many = places.len() > POINTS;
+        if many { Err("a course of more than 2,048 points".to_owned()) } else { Ok(places) }
     }
 
     fn script(&mut self) -> Result<Script, String> {
         let (capacity, room) = (self.next()?, self.next()?);
         refuse(1, !(8..=4_096).contains(&capacity))?;
-        refuse(4, room > 2_048)?;
+        refuse(4, room > POINTS)?;
         Ok(Script { capacity, room, calls: Vec::new() })
     }
 
@@ -204,7 +205,7 @@ fn read_line(line: &str, scripts: &mut Vec<Script>) -> Result<(), String> {
         scripts.push(numbers.script()?);
     } else {
         let script = scripts.last_mut().ok_or("a script begins with `new`")?;
-        script.calls.push(Call::read(word, &mut numbers, script.room)?);
+        script.calls.push(Call::read(word, &mut numbers)?);
     }
     numbers.end()
 }

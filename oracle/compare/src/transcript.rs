@@ -5,12 +5,14 @@ use crate::script::{Call, Question};
 use std::fmt::{self, Display};
 
 /// What a call answers.
-#[derive(Clone, Copy, PartialEq)]
+#[derive(Clone, Copy, Debug, PartialEq)]
 pub enum Answer {
     Nothing,
     /// A number below `EVENTS`' length.
     Event(usize),
     Flag(bool),
+    /// The number of the question that refused the call.
+    Refused(u8),
 }
 
 pub const EVENTS: [&str; 7] =
@@ -18,6 +20,7 @@ pub const EVENTS: [&str; 7] =
 pub const MODES: [&str; 4] = ["direct", "track", "off_track", "arrived"];
 
 /// What a guide answers to the questions.
+#[derive(PartialEq)]
 pub struct Answers {
     pub len: usize,
     pub following: bool,
@@ -33,12 +36,13 @@ pub struct Answers {
 }
 
 /// The points ahead up to this end, and then the matched point.
+#[derive(PartialEq)]
 pub struct Ahead {
     pub end: usize,
     pub point: Option<Patterns<2>>,
 }
 
-#[derive(Clone, Copy)]
+#[derive(Clone, Copy, PartialEq)]
 pub struct Guide {
     /// A number below `MODES`' length.
     pub mode: usize,
@@ -54,7 +58,7 @@ pub struct Guide {
 }
 
 /// The patterns of a place, or of a crumb: east, north, along.
-#[derive(Clone, Copy)]
+#[derive(Clone, Copy, PartialEq)]
 pub struct Patterns<const N: usize>(pub [u32; N]);
 
 struct OrNone<T>(Option<T>);
@@ -97,6 +101,7 @@ impl Display for Answer {
             Self::Nothing => Ok(()),
             Self::Event(event) => write!(f, " {}", EVENTS[*event]),
             Self::Flag(flag) => write!(f, " {}", u8::from(*flag)),
+            Self::Refused(question) => write!(f, " refused {question}"),
         }
     }
 }
@@ -121,7 +126,8 @@ impl Answers {
         format!("{} {answer}", question.word())
     }
 
-    fn dump(&self) -> String {
+    /// Every held crumb, and the whole placed line.
+    pub fn dump(&self) -> String {
         format!("{}\n{}", self.tell(Question::Crumbs), self.tell(Question::Course))
     }
 }
@@ -157,7 +163,7 @@ pub fn begin(answers: &Answers) -> String {
     changed(1, "new", Answer::Nothing, answers)
 }
 
-fn changed(number: usize, word: &str, answer: Answer, answers: &Answers) -> String {
+pub fn changed(number: usize, word: &str, answer: Answer, answers: &Answers) -> String {
     let guide = answers.tell(Question::Guide);
     let state = STATE.map(|question| answers.tell(question)).join(" ");
     format!("{number} {word}{answer}\n{guide}\n{state}\n")
