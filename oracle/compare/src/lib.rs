@@ -12,6 +12,7 @@ pub mod proved;
 pub mod questions;
 pub mod random;
 pub mod reference;
+pub mod riders;
 pub mod script;
 pub mod thinning;
 pub mod transcript;
