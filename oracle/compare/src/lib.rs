@@ -1,5 +1,6 @@
 //! The proved code beside the handed-over Rust.
 pub mod classes;
+pub mod compared;
 pub mod coverage;
 pub mod driver;
 pub mod guide;
@@ -8,12 +9,14 @@ pub mod inputs;
 pub mod lines;
 pub mod options;
 pub mod original;
+pub mod program;
 pub mod proved;
 pub mod questions;
 pub mod random;
 pub mod reference;
 pub mod riders;
 pub mod script;
+pub mod shorten;
 pub mod thinning;
 pub mod transcript;
 pub mod value;
