@@ -2,6 +2,8 @@
 pub mod classes;
 pub mod compared;
 pub mod coverage;
+#[cfg(feature = "door")]
+pub mod door;
 pub mod driver;
 pub mod guide;
 pub mod homing;
@@ -14,6 +16,8 @@ pub mod proved;
 pub mod questions;
 pub mod random;
 pub mod reference;
+#[cfg(feature = "door")]
+pub mod refusals;
 pub mod riders;
 pub mod script;
 pub mod shorten;

@@ -1,6 +1,6 @@
 //! Compares whole guides on random scripts: `scripts [--scripts N] [--full] [--seed S] [--first K]
-//! [--program PATH]`. The other side is a program that prints transcripts. A class that no call meets is a
-//! failure. With `--self-test` mistakes stand in the place of the Rust, and each has to be found.
+//! [--program PATH]`. With `--program` the other side is a program that prints transcripts, else the proved
+//! code behind the door. A class that no call meets is a failure. With `--self-test` mistakes stand in the place of the Rust, and each has to be found.
 use compare::compared::{self, Difference};
 use compare::coverage::Coverage;
 use compare::homing::Lent;
@@ -68,7 +68,7 @@ fn main() -> ExitCode {
         (Some(path), _) => {
             equal(&options, &|script, coverage| program::difference(script, path, coverage))
         }
-        (None, _) => equal(&options, &mistaken),
+        (None, _) => equal(&options, &proved),
     };
     if good { ExitCode::SUCCESS } else { ExitCode::FAILURE }
 }
@@ -76,6 +76,18 @@ fn main() -> ExitCode {
 fn print(options: &Options) -> bool {
     options.numbers().for_each(|k| print!("{}", riders::script(options.seed, k)));
     true
+}
+
+/// The proved guide, through the door.
+#[cfg(feature = "door")]
+fn proved(script: &Script, coverage: &mut Coverage) -> Option<Difference> {
+    let mut lent = compare::door::Lent::to(script);
+    compared::difference(script, &mut lent.guide(), coverage)
+}
+
+#[cfg(not(feature = "door"))]
+fn proved(_: &Script, _: &mut Coverage) -> Option<Difference> {
+    panic!("built without the feature `door`: --program PATH")
 }
 
 /// The copy that makes the chosen mistake.

@@ -1,0 +1,24 @@
+//! Reads scripts and prints the transcript by the proved code: `drive-rattle < scripts`.
+use compare::door::Lent;
+use compare::driver::drive_by;
+use compare::script;
+use std::io::{self, Read, Write};
+use std::process::ExitCode;
+
+fn main() -> ExitCode {
+    let mut text = String::new();
+    io::stdin().read_to_string(&mut text).expect("standard input");
+    let scripts = match script::read(&text) {
+        Ok(scripts) => scripts,
+        Err(error) => {
+            eprintln!("{error}");
+            return ExitCode::FAILURE;
+        }
+    };
+    let mut out = String::new();
+    for script in scripts {
+        drive_by(&mut Lent::to(&script).guide(), &script, &mut out);
+    }
+    io::stdout().write_all(out.as_bytes()).expect("standard output");
+    ExitCode::SUCCESS
+}

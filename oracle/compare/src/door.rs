@@ -1,0 +1,105 @@
+//! The proved guide under a script, through the door.
+use crate::guide::Guide;
+use crate::script::{Call, Script};
+use crate::transcript::{self, Ahead, Answer, Answers, Patterns};
+use cittumay::{Event, Homing, Mode, Refusal, STRIDE};
+
+/// What is lent to a script's guide.
+pub struct Lent {
+    crumbs: Vec<f32>,
+    line: Vec<f32>,
+}
+
+impl Lent {
+    pub fn to(script: &Script) -> Self {
+        let room = |places| vec![0.0; STRIDE * places];
+        Self { crumbs: room(script.capacity), line: room(script.room) }
+    }
+
+    /// A script's buffers are of the sizes that question 1 asks for.
+    pub fn guide(&mut self) -> Homing<'_> {
+        Homing::new(&mut self.crumbs).expect("a script's buffers").with_line(&mut self.line)
+    }
+}
+
+impl Guide for Homing<'_> {
+    fn perform(&mut self, call: &Call) -> Answer {
+        let nothing = |()| Answer::Nothing;
+        let answer = match call {
+            Call::Observe(fix, now_ms) => self.observe(*fix, *now_ms).map(event),
+            Call::SetFollowing(on, now_ms) => self.set_following(*on, *now_ms).map(Answer::Flag),
+            Call::Reset => self.reset().map(nothing),
+            Call::Replay(fix, at_ms) => self.replay(*fix, *at_ms).map(nothing),
+            Call::EndReplay => self.end_replay().map(nothing),
+            Call::SetCourse(places) => {
+                let (lats, lons): (Vec<i32>, Vec<i32>) = places.iter().copied().unzip();
+                self.set_course(&lats, &lons).map(nothing)
+            }
+            Call::SetAutoFollow(on) => self.set_auto_follow(*on).map(nothing),
+            Call::Ask(_) | Call::Dump => Ok(Answer::Nothing),
+        };
+        answer.unwrap_or_else(|Refusal(question)| Answer::Refused(question))
+    }
+
+    fn answers(&self) -> Answers {
+        answers(self).expect("a guide's own state")
+    }
+}
+
+fn answers(homing: &Homing) -> Result<Answers, Refusal> {
+    Ok(Answers {
+        len: homing.len()?,
+        following: homing.following()?,
+        following_course: homing.following_course()?,
+        course_ahead: homing.course_ahead()?.map(ahead),
+        route_home: homing.route_home()?.map(ahead),
+        heading: homing.heading()?,
+        way_back: homing.way_back()?,
+        guide: homing.guide()?.map(shown).transpose()?,
+        crumbs: patterns(homing.crumbs()?),
+        course: patterns(homing.course()?),
+    })
+}
+
+fn event(event: Option<Event>) -> Answer {
+    Answer::Event(match event {
+        None => 0,
+        Some(Event::Following) => 1,
+        Some(Event::OffTrack) => 2,
+        Some(Event::OnTrack) => 3,
+        Some(Event::Dropped) => 4,
+        Some(Event::Arrived) => 5,
+        Some(Event::CourseEnd) => 6,
+    })
+}
+
+fn ahead((end, point): cittumay::Ahead) -> Ahead {
+    let point = point.map(|(east, north)| Patterns([east, north].map(f32::to_bits)));
+    Ahead { end, point }
+}
+
+fn patterns(numbers: &[f32]) -> Vec<Patterns<3>> {
+    let (crumbs, _) = numbers.as_chunks::<STRIDE>();
+    crumbs.iter().map(|crumb| Patterns(crumb.map(f32::to_bits))).collect()
+}
+
+fn shown(guide: cittumay::Guide) -> Result<transcript::Guide, Refusal> {
+    let mode = match guide.mode {
+        Mode::Direct => 0,
+        Mode::Track => 1,
+        Mode::OffTrack => 2,
+        Mode::Arrived => 3,
+    };
+    Ok(transcript::Guide {
+        mode,
+        following: guide.following,
+        course: guide.course,
+        course_near: guide.course_near,
+        direct_m: guide.direct_m,
+        track_m: guide.track_m,
+        off_m: guide.off_m,
+        bearing: guide.bearing,
+        heading: guide.heading,
+        arrow: guide.arrow()?,
+    })
+}
