@@ -337,19 +337,16 @@ impl Coverage {
         classes.zip(self.met.clone()).chain(passes.zip(self.passes))
     }
 
-    fn unmet_of(&self, first: usize) -> Vec<String> {
-        let unmet = self.table().take(first).filter(|(_, met)| met.calls == 0);
+    /// The classes of random scripts that no call met.
+    pub fn unmet_at_random(&self) -> Vec<String> {
+        let unmet = self.table().filter(|(_, met)| met.calls == 0);
         unmet.map(|(name, _)| name).collect()
     }
 
-    /// The classes of a list inside the domain that no call met.
+    /// The same, of a list inside the domain.
     pub fn unmet(&self) -> Vec<String> {
-        self.unmet_of(CLASSES.len())
-    }
-
-    /// The classes that no call of random scripts met.
-    pub fn unmet_at_random(&self) -> Vec<String> {
-        self.unmet_of(usize::MAX)
+        let random = |name: &String| RANDOM.iter().any(|(other, _)| name == other);
+        self.unmet_at_random().into_iter().filter(|name| !random(name)).collect()
     }
 
     /// A Markdown table.

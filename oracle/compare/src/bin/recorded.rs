@@ -1,4 +1,4 @@
-//! Prints the stored input of the proved program `recorded`: four rides as one script. Fails where
+//! Prints the stored input of the proved program `recorded`: some rides as one script. Fails where
 //! the script leaves the domain of comparison, or where a class of calls is not met.
 use compare::Place;
 use compare::coverage::Coverage;
@@ -56,6 +56,9 @@ fn rides() -> Vec<Call> {
     rider.leaves_the_course();
     rider.leaps();
     rider.stands_on_the_pole();
+    rider.replays_while_following();
+    rider.is_refused();
+    rider.thins_by_every_count();
     rider.calls
 }
 
@@ -346,5 +349,60 @@ impl Rider {
             self.fix_at(place);
         }
         self.set_following(true);
+    }
+
+    /// Out and followed back, with fixes from before a restart in between; the same along a course.
+    fn replays_while_following(&mut self) {
+        self.call(Call::Reset);
+        self.base = (100_000_000, -1_799_999_000);
+        self.east_e7 = 9_132;
+        self.at = (0, 0);
+        self.fix();
+        self.ride((0, 200), 40);
+        self.set_following(true);
+        self.replay_on_the_way((30, 160));
+        self.set_course(&[(0, 120), (0, 60), (60, 0)]);
+        self.call(Call::Dump);
+        self.set_following(false);
+        self.set_following(true);
+        self.replay_on_the_way((30, 60));
+        self.set_course(&[]);
+        self.call(Call::Dump);
+    }
+
+    fn replay_on_the_way(&mut self, to: Spot) {
+        self.ride((0, to.1), 20);
+        self.replays = true;
+        self.ride(to, 20);
+        self.replays = false;
+        self.ride((0, to.1 - 20), 40);
+    }
+
+    /// Calls that questions 2, 3 and 4 refuse, each with something else wrong behind it.
+    fn is_refused(&mut self) {
+        const LAT: i32 = 900_000_001;
+        const LON: i32 = -1_800_000_001;
+        for place in [(LAT, LON), (-LAT, 0), (0, LON), (0, -LON)] {
+            self.fix_at(place);
+            self.call(Call::Replay(place, self.now_ms));
+        }
+        self.call(Call::SetCourse(vec![(LAT, LON); 25]));
+        self.call(Call::SetCourse(vec![(0, 0), (0, LON), (LAT, 0)]));
+        self.call(Call::SetCourse(vec![(0, 0), (LAT, 0), (0, LON)]));
+        self.call(Call::Dump);
+    }
+
+    /// Bends so far aside that a thinning takes so many passes, each on a ride of its own.
+    fn thins_by_every_count(&mut self) {
+        const ASIDE_E7: i32 = 405;
+        self.replays = true;
+        for passes in [4, 6, 7, 8, 9, 10, 11, 12, 13, 14, 15, 16, 17] {
+            self.call(Call::Reset);
+            for k in 0..19 {
+                self.wait(1_000);
+                self.fix_at((k % 2 * (ASIDE_E7 << (passes - 1)), 4_496 * k));
+            }
+        }
+        self.replays = false;
     }
 }
