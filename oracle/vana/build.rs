@@ -1,6 +1,6 @@
 //! Puts the handed-over sources in place, byte for byte, beside the stand-ins for what is missing.
-//! `probe.rs` follows the text of homing.rs. The sources are in the folder `SEEDS`, else in
-//! `shared/docs/src` beside the project.
+//! The probes follow the text of homing.rs and rebuild.rs. The sources are in the folder `SEEDS`,
+//! else in `shared/docs/src` beside the project.
 use std::path::{Path, PathBuf};
 use std::{env, fs};
 
@@ -13,6 +13,9 @@ const SOURCES: [&str; 6] = [
     "ride/course/turns.rs",
     "ride/log.rs",
 ];
+/// Sources whose private state is read, and what follows their text.
+const PROBES: [(&str, &str); 2] =
+    [("ride/homing.rs", "probe.rs"), ("ride/homing/rebuild.rs", "probe_rebuild.rs")];
 /// Modules that are not among the sources, by their path below standin.
 const STANDINS: [&str; 5] = [
     "ride/mod.rs",
@@ -31,8 +34,8 @@ fn main() {
     for path in SOURCES {
         let name = format!("src--apps--vana--src--{}.txt", path.replace('/', "--"));
         let mut text = read(&seeds.join(name));
-        if path == "ride/homing.rs" {
-            text += &read(&package.join("probe.rs"));
+        for (_, probe) in PROBES.iter().filter(|(probed, _)| *probed == path) {
+            text += &read(&package.join(probe));
         }
         write(&out.join(path), &text);
     }

@@ -1,4 +1,5 @@
 //! The proved code beside the handed-over Rust.
+pub mod chain;
 pub mod classes;
 pub mod coverage;
 pub mod driver;
@@ -9,6 +10,7 @@ pub mod options;
 pub mod proved;
 pub mod random;
 pub mod reference;
+pub mod retelling;
 pub mod script;
 pub mod thinning;
 pub mod transcript;
