@@ -81,7 +81,7 @@ impl Record {
     }
 
     /// "Entries in order, kind, count, places, the last two for every kind of entry."
-    fn asked(&self) -> Result<(), u8> {
+    pub fn asked(&self) -> Result<(), u8> {
         refuse(8, !(1..=7).contains(&self.kind))?;
         refuse(5, self.count > 4)?;
         self.used().iter().filter_map(|sample| sample.place).try_for_each(|(lat, lon)| {
@@ -106,16 +106,21 @@ fn refuse(number: u8, when: bool) -> Result<(), u8> {
 /// What a file tells, or the number of the first question that says no: "the file's chain is judged
 /// whole, then its entries in order".
 pub fn read(file: &[u8]) -> Result<Chain, u8> {
-    let (records, rest) = file.as_chunks::<RECORD>();
-    refuse(6, !rest.is_empty() || !(1..=MOST).contains(&records.len()))?;
-    let along = along(records)?;
-    let entries: Vec<_> = along.into_iter().map(|k| Record::read(&records[k])).collect();
+    let records = records(file)?;
+    let entries: Vec<_> = along(records)?.into_iter().map(|k| Record::read(&records[k])).collect();
     entries.iter().try_for_each(Record::asked)?;
     Ok(Chain { recovered: u32_at(&records[0], 4), entries })
 }
 
+/// "1 to 682 whole records?"
+pub fn records(file: &[u8]) -> Result<&[[u8; RECORD]], u8> {
+    let (records, rest) = file.as_chunks();
+    refuse(6, !rest.is_empty() || !(1..=MOST).contains(&records.len()))?;
+    Ok(records)
+}
+
 /// The records met from record 0 on: "Every next met below the record count, none reached twice?"
-fn along(records: &[[u8; RECORD]]) -> Result<Vec<usize>, u8> {
+pub fn along(records: &[[u8; RECORD]]) -> Result<Vec<usize>, u8> {
     let mut met = vec![false; records.len()];
     let (mut along, mut at) = (Vec::new(), 0);
     loop {

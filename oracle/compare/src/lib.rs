@@ -1,17 +1,24 @@
 //! The proved code beside the handed-over Rust.
+pub mod bent;
 pub mod chain;
+pub mod chain_classes;
 pub mod classes;
 pub mod coverage;
 pub mod driver;
+pub mod files;
 pub mod homing;
 pub mod inputs;
 pub mod lines;
+pub mod mistakes;
 pub mod options;
+pub mod program;
 pub mod proved;
 pub mod random;
 pub mod reference;
 pub mod retelling;
+pub mod rider;
 pub mod script;
+pub mod seen;
 pub mod thinning;
 pub mod transcript;
 pub mod value;
