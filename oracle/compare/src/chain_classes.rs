@@ -107,7 +107,7 @@ const CLASSES: [Class; 90] = [
         let recovered = s.read.as_ref().map_or(0, |chain| chain.recovered);
         s.slots
             .iter()
-            .any(|slot| slot.rebuild[0].decided && slot.replays() && slot.entry.ride == recovered)
+            .any(|slot| slot.rebuild[0].decided && slot.visited() && slot.entry.ride == recovered)
     }),
     ("pending, no crumbs", |s| s.pending() && s.holds(|len| len == 0)),
     ("pending, crumbs", |s| s.pending() && s.holds(|len| len > 0)),

@@ -41,7 +41,7 @@ struct Rider {
     lat: i64,
     lon: i64,
     speed: (i64, i64),
-    /// How wide bends and zigzags are.
+    /// How wide a road winds, and how far a zigzag goes aside.
     scale: i64,
     swing: i64,
     /// The latitude about which the rider weaves.
@@ -96,7 +96,7 @@ impl Rider {
     fn fills_the_guide(mut self, random: &mut Random) -> Vec<Record> {
         (self.shape, self.swing) = (3, 90 << (4 + random.below(8)));
         let mut entries = self.all_of_one(129, random);
-        entries[128].count = random.below(SAMPLES + 1) as u8;
+        entries[128].count = random.pick(&[0, 1, 1, 1, 2, 3, 4]);
         entries
     }
 

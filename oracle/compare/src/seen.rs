@@ -112,9 +112,10 @@ impl<'a> Seen<'a> {
         self.read.is_ok() && self.slots.last().is_none_or(|slot| !slot.rebuild[1].decided)
     }
 
-    /// Of the entries that change the guide, one with such a place, as degrees east of the origin.
+    /// In an entry that was visited stands a place so far east of the origin, in 1e-7 degree, the plain
+    /// difference.
     pub fn east(&self, such: impl Fn(i64) -> bool) -> bool {
-        self.slots.iter().filter(|slot| slot.replays()).any(|slot| {
+        self.slots.iter().filter(|slot| slot.visited()).any(|slot| {
             let Some((_, lon0)) = slot.guide[1].origin else { return false };
             let places = slot.entry.used().iter().filter_map(|sample| sample.place);
             places.into_iter().any(|(_, lon)| such(i64::from(lon) - i64::from(lon0)))
@@ -127,8 +128,9 @@ impl Slot {
         !self.rebuild[0].decided && self.rebuild[1].decided
     }
 
-    pub fn replays(&self) -> bool {
-        self.guide[1].len > 0 && self.rebuild[0].clock_ms < self.rebuild[1].clock_ms
+    /// It has samples, and they were gone through.
+    pub fn visited(&self) -> bool {
+        self.rebuild[0].clock_ms < self.rebuild[1].clock_ms
     }
 
     /// The passes of `Homing::thin`, where it ran. Else only a reset leaves fewer crumbs. Each pass
