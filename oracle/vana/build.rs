@@ -1,7 +1,7 @@
 //! Puts the handed-over sources in place, byte for byte, beside the stand-ins for what is missing,
-//! and copies of homing.rs and thin.rs with the edits of `copies.rs`. `probe.rs` follows the text of
-//! each homing.rs. The sources are in the folder `SEEDS`, else in `shared/docs/src` beside the
-//! project.
+//! and copies of homing.rs and thin.rs with the edits of `copies.rs`. The probes follow the text of
+//! rebuild.rs and of each homing.rs. The sources are in the folder `SEEDS`, else in
+//! `shared/docs/src` beside the project.
 use std::path::{Path, PathBuf};
 use std::{env, fs};
 
@@ -16,6 +16,9 @@ const SOURCES: [&str; 6] = [
     "ride/course/turns.rs",
     "ride/log.rs",
 ];
+/// Sources whose private state is read, and what follows their text.
+const PROBES: [(&str, &str); 2] =
+    [("ride/homing.rs", "probe.rs"), ("ride/homing/rebuild.rs", "probe_rebuild.rs")];
 /// Modules that are not among the sources, by their path below standin.
 const STANDINS: [&str; 5] = [
     "ride/mod.rs",
@@ -37,10 +40,12 @@ fn main() {
         let name = format!("src--apps--vana--src--{}.txt", path.replace('/', "--"));
         read(&seeds.join(name))
     };
-    let probe = read(&package.join("probe.rs"));
+    let probe = |path: &str| match PROBES.iter().find(|(probed, _)| *probed == path) {
+        Some((_, probe)) => read(&package.join(probe)),
+        None => String::new(),
+    };
     for path in SOURCES {
-        let more = if path == "ride/homing.rs" { probe.as_str() } else { "" };
-        write(&out.join(path), &(source(path) + more));
+        write(&out.join(path), &(source(path) + &probe(path)));
     }
     for path in STANDINS {
         write(&out.join(path), &read(&package.join("../standin").join(path)));
@@ -50,7 +55,7 @@ fn main() {
         let mut texts = [source("ride/homing.rs"), source("ride/thin.rs")];
         edits.iter().for_each(|edit| replace(&mut texts, edit));
         let [homing, thin] = texts;
-        write(&out.join(name).join("homing.rs"), &(homing + &probe));
+        write(&out.join(name).join("homing.rs"), &(homing + &probe("ride/homing.rs")));
         write(&out.join(name).join("homing/rebuild.rs"), &source("ride/homing/rebuild.rs"));
         write(&out.join(name).join("thin.rs"), &thin);
         write(&out.join(name).join("mod.rs"), "pub mod homing;\npub mod thin;\n");

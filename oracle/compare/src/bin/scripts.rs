@@ -7,7 +7,7 @@ use compare::homing::Lent;
 use compare::questions::Asked;
 use compare::script::Script;
 use compare::shorten::shortened;
-use compare::{program, riders};
+use compare::{by_program, riders};
 use std::ops::Range;
 use std::path::PathBuf;
 use std::process::ExitCode;
@@ -66,7 +66,7 @@ fn main() -> ExitCode {
         _ if options.print => print(&options),
         (_, true) => mistakes_found(&options),
         (Some(path), _) => {
-            equal(&options, &|script, coverage| program::difference(script, path, coverage))
+            equal(&options, &|script, coverage| by_program::difference(script, path, coverage))
         }
         (None, _) => equal(&options, &proved),
     };
@@ -128,7 +128,7 @@ fn search(options: &Options, differs: Differs) -> (Option<(u64, Script)>, Covera
 }
 
 fn too_long(script: &Script) -> bool {
-    program::dumped(script).to_string().len() > program::LONGEST
+    by_program::dumped(script).to_string().len() > by_program::LONGEST
 }
 
 fn equal(options: &Options, differs: Differs) -> bool {
