@@ -165,10 +165,15 @@ fn numbers() -> Vec<Fault> {
     for far in [FAR, -FAR, f32::INFINITY, f32::NAN] {
         for (name, flag, at) in SPOTS {
             for side in [0, 1] {
-                all.push(fault(10, Part::State, format!("{name} {far:e}"), move |g| {
-                    set(g, flag, 1);
-                    g.numbers.get_mut(at + side).into_iter().for_each(|number| *number = far);
-                }));
+                all.push(fault(
+                    10,
+                    Part::State,
+                    format!("{name}, number {side} {far:e}"),
+                    move |g| {
+                        set(g, flag, 1);
+                        g.numbers.get_mut(at + side).into_iter().for_each(|number| *number = far);
+                    },
+                ));
             }
         }
         for (place, at) in [(1, WINDOW), (1, WINDOW + 1), (48, WINDOW + 95)] {
