@@ -1,6 +1,6 @@
-//! Reads scripts and prints the transcript by the Rust: `drive [--coverage] [--beyond] < scripts`.
-//! `--coverage` prints on standard error how many calls met each class. A script that leaves the
-//! domain of comparison is an error; with `--beyond` it goes on.
+//! Reads scripts and prints the transcript by the Rust: `drive [--coverage] [--domain] < scripts`.
+//! `--coverage` prints on standard error how many calls met each class. Outside the domain of
+//! comparison the Rust has document 01's additions; with `--domain` a script that gets there is an error.
 use compare::coverage::Coverage;
 use compare::driver::drive;
 use compare::script;
@@ -8,11 +8,11 @@ use std::io::{self, Read, Write};
 use std::process::ExitCode;
 
 fn main() -> ExitCode {
-    let (mut tell_coverage, mut beyond) = (false, false);
+    let (mut tell_coverage, mut beyond) = (false, true);
     for word in std::env::args().skip(1) {
         match word.as_str() {
             "--coverage" => tell_coverage = true,
-            "--beyond" => beyond = true,
+            "--domain" => beyond = false,
             _ => panic!("unknown: {word}"),
         }
     }

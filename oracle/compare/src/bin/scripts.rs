@@ -140,7 +140,9 @@ fn equal(options: &Options, differs: Differs) -> bool {
     }
     println!("{}", coverage.per_thousand());
     println!("scripts: {scripts} scripts, {calls} calls, equal (seed {})", options.seed);
-    let unmet = coverage.unmet_at_random();
+    let mut unmet = coverage.unmet_at_random();
+    // The scripts that meet this are too long for a program.
+    unmet.retain(|class| options.program.is_none() || class != "thinning of 4,096 crumbs");
     unmet.iter().for_each(|class| println!("no call met: {class}"));
     unmet.is_empty()
 }

@@ -82,12 +82,19 @@ fn sizes() -> Vec<Fault> {
     all
 }
 
+/// Where a fault before has not taken the word away.
+fn set(g: &mut Given, at: usize, to: u64) {
+    g.words.get_mut(at).into_iter().for_each(|word| *word = to);
+}
+
+fn word(g: &Given, at: usize) -> u64 {
+    g.words.get(at).copied().unwrap_or(0)
+}
+
 /// Slices that hold no state.
 fn no_state() -> Vec<Fault> {
     let word = |name: &str, at: usize, to: u64| {
-        fault(10, Part::State, format!("word {at} ({name}) {to}"), move |g| {
-            g.words.get_mut(at).into_iter().for_each(|word| *word = to);
-        })
+        fault(10, Part::State, format!("word {at} ({name}) {to}"), move |g| set(g, at, to))
     };
     let mut all = vec![
         fault(10, Part::Room, "words too short", |g| g.words.truncate(WORDS - 1)),
@@ -105,14 +112,6 @@ fn no_state() -> Vec<Fault> {
     all.extend([15, 42, 44].map(|at| word("u16", at, 1 << 16)));
     all.extend([6, 7, 9, 10, 39, 40, 41].map(|at| word("u32 or i32", at, 1 << 32)));
     all
-}
-
-fn set(g: &mut Given, at: usize, to: u64) {
-    g.words.get_mut(at).into_iter().for_each(|word| *word = to);
-}
-
-fn word(g: &Given, at: usize) -> u64 {
-    g.words.get(at).copied().unwrap_or(0)
 }
 
 fn counts() -> Vec<Fault> {
@@ -165,10 +164,15 @@ fn numbers() -> Vec<Fault> {
     for far in [FAR, -FAR, f32::INFINITY, f32::NAN] {
         for (name, flag, at) in SPOTS {
             for side in [0, 1] {
-                all.push(fault(10, Part::State, format!("{name} {far:e}"), move |g| {
-                    set(g, flag, 1);
-                    g.numbers.get_mut(at + side).into_iter().for_each(|number| *number = far);
-                }));
+                all.push(fault(
+                    10,
+                    Part::State,
+                    format!("{name}, number {side} {far:e}"),
+                    move |g| {
+                        set(g, flag, 1);
+                        g.numbers.get_mut(at + side).into_iter().for_each(|number| *number = far);
+                    },
+                ));
             }
         }
         for (place, at) in [(1, WINDOW), (1, WINDOW + 1), (48, WINDOW + 95)] {

@@ -45,12 +45,15 @@ impl Rider {
             0.0, 0.0, 19.0, 20.0, 20.0, 24.0, 25.0, 25.0, 26.0, 49.0, 50.0, 50.0, 51.0, 500.0,
             501.0,
         ];
+        if self.random.once_in(6) {
+            return self.turn_beside();
+        }
         let (step, north) = (self.random.pick(&[16.0, 20.0, 30.0]), self.here.1);
         let fixes = self.random.between(12, 20);
         if self.random.once_in(3) {
             self.line_north(north, north + 40.0 * fixes as f64);
         }
-        if self.random.once_in(3) {
+        if self.random.once_in(2) {
             let back = -step;
             self.steps((0.0, step), fixes);
             self.press_on();
@@ -59,6 +62,22 @@ impl Rider {
             self.press_on();
             self.beside_it(&BESIDE, step, fixes);
         }
+    }
+
+    /// North, with a stretch ridden three times.
+    fn out_north(&mut self) {
+        self.set_out();
+        self.steps((0.0, 20.0), 15);
+        self.go((0.0, 280.0));
+        self.steps((0.0, 20.0), 21);
+    }
+
+    /// Back south so many metres east of where the ride began.
+    fn turn_beside(&mut self) {
+        self.out_north();
+        let east = self.random.pick(&[0.0, 19.0, 20.0, 20.0, 21.0]);
+        self.go((east, 250.0));
+        self.steps((0.0, -20.0), 12);
     }
 
     /// A course on the meridian.
@@ -114,6 +133,7 @@ impl Rider {
             7 => self.past_the_course(),
             8 if self.random.once_in(3) => self.out_and_back(sign),
             9 if self.random.once_in(4) => self.turn_after_300(),
+            10 if self.random.once_in(4) => self.home_after_300(),
             _ => {
                 let step = self.random.pick(&STEPS);
                 self.go((self.here.0 + sign * step, 0.0));
@@ -151,12 +171,27 @@ impl Rider {
         self.go((self.here.0 - sign * back, 0.0));
     }
 
-    /// East with a stretch ridden three times, and back to a crumb about 300 m before the newest.
-    fn turn_after_300(&mut self) {
+    /// Another ride, from its start.
+    fn set_out(&mut self) {
         self.restart();
         self.here = (0.0, 0.0);
         self.tell();
         self.wait(1_000);
+    }
+
+    /// Near the start again, the newest crumb about 300 m along.
+    fn home_after_300(&mut self) {
+        self.set_out();
+        self.steps((20.0, 0.0), 7);
+        let end = self.random.pick(&[159.0, 160.0, 160.0, 161.0]);
+        for east in [end, 100.0, 20.0, 28.0] {
+            self.go((east, 0.0));
+        }
+    }
+
+    /// East with a stretch ridden three times, and back to a crumb about 300 m before the newest.
+    fn turn_after_300(&mut self) {
+        self.set_out();
         self.steps((20.0, 0.0), 5);
         self.go((60.0, 0.0));
         self.steps((20.0, 0.0), 12);
@@ -171,8 +206,8 @@ impl Rider {
         let (east, north) = self.here;
         let back = self.random.once_in(2);
         if back {
-            self.steps((0.0, 9.0 * step), 40);
-            self.steps((-7.0 * step, 0.0), 1);
+            self.out_north();
+            self.go((-8.0 * step, 250.0));
         } else {
             self.call(Call::SetAutoFollow(true));
             let places = [(east, north - 99.0 * step), (east, north + 999.0 * step)];

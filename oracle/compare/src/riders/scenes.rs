@@ -4,7 +4,9 @@ use super::rider::Rider;
 use crate::script::Call;
 
 /// How often, and what.
-const SCENES: [(usize, fn(&mut Rider)); 25] = [
+type Scene = (usize, fn(&mut Rider));
+
+const SCENES: [Scene; 25] = [
     (14, Rider::straight),
     (14, Rider::zigzag),
     (12, Rider::back),
