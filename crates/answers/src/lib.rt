@@ -81,7 +81,7 @@ pub fn following(h: Homing) -> Verdict
     }
     let f = h.follow;
     let line = f.line;
-    Verdict::Is(update::on_line(line))
+    Verdict::Is(matching::on_line(line))
 }
 
 pub fn following_course(h: Homing) -> Verdict
@@ -93,7 +93,7 @@ pub fn following_course(h: Homing) -> Verdict
     }
     let f = h.follow;
     let line = f.line;
-    Verdict::Is(update::on_course(line))
+    Verdict::Is(matching::on_course(line))
 }
 
 // While the course is followed: what is ahead of it.

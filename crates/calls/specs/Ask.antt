@@ -17,7 +17,7 @@ use Rattle.state.specs.declared.Line.the-variants as line
 use Rattle.state.specs.declared.Follow.{Follow}
 use Rattle.state.specs.declared.Shown.{Shown}
 use Rattle.state.specs.State.{State}
-use Rattle.update.specs.Update.{onCourse, onLine}
+use Rattle.matching.specs.Match.{onCourse, onLine}
 
 -- how many crumbs are held
 unfoldable pub len : State → ℕ

@@ -26,7 +26,7 @@ use Rattle.state.specs.State.{State, withTrack, withFrame, withFed, withHere, w
 use Rattle.state.specs.Rule.{Done, done, andThen}
 use Rattle.follow.specs.Record.{add}
 use Rattle.follow.specs.Engage.{cutTo, forgotten, engageAt, engage}
-use Rattle.follow.specs.Join.{joining, retracing}
+use Rattle.joining.specs.Join.{joining, retracing}
 use Rattle.update.specs.Update.{update}
 use Rattle.course.specs.Fix.{Fix, located, framed}
 

@@ -25,7 +25,7 @@ use Rattle.state.specs.declared.Guide.{Guide}
 use Rattle.state.specs.declared.Shown.{Shown}
 use Rattle.state.specs.declared.Shown.the-variants as shown
 use Rattle.state.specs.State.{State}
-use Rattle.follow.specs.Join.{retraceFixes}
+use Rattle.joining.specs.Join.{retraceFixes}
 use Rattle.course.specs.Fix.{Fix}
 use Rattle.course.specs.Course.{points}
 

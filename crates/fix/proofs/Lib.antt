@@ -1,6 +1,2 @@
 -- Facts that the functions' proofs share.
-mod Moving
-mod Growing
-mod Beginning
 pub mod Arriving
-mod Turning

@@ -13,7 +13,7 @@ use Rattle.crumbs.proofs.Crumbs.{length-crumbs}
 use Rattle.trail.specs.View.{track}
 use Rattle.state.specs.declared.Line.the-variants as line
 use Rattle.state.specs.declared.Homing.{Homing}
-use Rattle.state.specs.State.{State, stateOf}
+use Rattle.state.specs.State.{stateOf}
 use Rattle.state.specs.Rule.{Done, done}
 use Rattle.follow.specs.Engage.{engageAt, leads, engage}
 use Rattle.follow.specs.View.{Changes, Asks}

@@ -1,6 +1,4 @@
 -- Facts that the functions' proofs share.
-pub mod Holding
 pub mod Engaging
-mod Joins
+pub mod Holding
 pub mod Recording
-pub mod Turning

@@ -6,18 +6,17 @@ use lib.Dec.{leb, ltb}
 use lib.ListN.{length, take}
 use lib.Ieee.{Float, lt}
 use Rattle.binary32.specs.Limits.{plusZero}
-use Rattle.plane.specs.declared.Point.{Point}
 use Rattle.plane.specs.declared.Spot.{Spot}
 use Rattle.plane.specs.declared.Spot.the-variants.{At, Nowhere}
 use Rattle.crumbs.specs.declared.Crumb.{Crumb}
-use Rattle.search.specs.Line.{at}
-use Rattle.trail.specs.Trail.{Track, minStepM, withCrumbs, withWindow}
+use Rattle.segments.specs.Line.{at}
+use Rattle.trail.specs.Trail.{Track, minStepM, withCrumbs}
 use Rattle.state.specs.declared.Line.{Line}
 use Rattle.state.specs.declared.Line.the-variants as line
 use Rattle.state.specs.declared.Follow.{Follow}
 use Rattle.state.specs.declared.Course.{Course}
 use Rattle.state.specs.State.{State, withTrack, withFollow, withCourse}
-use Rattle.state.specs.Rule.{Done, done, andThen}
+use Rattle.state.specs.Rule.{Done, done}
 use Rattle.follow.specs.Record.{keep}
 
 -- metres to the course's end at its place `end`, 0 where the course has none

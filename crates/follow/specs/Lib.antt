@@ -1,4 +1,3 @@
-pub mod Record
 pub mod Engage
-pub mod Join
+pub mod Record
 pub mod View

@@ -8,8 +8,6 @@ use lib.Ieee.{Float}
 use Rattle.crumbs.specs.declared.Crumb.{Crumb}
 use Rattle.crumbs.specs.Crumb.{capacity, crumbs, behind}
 use Rattle.trail.specs.View as trail
-use Rattle.search.specs.declared.Best.{Best}
-use Rattle.search.specs.declared.Best.the-variants.{Nothing, Found}
 use Rattle.state.specs.declared.Line.the-variants as line
 use Rattle.state.specs.declared.Homing.{Homing}
 use Rattle.trail.specs.declared.Trail.{Trail}
@@ -62,8 +60,3 @@ pub record Asks (rule : State → Done Bool) (h : Homing) (b : List Float) (r : 
   pub answered : r .yes ≡ rule (stateOf h b) .answer
   pub same : stateOf (r .homing) b ≡ rule (stateOf h b) .state
   pub held : SameHeld (h .trail) (r .homing .trail)
-
--- what is found lies on a line of `len` crumbs
-abbrev pub InLine : ℕ → Best → Type 0
-InLine len Nothing = Unit {0}
-InLine len (Found near) = (1 ≤ near .end) × (near .end < len)

@@ -22,7 +22,7 @@ use Rattle.state.specs.declared.Homing.{Homing}
 use Rattle.state.specs.State.{State, stateOf}
 use Rattle.state.specs.Rule.{Done, done}
 use Rattle.follow.specs.View.{Follows}
-use Rattle.update.proofs.Choosing.{picked, passed-by}
+use Rattle.matching.proofs.Choosing.{picked, passed-by}
 use Rattle.course.specs.Fix.{Fix}
 use Rattle.course.specs.Course.{lineOf}
 use Rattle.course.specs.View.{Places}
@@ -33,7 +33,7 @@ use Rattle.calls.specs.Calls.{Call, asks, performs, turn}
 use Rattle.calls.specs.Promises.{Answer, refused, gives, answer, Called}
 use Rattle.steer.specs.View.{SetsLine}
 use Rattle.questions.proofs.Given.{line-given, crumbs-given, both-given}
-use Rattle.fix.specs.View.{Ready}
+use Rattle.recording.specs.View.{Ready}
 
 -- ---- the first question that says no
 or-first : (a b : ℕ) → (a ≡ 0 → ⊥) → a ≡ (a orElse b)

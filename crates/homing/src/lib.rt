@@ -145,7 +145,7 @@ fn seen(h: Homing, crumbs: &mut [f32], line: &[f32], lat: i32, lon: i32, now_ms:
             answer: Sight::Refused(number),
         };
     }
-    let t = fix::seen(h, crumbs, line, lat, lon, now_ms);
+    let t = observe::seen(h, crumbs, line, lat, lon, now_ms);
     let homing = t.homing;
     let event = t.event;
     Observed {
@@ -214,7 +214,7 @@ pub fn set_auto_follow(h: Homing, crumbs: &mut [f32], on: bool) -> Changed
     if number != 0 {
         return refused(h, number);
     }
-    let chosen = steer::set_auto_follow(h, crumbs, on);
+    let chosen = following::set_auto_follow(h, crumbs, on);
     taken(chosen)
 }
 
@@ -235,7 +235,7 @@ pub fn set_following(
             answer: Verdict::Refused(number),
         };
     }
-    let a = steer::set_following(h, crumbs, line, follow, now_ms);
+    let a = following::set_following(h, crumbs, line, follow, now_ms);
     let homing = a.homing;
     let yes = a.yes;
     Followed {

@@ -12,8 +12,8 @@ use Rattle.plane.specs.declared.Spot.{Spot}
 use Rattle.plane.specs.declared.Spot.the-variants as spot
 use Rattle.crumbs.specs.declared.Crumb.{Crumb}
 use Rattle.crumbs.specs.Crumb.{capacity}
-use Rattle.search.specs.declared.Best.{Best}
-use Rattle.search.specs.declared.Best.the-variants.{Nothing, Found}
+use Rattle.segments.specs.declared.Best.{Best}
+use Rattle.segments.specs.declared.Best.the-variants.{Nothing, Found}
 use Rattle.trail.specs.Trail.{toleranceM}
 use Rattle.trail.specs.Trail as trail
 use Rattle.state.specs.declared.Line.{Line}

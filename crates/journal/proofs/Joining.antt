@@ -16,7 +16,8 @@ use Rattle.search.specs.declared.Join.the-variants.{Segment, NoSegment}
 use Rattle.trail.specs.Trail.{Track}
 use Rattle.state.specs.State.{State, withTrack}
 use Rattle.state.specs.Rule.{Done, done}
-use Rattle.follow.specs.Join.{joinOn, joining, ridesBack, withRetrace, lenBefore, retracing, retraceFixes}
+use Rattle.joining.specs.Join.{joinOn, joining, withRetrace, retracing, retraceFixes}
+use Rattle.retrace.specs.Retrace.{ridesBack, lenBefore}
 use Rattle.journal.proofs.Trace.{over}
 use Rattle.journal.proofs.Sound.{Holds, Ran, Good}
 

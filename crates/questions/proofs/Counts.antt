@@ -14,7 +14,7 @@ use Rattle.trail.specs.View.{track}
 use Rattle.trail.proofs.Window.{length-places}
 use Rattle.state.specs.declared.Homing.{Homing}
 use Rattle.state.specs.State.{stateOf}
-use Rattle.follow.specs.Join.{retraceFixes}
+use Rattle.joining.specs.Join.{retraceFixes}
 use Rattle.calls.specs.Questions.{followFits, retraceFits, countsFit, crumbsFit, heldFits}
 
 -- a conjunction that is true

@@ -180,7 +180,7 @@ fn follow_fits(on: Line, segment: usize, len: usize, line_len: usize) -> bool
 fn retrace_fits(t: Trail) -> bool
     ensures { λ r. ⌜ ((b : List Float) → r ≡ retraceFits (track t b)) ⌝ }
 {
-    (t.retrace < follow::RETRACE_FIXES) & ((t.retrace == 0) | (t.retrace_len <= t.len))
+    (t.retrace < joining::RETRACE_FIXES) & ((t.retrace == 0) | (t.retrace_len <= t.len))
 }
 
 fn counts_fit(h: Homing) -> bool

@@ -9,14 +9,15 @@ use native.Mathlib.Decide.{ℕ-discrete}
 use lib.Ieee.{Float, lt, le}
 use Rattle.plane.specs.declared.Point.{Point}
 use Rattle.crumbs.specs.declared.Crumb.{Crumb}
-use Rattle.search.specs.declared.Nearest.{Nearest}
-use Rattle.search.specs.declared.Best.the-variants.{Found}
-use Rattle.search.specs.declared.Cost.{Cost}
-use Rattle.search.specs.declared.Cost.the-variants.{Out, Metres}
-use Rattle.search.specs.declared.SoFar.{SoFar}
-use Rattle.search.specs.declared.SoFar.the-variants.{Empty, Least}
+use Rattle.segments.specs.declared.Nearest.{Nearest}
+use Rattle.segments.specs.declared.Best.the-variants.{Found}
+use Rattle.segments.specs.declared.Cost.{Cost}
+use Rattle.segments.specs.declared.Cost.the-variants.{Out, Metres}
+use Rattle.segments.specs.declared.SoFar.{SoFar}
+use Rattle.segments.specs.declared.SoFar.the-variants.{Empty, Least}
 use Rattle.search.specs.declared.Range.{Range}
-use Rattle.search.specs.Search.{meets, nearestOn, cheaper, considered, rising, falling, found, count}
+use Rattle.segments.specs.Segment.{meets, nearestOn, cheaper, considered, found}
+use Rattle.search.specs.Search.{rising, falling, count}
 use Rattle.search.specs.Theorems.{Met, FirstOfLeast, Finds}
 use Rattle.search.proofs.Order.{not-less, lt-irrefl, le-lt}
 

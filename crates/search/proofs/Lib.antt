@@ -1,7 +1,7 @@
-pub mod Line
-pub mod Considering
+-- Facts that the functions' proofs share.
+pub mod Choosing
+pub mod Sharing
+pub mod Order
 pub mod Searching
-pub mod Walking
-mod Order
-mod Choosing
 pub mod Theorems
+pub mod Walking

@@ -3,8 +3,8 @@ use Prim.Native.Nat.{ℕ, zero, suc, _+_, _-_, _≤_, _<_}
 use mathlib.Core.Path.{_≡_, refl, sym, ap, _∙_}
 use native.Mathlib.Omega.{arith}
 use Rattle.search.specs.declared.Range.{Range}
-use Rattle.search.specs.declared.SoFar.{SoFar}
-use Rattle.search.specs.declared.SoFar.the-variants.{Empty}
+use Rattle.segments.specs.declared.SoFar.{SoFar}
+use Rattle.segments.specs.declared.SoFar.the-variants.{Empty}
 use Rattle.search.specs.Search.{rising, falling, count}
 
 -- ends rise: those from `end` on are left

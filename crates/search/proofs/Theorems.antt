@@ -12,23 +12,23 @@ use Rattle.magnitude.specs.Size.{Within}
 use Rattle.plane.specs.declared.Point.{Point}
 use Rattle.plane.specs.Plane.{turn}
 use Rattle.crumbs.specs.declared.Crumb.{Crumb}
-use Rattle.search.specs.declared.Nearest.{Nearest}
-use Rattle.search.specs.declared.Best.{Best}
-use Rattle.search.specs.declared.Best.the-variants.{Nothing, Found}
-use Rattle.search.specs.declared.Cost.the-variants.{Metres}
-use Rattle.search.specs.declared.SoFar.the-variants.{Empty}
-use Rattle.search.specs.declared.Ranking.{Ranking}
-use Rattle.search.specs.declared.Ranking.the-variants.{Plain, Ahead}
+use Rattle.segments.specs.declared.Nearest.{Nearest}
+use Rattle.segments.specs.declared.Best.{Best}
+use Rattle.segments.specs.declared.Best.the-variants.{Nothing, Found}
+use Rattle.segments.specs.declared.Cost.the-variants.{Metres}
+use Rattle.segments.specs.declared.SoFar.the-variants.{Empty}
+use Rattle.segments.specs.declared.Ranking.{Ranking}
+use Rattle.segments.specs.declared.Ranking.the-variants.{Plain}
 use Rattle.search.specs.declared.Range.{Range}
-use Rattle.search.specs.declared.Stretch.{Stretch}
-use Rattle.search.specs.declared.Progress.{Progress}
+use Rattle.segments.specs.declared.Stretch.{Stretch}
 use Rattle.search.specs.declared.Join.the-variants.{Segment}
-use Rattle.search.specs.Constants.{largest, lowest, dropM}
-use Rattle.search.specs.Line.{at}
-use Rattle.search.specs.Turn.{turned}
-use Rattle.search.specs.Cost.{plain, costOf}
-use Rattle.search.specs.Search.{nearestOn, costWithin, considered, falling, found, count, every, anywhere, nearestOnBreadcrumb, nearestWithin}
-use Rattle.search.specs.Course.{inReach, afterGap, slidesBack, orElse, settled, onNear, matched, nearestOnCourse, closer, costAnywhere, courseNear, joins, joinedFrom, joined}
+use Rattle.segments.specs.Constants.{largest, lowest, dropM}
+use Rattle.segments.specs.Line.{at}
+use Rattle.segments.specs.Turn.{turned}
+use Rattle.segments.specs.Cost.{plain, costOf}
+use Rattle.segments.specs.Segment.{nearestOn, costWithin, considered, found}
+use Rattle.search.specs.Search.{falling, count, every, anywhere, nearestOnBreadcrumb, nearestWithin}
+use Rattle.search.specs.Course.{closer, costAnywhere, courseNear, joins, joinedFrom, joined}
 use Rattle.search.specs.Along.{placeBefore, ends as leading}
 use Rattle.search.specs.Theorems.{Met, OnlyMet, FirstOfLeast, Finds}
 use Rattle.search.proofs.Choosing.{rising-all, falling-all, chosen-met, chosen-finds}
@@ -78,42 +78,6 @@ module _ (line : List Crumb) (p : Point) where
       pub within-least : (near : Nearest) → nearestWithin line p ends within by ≡ Found near
           → (least : Float) × FirstOfLeast (costWithin line p within by) Higher ends (near .end) least
       within-least near e = course near e .1
-
-    -- ---- the course while it is followed
-    module _ (first : 1 ≤ ends .from) (was : Progress) where
-      reach-met : (by : Ranking) → OnlyMet line p ends (inReach line p ends (was .along) by)
-      unfolding inReach
-      reach-met by = within-met first _ by
-
-      pub near-met : OnlyMet line p ends (onNear line p ends was)
-      unfolding onNear
-      near-met = within-met first _ _
-
-      either-met : (best other : Best) → OnlyMet line p ends best → OnlyMet line p ends other → OnlyMet line p ends (orElse best other)
-      unfolding orElse
-      either-met (Found near) other f o = f
-      either-met Nothing other f o = o
-
-      settled-met : (near : Nearest) → OnlyMet line p ends (Found near) → OnlyMet line p ends (settled line p ends was near)
-      unfolding settled
-      settled-met near kept = by-test (slidesBack line was near)
-        where
-          by-test : (b : Bool) → OnlyMet line p ends (elim b [ true ↦ orElse (inReach line p ends (was .along) (Ahead (was .heading))) (Found near) | false ↦ Found near ])
-          by-test true = either-met _ (Found near) (reach-met (Ahead (was .heading))) kept
-          by-test false = kept
-
-      matched-met : (best : Best) → OnlyMet line p ends best → OnlyMet line p ends (matched line p ends was best)
-      unfolding matched
-      matched-met Nothing h = reach-met Plain
-      matched-met (Found near) h = settled-met near h
-
-      pub course-met : OnlyMet line p ends (nearestOnCourse line p ends was)
-      unfolding nearestOnCourse
-      course-met = by-test (afterGap (was .fix) p)
-        where
-          by-test : (b : Bool) → OnlyMet line p ends (elim b [ true ↦ inReach line p ends (was .along) Plain | false ↦ matched line p ends was (onNear line p ends was) ])
-          by-test true = reach-met Plain
-          by-test false = matched-met (onNear line p ends was) near-met
 
   -- ---- the course while it is not followed
   closer-than : (most : Float) (best : Best) (near : Nearest) → closer most best ≡ Found near → (best ≡ Found near) × (le (near .off) most ≡ true)

@@ -1,30 +1,19 @@
 -- The steps of the searches that stop at their first answer. Assumes nothing.
 use Prim.Native.Nat.{ℕ, zero, suc, _+_, _-_, _≤_, _<_}
 use mathlib.Core.Path.{_≡_, refl, sym, ap, _∙_}
-use mathlib.Core.Bool.{Bool, true, false, not}
+use mathlib.Core.Bool.{Bool, true, false}
 use mathlib.Core.List.{List, _∷_}
 use native.Mathlib.Omega.{arith}
 use native.Mathlib.Numerals.{add-one}
-use native.Mathlib.Decide.{decLt}
-use borrow.Author.Tests.{lt-ltb, le-ltb, lt-leb, le-leb}
-use lib.Dec.{leb, ltb}
 use lib.ListN.{length, drop, drop-of-length-le}
 use lib.Seq.{drop-cons}
 use lib.Ieee.{Float, lt, le}
 use Rattle.plane.specs.declared.Point.{Point}
 use Rattle.crumbs.specs.declared.Crumb.{Crumb}
 use Rattle.search.specs.declared.Join.the-variants.{Segment, NoSegment}
-use Rattle.search.specs.Line.{missing, at}
+use Rattle.segments.specs.Line.{missing, at}
 use Rattle.search.specs.Course.{joins, joinedFrom}
 use Rattle.search.specs.Along.{placeBefore, pointAlong, atAlong, ends}
-
--- one test two ways
-pub ltb-not : (a b : ℕ) → ltb a b ≡ not (leb b a)
-ltb-not a b = at-case (decLt a b)
-  where
-    at-case : Dec (a < b) → ltb a b ≡ not (leb b a)
-    at-case (yes h) = simp (lt-ltb a b h, lt-leb b a h)
-    at-case (no h) = let k : b ≤ a = omega arith in simp (le-ltb a b k, le-leb b a k)
 
 -- ---- the segment that a rider joins, from `end` down
 module _ (line : List Crumb) (p : Point) (heading : ℕ) where

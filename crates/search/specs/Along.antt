@@ -8,7 +8,7 @@ use Rattle.binary32.specs.Limits.{plusZero, clamp}
 use Rattle.plane.specs.declared.Point.{Point}
 use Rattle.plane.specs.Plane.{between}
 use Rattle.crumbs.specs.declared.Crumb.{Crumb}
-use Rattle.search.specs.Line.{at}
+use Rattle.segments.specs.Line.{at}
 
 -- the last place from i down that lies no further than `along`, or the first place
 unfoldable pub placeBefore : List Crumb → Float → ℕ → ℕ

@@ -6,13 +6,13 @@ use mathlib.Core.List.{List}
 use lib.Ieee.{Float, lt, le}
 use Rattle.plane.specs.declared.Point.{Point}
 use Rattle.crumbs.specs.declared.Crumb.{Crumb}
-use Rattle.search.specs.declared.Nearest.{Nearest}
-use Rattle.search.specs.declared.Best.{Best}
-use Rattle.search.specs.declared.Best.the-variants.{Found}
-use Rattle.search.specs.declared.Cost.{Cost}
-use Rattle.search.specs.declared.Cost.the-variants.{Metres}
+use Rattle.segments.specs.declared.Nearest.{Nearest}
+use Rattle.segments.specs.declared.Best.{Best}
+use Rattle.segments.specs.declared.Best.the-variants.{Found}
+use Rattle.segments.specs.declared.Cost.{Cost}
+use Rattle.segments.specs.declared.Cost.the-variants.{Metres}
 use Rattle.search.specs.declared.Range.{Range}
-use Rattle.search.specs.Search.{nearestOn}
+use Rattle.segments.specs.Segment.{nearestOn}
 
 -- `near` is where p meets a segment of the line, one of those tried
 pub record Met (line : List Crumb) (p : Point) (ends : Range) (near : Nearest) : Type 0 where

@@ -20,7 +20,7 @@ use Rattle.motion.specs.declared.StartPass.{StartPass}
 use Rattle.motion.specs.Pass.{stepOf}
 use Rattle.state.specs.declared.Guide.{Guide}
 use Rattle.state.specs.Guide.{arrow}
-use Rattle.update.specs.Update.{offNow}
+use Rattle.matching.specs.Match.{offNow}
 use Rattle.calls.specs.Calls.{Reset}
 use Rattle.log.specs.declared.Utc.the-variants as utc
 use Rattle.rebuild.specs.declared.Rebuild.{Rebuild}

@@ -1,5 +1,2 @@
 -- Facts that the functions' proofs share.
-mod Keeping
-mod Fitting
-mod Deciding
-mod Setting
+pub mod Setting

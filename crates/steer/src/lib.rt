@@ -1,13 +1,11 @@
-// What the rider chooses: following begun and ended, a course set, the guide made anew.
+// The guide made anew, and a course set.
 
-use follow::Answered;
 use motion::Lap;
 use motion::Motion;
 use motion::Stage;
 use motion::StartPass;
 use plane::Heading;
 use plane::Spot;
-use search::Best;
 use state::Course;
 use state::Follow;
 use state::Frame;
@@ -19,154 +17,10 @@ ghost use mathlib.Core.Path.{_≡_};
 ghost use Prim.Native.Nat.{_≤_};
 ghost use lib.ListN.{length};
 ghost use Rattle.crumbs.specs.Crumb.{capacity};
-ghost use Rattle.trail.specs.View as trail;
-ghost use Rattle.state.specs.declared.Line.the-variants as followed;
-ghost use Rattle.follow.specs.View.{Fit, courseOf, Changes, Follows, InLine};
+ghost use Rattle.follow.specs.View.{Changes};
 ghost use Rattle.course.specs.Course.{fixes};
-ghost use Rattle.calls.specs.Follow.{brought, engagedOr, wayHome, follow, nearHere, followFrom, setFollowing, autoOff, setAutoFollow};
 ghost use Rattle.calls.specs.Line.{noLap, lined, awaiting, offCourse};
-ghost use Rattle.steer.specs.View.{Decides, Made, Resets, SetsLine};
-
-// ---- following begun and ended
-
-// The guide brought up to date where there is a place to show.
-fn brought(h: Homing, crumbs: &mut [f32], line: &[f32], now_ms: u64) -> Answered
-    requires { ⌜ Fit h (length (now crumbs)) (length (now line)) ⌝ }
-    ensures { λ r. ⌜ Decides (λ C. brought C (courseOf h (now (line .entry))) «now_ms») h (now (crumbs .entry)) r (now (crumbs .exit)) ⌝ }
-{
-    let here = h.here;
-    let Spot::At(p) = here else {
-        return Answered {
-            homing: h,
-            yes: true,
-        };
-    };
-    let told = update::update(h, crumbs, line, p, now_ms);
-    let homing = told.homing;
-    Answered { homing, yes: true }
-}
-
-// A following that began is shown; where none did the answer is no.
-fn engaged_or(engaged: bool, h: Homing, crumbs: &mut [f32], line: &[f32], now_ms: u64) -> Answered
-    requires { ⌜ Fit h (length (now crumbs)) (length (now line)) ⌝ }
-    ensures { λ r. ⌜ Decides (λ C. engagedOr engaged C (courseOf h (now (line .entry))) «now_ms») h (now (crumbs .entry)) r (now (crumbs .exit)) ⌝ }
-{
-    if engaged {
-        return brought(h, crumbs, line, now_ms);
-    }
-    Answered {
-        homing: h,
-        yes: false,
-    }
-}
-
-// Follow the breadcrumb back: it ends where the rider turns round.
-fn way_home(h: Homing, crumbs: &mut [f32], line: &[f32], now_ms: u64) -> Answered
-    requires { ⌜ Fit h (length (now crumbs)) (length (now line)) ⌝ }
-    requires { ⌜ h .follow .line ≡ followed.Nothing ⌝ }
-    ensures { λ r. ⌜ Decides (λ C. wayHome C (courseOf h (now (line .entry))) «now_ms») h (now (crumbs .entry)) r (now (crumbs .exit)) ⌝ }
-{
-    let flushed = follow::flush(h, crumbs);
-    let engaged = follow::engage(flushed, crumbs, line, now_ms);
-    let homing = engaged.homing;
-    engaged_or(engaged.yes, homing, crumbs, line, now_ms)
-}
-
-// The course where it was found near, else the breadcrumb back.
-fn follow_best(best: Best, h: Homing, crumbs: &mut [f32], line: &[f32], now_ms: u64) -> Answered
-    requires { ⌜ Fit h (length (now crumbs)) (length (now line)) ⌝ }
-    requires { ⌜ (h .follow .line ≡ followed.Nothing) × InLine (h .course .«line_len») best ⌝ }
-    ensures { λ r. ⌜ Decides (λ C. follow best C (courseOf h (now (line .entry))) «now_ms») h (now (crumbs .entry)) r (now (crumbs .exit)) ⌝ }
-{
-    let Best::Found(near) = best else {
-        return way_home(h, crumbs, line, now_ms);
-    };
-    let engaged = follow::engage_at(h, line, Line::Course, near.end, now_ms);
-    brought(engaged, crumbs, line, now_ms)
-}
-
-// The course's nearest segment while the course is near.
-fn near_here(h: Homing, line: &[f32]) -> Best
-    requires { ⌜ h .course .«line_len» ≤ capacity (length (now line)) ⌝ }
-    ensures { λ r. ⌜ r ≡ nearHere (h .here) (courseOf h (now (line .entry))) ⌝ }
-{
-    let here = h.here;
-    let Spot::At(p) = here else {
-        return Best::Nothing;
-    };
-    let len = h.course.line_len;
-    search::course_near(line, len, p)
-}
-
-// What is followed already is followed on.
-fn follow_from(h: Homing, crumbs: &mut [f32], line: &[f32], now_ms: u64) -> Answered
-    requires { ⌜ Fit h (length (now crumbs)) (length (now line)) ⌝ }
-    ensures { λ r. ⌜ Decides (λ C. followFrom (h .follow .line) C (courseOf h (now (line .entry))) «now_ms») h (now (crumbs .entry)) r (now (crumbs .exit)) ⌝ }
-{
-    let f = h.follow;
-    let on = f.line;
-    match on {
-        Line::Nothing => {
-            let best = near_here(h, line);
-            follow_best(best, h, crumbs, line, now_ms)
-        }
-        Line::Breadcrumb => brought(h, crumbs, line, now_ms),
-        Line::Course => brought(h, crumbs, line, now_ms),
-    }
-}
-
-// Start or stop following. Starting follows the course while it is near, else the breadcrumb back, and
-// answers no where there is no way back.
-pub fn set_following(
-    h: Homing,
-    crumbs: &mut [f32],
-    line: &[f32],
-    follow: bool,
-    now_ms: u64,
-) -> Answered
-    requires { ⌜ Fit h (length (now crumbs)) (length (now line)) ⌝ }
-    ensures { λ r. ⌜ Decides (λ C. setFollowing follow C (courseOf h (now (line .entry))) «now_ms») h (now (crumbs .entry)) r (now (crumbs .exit)) ⌝ }
-{
-    if follow {
-        return follow_from(h, crumbs, line, now_ms);
-    }
-    let stopped = follow::stop_following(h, crumbs);
-    brought(stopped, crumbs, line, now_ms)
-}
-
-// ---- following by itself
-
-// Turned off, it also stops a following under way.
-fn auto_off(h: Homing, crumbs: &mut [f32]) -> Homing
-    requires { ⌜ (trail.Fit (h .trail) (length (now crumbs))) × (h .follow .line ≡ followed.Breadcrumb → h .follow .segment ≤ h .trail .len) ⌝ }
-    ensures { λ r. ⌜ Follows (autoOff (h .«auto_follow»)) h (now (crumbs .entry)) r (now (crumbs .exit)) ⌝ }
-{
-    if h.auto_follow {
-        let stopped = follow::stop_following(h, crumbs);
-        return Homing {
-            auto_follow: false,
-            ..stopped
-        };
-    }
-    Homing {
-        auto_follow: false,
-        ..h
-    }
-}
-
-// Whether riding back over the breadcrumb, or along the course, starts following it.
-pub fn set_auto_follow(h: Homing, crumbs: &mut [f32], on: bool) -> Homing
-    requires { ⌜ (trail.Fit (h .trail) (length (now crumbs))) × (h .follow .line ≡ followed.Breadcrumb → h .follow .segment ≤ h .trail .len) ⌝ }
-    ensures { λ r. ⌜ Follows (setAutoFollow on) h (now (crumbs .entry)) r (now (crumbs .exit)) ⌝ }
-{
-    if on {
-        return Homing {
-            auto_follow: true,
-            ..h
-        };
-    }
-    auto_off(h, crumbs)
-}
+ghost use Rattle.steer.specs.View.{Made, Resets, SetsLine};
 
 // ---- made anew
 

@@ -13,9 +13,9 @@ use Rattle.plane.specs.declared.Spot.the-variants as spot
 use Rattle.plane.specs.Place.{Place}
 use Rattle.crumbs.specs.declared.Crumb.{Crumb}
 use Rattle.motion.specs.Heading.{elapsed}
-use Rattle.search.specs.declared.Nearest.{Nearest}
-use Rattle.search.specs.declared.Best.{Best}
-use Rattle.search.specs.declared.Best.the-variants as best
+use Rattle.segments.specs.declared.Nearest.{Nearest}
+use Rattle.segments.specs.declared.Best.{Best}
+use Rattle.segments.specs.declared.Best.the-variants as best
 use Rattle.search.proofs.Theorems.{course-near-met}
 use Rattle.state.specs.declared.Place.{Place as Fed}
 use Rattle.state.specs.declared.Place.the-variants as fed
@@ -26,7 +26,8 @@ use Rattle.state.specs.declared.Course.{Course}
 use Rattle.state.specs.State.{State, withTrack}
 use Rattle.state.specs.Rule.{Done}
 use Rattle.follow.specs.Engage.{cutTo, forgotten}
-use Rattle.follow.specs.Join.{withRetrace, lenBefore, ridesBack, retracing}
+use Rattle.joining.specs.Join.{withRetrace, retracing}
+use Rattle.retrace.specs.Retrace.{lenBefore, ridesBack}
 use Rattle.update.specs.Update.{update}
 use Rattle.course.specs.Fix.{Fix, located}
 use Rattle.calls.specs.Fix.{fixLostMs, isAt, unfixed, cleared, missing, sameFix, headed, stillMs, stillAt, addUpdate, tellFollowing, joinedCourse, turnedBack, engagedBack, retraced, mayRetrace, joinedOrNot, fixOn, arrivedAt, newFix, seen, observe, passOnly, replay, unheaded, endReplay}

@@ -31,7 +31,7 @@ use Rattle.state.specs.State.{State, withTrack, withFollow}
 use Rattle.state.specs.Rule.{Done}
 use Rattle.follow.specs.Record.{left, afterThinning, recordedIn, recorded, keep, add, flush}
 use Rattle.follow.specs.Engage.{alongAt, courseFrom, engageAt, leads, engage, stopped, heldOff, cutTo, leaveAt, forgotten, stopNothing, stopCourse, stopBreadcrumb, stopOn, stop}
-use Rattle.follow.specs.Join.{joinedTo, joinOn, mayJoin, joinWith, joining}
+use Rattle.joining.specs.Join.{joinedTo, joinOn, mayJoin, joinWith, joining}
 use Rattle.taken.proofs.Tests.{one-of, and-left}
 use Rattle.taken.proofs.Bounds.{Along, far, along-start, along-far}
 use Rattle.taken.proofs.Laid.{most, laid-at}

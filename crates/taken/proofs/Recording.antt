@@ -23,7 +23,8 @@ use Rattle.trail.proofs.Rules.{keep-full, keep-room, flush-none, flush-some, be
 use Rattle.trail.proofs.Theorems.{Sound, thin-sound, flush-sound, MayKeep, nothing, one, Keeps, full}
 use Rattle.trail.proofs.Theorems as trail
 use Rattle.follow.specs.Engage.{forgotten}
-use Rattle.follow.specs.Join.{retraceFixes, withRetrace, lenBefore}
+use Rattle.joining.specs.Join.{retraceFixes, withRetrace}
+use Rattle.retrace.specs.Retrace.{lenBefore}
 use Rattle.calls.specs.Questions.{placesFit, retraceFits}
 use Rattle.taken.proofs.Tests.{one-of}
 use Rattle.taken.proofs.Bounds.{place-fits}

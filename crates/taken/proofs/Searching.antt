@@ -10,10 +10,10 @@ use Rattle.plane.specs.Place.{Place}
 use Rattle.plane.proofs.Places.{share-share, project-place}
 use Rattle.crumbs.specs.declared.Crumb.{Crumb}
 use Rattle.crumbs.specs.Crumb.{point}
-use Rattle.search.specs.declared.Nearest.{Nearest}
+use Rattle.segments.specs.declared.Nearest.{Nearest}
 use Rattle.search.specs.declared.Range.{Range}
-use Rattle.search.specs.Line.{at}
-use Rattle.search.specs.Search.{meets, nearestOn}
+use Rattle.segments.specs.Line.{at}
+use Rattle.segments.specs.Segment.{meets, nearestOn}
 use Rattle.search.specs.Theorems.{Met}
 use Rattle.taken.proofs.Bounds.{Along, far, along-share}
 use Rattle.taken.proofs.Laid.{InPlane, laid-at}

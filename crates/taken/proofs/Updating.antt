@@ -13,12 +13,13 @@ use Rattle.plane.specs.Plane.{turn, distance, bearing}
 use Rattle.plane.specs.Place.{Place}
 use Rattle.plane.proofs.Theorems.{bearing-below}
 use Rattle.crumbs.specs.declared.Crumb.{Crumb}
-use Rattle.search.specs.declared.Nearest.{Nearest}
-use Rattle.search.specs.declared.Best.{Best}
-use Rattle.search.specs.declared.Best.the-variants.{Nothing, Found}
+use Rattle.segments.specs.declared.Nearest.{Nearest}
+use Rattle.segments.specs.declared.Best.{Best}
+use Rattle.segments.specs.declared.Best.the-variants.{Nothing, Found}
 use Rattle.search.specs.declared.Range.{Range}
-use Rattle.search.specs.Constants.{dropM}
-use Rattle.search.proofs.Theorems.{breadcrumb-met, course-met}
+use Rattle.segments.specs.Constants.{dropM}
+use Rattle.search.proofs.Theorems.{breadcrumb-met}
+use Rattle.course_match.proofs.Theorems.{course-met}
 use Rattle.trail.specs.Trail.{startOf}
 use Rattle.state.specs.declared.Line.{Line}
 use Rattle.state.specs.declared.Line.the-variants as line
@@ -29,8 +30,12 @@ use Rattle.state.specs.declared.Course.{Course}
 use Rattle.state.specs.declared.Shown.the-variants as shown
 use Rattle.state.specs.State.{State}
 use Rattle.state.specs.Rule.{Done}
-use Rattle.update.specs.declared.Way.{Way}
-use Rattle.update.specs.Update.{leaveM, arriveM, onCourse, onLine, followedOn, followed, goalOn, begun, longEnough, offCleared, arrivalFrom, guideAt, finished, direct, aroundSegment, progress, nearest, nearer, offM, widened, smaller, followMatched, courseMatched, matchedAt, endedWith, atCourseEnd, matchedTo, matchFrom, followOn, update}
+use Rattle.followed.specs.declared.Way.{Way}
+use Rattle.guide.specs.Guide.{leaveM, arriveM, offCleared, arrivalFrom, guideAt, finished, direct}
+use Rattle.goal.specs.Goal.{goalOn, longEnough}
+use Rattle.matching.specs.Match.{onCourse, onLine, aroundSegment, nearer, offM, smaller, followMatched, courseMatched}
+use Rattle.followed.specs.Followed.{followedOn, followed, progress, nearest, widened}
+use Rattle.update.specs.Update.{begun, matchedAt, endedWith, atCourseEnd, matchedTo, matchFrom, followOn, update}
 use Rattle.calls.specs.Questions.{guideFits, shownFits}
 use Rattle.taken.proofs.Tests.{either, one-of, and-right}
 use Rattle.taken.proofs.Bounds.{Along, far}

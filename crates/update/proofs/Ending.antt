@@ -8,10 +8,9 @@ use lib.Ieee.{Float, lt, le}
 use Rattle.plane.specs.declared.Point.{Point}
 use Rattle.plane.specs.declared.Spot.{Spot}
 use Rattle.plane.specs.declared.Spot.the-variants.{At, Nowhere}
-use Rattle.crumbs.specs.declared.Crumb.{Crumb}
 use Rattle.crumbs.specs.Crumb.{capacity, crumbs, behind}
-use Rattle.search.specs.declared.Nearest.{Nearest}
-use Rattle.search.specs.Constants.{onM}
+use Rattle.segments.specs.declared.Nearest.{Nearest}
+use Rattle.segments.specs.Constants.{onM}
 use Rattle.trail.specs.declared.Trail.{Trail}
 use Rattle.trail.specs.View as trail
 use Rattle.state.specs.declared.Line.{Line}
@@ -19,13 +18,16 @@ use Rattle.state.specs.declared.Line.the-variants as line
 use Rattle.state.specs.declared.Event.{Event}
 use Rattle.state.specs.declared.Homing.{Homing}
 use Rattle.state.specs.State.{State, stateOf}
-use Rattle.state.specs.Rule.{Done}
 use Rattle.follow.specs.Record.{recordedIn, recorded, keep}
 use Rattle.follow.specs.Engage.{cutTo, leaveAt, heldOff, stopNothing, stopCourse, stopBreadcrumb, stopOn, stop}
 use Rattle.follow.specs.View.{Fit, courseOf, Changes, Follows}
-use Rattle.update.specs.declared.Told.{Told}
-use Rattle.update.specs.Update.{onCourse, arriveM, begun, direct, atCourseEnd, endedWith}
-use Rattle.update.specs.View.{Room, Tells, Updates}
+use Rattle.guide.specs.declared.Told.{Told}
+use Rattle.matching.specs.Match.{onCourse}
+use Rattle.guide.specs.Guide.{arriveM, direct}
+use Rattle.update.specs.Update.{begun, atCourseEnd, endedWith}
+use Rattle.followed.specs.View.{Room}
+use Rattle.guide.specs.View.{Tells}
+use Rattle.update.specs.View.{Updates}
 
 -- ---- the placed line is as long as it was
 left-line : (C : ℕ) (matched : Spot) (segment : ℕ) (s : State) → leaveAt C matched segment s .state .course .«line_len» ≡ s .course .«line_len»

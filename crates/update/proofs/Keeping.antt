@@ -1,7 +1,7 @@
 -- An update changes the crumbs held only where the breadcrumb was followed and matched. Assumes nothing.
-use mathlib.Core.Path.{_≡_, refl, sym, ap, _∙_, subst}
+use mathlib.Core.Path.{_≡_, refl, sym, ap, _∙_}
 use Prim.Native.Nat.{ℕ}
-use mathlib.Core.Bool.{Bool, true, false, _&&_, _||_}
+use mathlib.Core.Bool.{Bool, true, false, _&&_}
 use mathlib.Core.List.{List}
 use lib.Dec.{leb}
 use lib.ListN.{length}
@@ -12,11 +12,10 @@ use Rattle.plane.specs.declared.Spot.the-variants.{Nowhere}
 use Rattle.crumbs.specs.declared.Crumb.{Crumb}
 use Rattle.crumbs.specs.Crumb.{crumbs}
 use Rattle.crumbs.proofs.Crumbs.{length-crumbs}
-use Rattle.search.specs.declared.Nearest.{Nearest}
-use Rattle.search.specs.declared.Best.{Best}
-use Rattle.search.specs.declared.Best.the-variants.{Nothing, Found}
-use Rattle.search.specs.Constants.{dropM}
-use Rattle.trail.specs.Trail.{Track}
+use Rattle.segments.specs.declared.Nearest.{Nearest}
+use Rattle.segments.specs.declared.Best.{Best}
+use Rattle.segments.specs.declared.Best.the-variants.{Nothing, Found}
+use Rattle.segments.specs.Constants.{dropM}
 use Rattle.trail.specs.View.{track}
 use Rattle.state.specs.declared.Line.{Line}
 use Rattle.state.specs.declared.Line.the-variants as line
@@ -26,9 +25,12 @@ use Rattle.state.specs.declared.Homing.{Homing}
 use Rattle.state.specs.State.{State, stateOf, withFollow, withArrived}
 use Rattle.state.specs.Rule.{Done, done}
 use Rattle.follow.specs.Engage.{leaveAt, forgotten, stopNothing, stopCourse, stopBreadcrumb, stopOn, stop}
-use Rattle.update.specs.declared.Way.{Way}
-use Rattle.update.specs.declared.Told.{Told}
-use Rattle.update.specs.Update.{onLine, followed, arriveM, leaveM, offCleared, arrivalFrom, finished, direct, begun, aroundSegment, nearest, widened, matchedAt, endedWith, atCourseEnd, matchedTo, matchFrom, followOn, update}
+use Rattle.followed.specs.declared.Way.{Way}
+use Rattle.guide.specs.declared.Told.{Told}
+use Rattle.matching.specs.Match.{onLine}
+use Rattle.followed.specs.Followed.{followed, widened}
+use Rattle.guide.specs.Guide.{arriveM, leaveM, offCleared, arrivalFrom, finished, direct}
+use Rattle.update.specs.Update.{begun, matchedAt, endedWith, atCourseEnd, matchedTo, matchFrom, followOn, update}
 use Rattle.update.specs.View.{Updates}
 
 -- what an update would cut: the breadcrumb is followed, and a point on it was matched

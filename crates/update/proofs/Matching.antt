@@ -1,13 +1,12 @@
 -- A match, in the whole state. Assumes nothing.
-use mathlib.Core.Path.{_≡_, refl, sym, ap, _∙_, subst}
+use mathlib.Core.Path.{_≡_, ap, _∙_}
 use Prim.Native.Nat.{ℕ}
 use mathlib.Core.Bool.{Bool}
 use mathlib.Core.List.{List}
 use lib.Ieee.{Float}
 use Rattle.plane.specs.declared.Point.{Point}
-use Rattle.crumbs.specs.declared.Crumb.{Crumb}
 use Rattle.crumbs.specs.Crumb.{crumbs}
-use Rattle.search.specs.declared.Nearest.{Nearest}
+use Rattle.segments.specs.declared.Nearest.{Nearest}
 use Rattle.state.specs.declared.Event.{Event}
 use Rattle.state.specs.declared.Follow.{Follow}
 use Rattle.state.specs.declared.Course.{Course}
@@ -15,10 +14,13 @@ use Rattle.state.specs.declared.Homing.{Homing}
 use Rattle.state.specs.State.{State, stateOf, withFollow, withCourse}
 use Rattle.state.specs.Rule.{Done}
 use Rattle.follow.specs.View.{courseOf}
-use Rattle.update.specs.declared.Way.{Way}
-use Rattle.update.specs.declared.Told.{Told}
-use Rattle.update.specs.Update.{followed, offNow, offEvent, due, followMatched, courseMatched, wayOn, finished, matchedAt}
-use Rattle.update.specs.View.{Tells}
+use Rattle.followed.specs.declared.Way.{Way}
+use Rattle.guide.specs.declared.Told.{Told}
+use Rattle.followed.specs.Followed.{followed, wayOn}
+use Rattle.matching.specs.Match.{offNow, offEvent, due, followMatched, courseMatched}
+use Rattle.guide.specs.Guide.{finished}
+use Rattle.update.specs.Update.{matchedAt}
+use Rattle.guide.specs.View.{Tells}
 
 module _ (h : Homing) (b line : List Float) (p : Point) (now : ℕ) (near : Nearest) where
   abbrev offHere : Bool

@@ -8,26 +8,30 @@ use lib.ListN.{length}
 use lib.Ieee.{Float, lt}
 use borrow.Author.Tests.{leb-true}
 use Rattle.plane.specs.declared.Point.{Point}
-use Rattle.search.specs.declared.Nearest.{Nearest}
-use Rattle.search.specs.Constants.{dropM}
+use Rattle.segments.specs.declared.Nearest.{Nearest}
+use Rattle.segments.specs.Constants.{dropM}
 use Rattle.crumbs.specs.declared.Crumb.{Crumb}
 use Rattle.crumbs.specs.Crumb.{capacity, crumbs, behind}
 use Rattle.trail.specs.declared.Trail.{Trail}
 use Rattle.trail.specs.View as trail
 use Rattle.state.specs.declared.Event.{Event}
 use Rattle.state.specs.declared.Event.the-variants as event
-use Rattle.state.specs.declared.Line.{Line}
 use Rattle.state.specs.declared.Follow.{Follow}
 use Rattle.state.specs.declared.Course.{Course}
 use Rattle.state.specs.declared.Homing.{Homing}
 use Rattle.state.specs.State.{State, stateOf}
 use Rattle.state.specs.Rule.{Done}
-use Rattle.follow.specs.View.{Fit, courseOf, Changes, Follows}
-use Rattle.update.specs.declared.Told.{Told}
-use Rattle.update.specs.Update.{onLine, followed, begun, direct, matchedAt, endedWith, atCourseEnd, matchedTo, followOn, update}
-use Rattle.update.specs.View.{Room, followedLen, Tells, Updates}
-use Rattle.update.proofs.Choosing.{picked, passed-by}
-use Rattle.update.proofs.Lines.{followed-long}
+use Rattle.follow.specs.View.{Fit, courseOf, Changes}
+use Rattle.guide.specs.declared.Told.{Told}
+use Rattle.matching.specs.Match.{onLine}
+use Rattle.followed.specs.Followed.{followed}
+use Rattle.update.specs.Update.{begun, matchedAt, endedWith, atCourseEnd, matchedTo, followOn, update}
+use Rattle.guide.specs.Guide.{direct}
+use Rattle.followed.specs.View.{Room, followedLen}
+use Rattle.guide.specs.View.{Tells}
+use Rattle.update.specs.View.{Updates}
+use Rattle.matching.proofs.Choosing.{picked, passed-by}
+use Rattle.followed.proofs.Lines.{followed-long}
 
 -- the crumbs and the line fit
 pub roomy : (h : Homing) (room lineRoom : ℕ) → Fit h room lineRoom → Room h room lineRoom

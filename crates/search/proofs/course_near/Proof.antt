@@ -7,9 +7,10 @@ use lib.Ieee.{ofBits}
 use Rattle.binary32.specs.Arithmetic.{constant}
 use Rattle.crumbs.proofs.Crumbs.{length-crumbs}
 use Rattle.crumbs.specs.Crumb.{crumbs}
-use Rattle.search.specs.Constants.{dropM}
+use Rattle.segments.specs.Constants.{dropM}
 use Rattle.search.specs.Course.{closer, costAnywhere, courseNear}
-use Rattle.search.specs.Search.{considered, every, found}
+use Rattle.segments.specs.Segment.{considered, found}
+use Rattle.search.specs.Search.{every}
 use Rattle.search.proofs.Searching.{falls-from, Falls, falls-on, falls-out}
 use Rattle.search.proofs.course_near.Statement.{statement}
 use Rattle.search.proofs.course_near.Tie as tie

@@ -4,7 +4,8 @@ use mathlib.Core.Path.{ap, _∙_}
 use native.Mathlib.Omega.{arith}
 use borrow.Author.Needs.{needs}
 use Rattle.crumbs.specs.Crumb.{crumbs}
-use Rattle.search.specs.Search.{considered, costWithin, found, nearestWithin}
+use Rattle.segments.specs.Segment.{considered, costWithin, found}
+use Rattle.search.specs.Search.{nearestWithin}
 use Rattle.search.proofs.Searching.{Falls, falls-start, falls-on, falls-out}
 use Rattle.search.proofs.nearest_within.Statement.{statement}
 use Rattle.search.proofs.nearest_within.Tie as tie

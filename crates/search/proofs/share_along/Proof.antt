@@ -2,7 +2,7 @@
 use mathlib.Core.Path.{_∙_}
 use borrow.Author.Needs.{needs}
 use lib.Ieee.{ofBits}
-use Rattle.search.proofs.Considering.{share-long, share-short}
+use Rattle.search.proofs.Sharing.{share-long, share-short}
 use Rattle.search.proofs.share_along.Statement.{statement}
 use Rattle.search.proofs.share_along.Tie as tie
 

@@ -2,9 +2,9 @@
 use mathlib.Core.Path.{_≡_, sym, _∙_}
 use lib.Ieee.{ofBits}
 use Rattle.binary32.specs.Arithmetic.{constant}
-use Rattle.search.specs.Constants.{onM}
+use Rattle.segments.specs.Constants.{onM}
 use Rattle.state.specs.State.{stateOf}
-use Rattle.update.specs.Update.{arriveM}
+use Rattle.guide.specs.Guide.{arriveM}
 use Rattle.update.proofs.Ending.{course-ends, far-from-course, no-course}
 use borrow.Author.Needs.{needs}
 use Rattle.update.proofs.at_course_end.Statement.{statement}

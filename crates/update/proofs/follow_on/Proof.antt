@@ -5,13 +5,16 @@ use Prim.Native.Nat.{ℕ, _+_, _-_, _≤_, _<_, min, max}
 use native.Mathlib.Omega.{arith}
 use lib.ListN.{length}
 use Rattle.crumbs.specs.Crumb.{capacity}
-use Rattle.search.specs.declared.Best.{Best}
+use Rattle.segments.specs.declared.Best.{Best}
 use Rattle.search.specs.declared.Range.{Range}
 use Rattle.state.specs.State.{stateOf}
-use Rattle.follow.specs.View.{courseOf, InLine}
-use Rattle.update.specs.Update.{nearest, aroundSegment, matchFrom, followOn}
-use Rattle.update.specs.View.{followedLen}
-use Rattle.update.proofs.Lines.{followed-long, nearest-in, on-followed, low-end, high-end}
+use Rattle.follow.specs.View.{courseOf}
+use Rattle.segments.specs.Segment.{InLine}
+use Rattle.followed.specs.Followed.{nearest}
+use Rattle.matching.specs.Match.{aroundSegment}
+use Rattle.update.specs.Update.{matchFrom, followOn}
+use Rattle.followed.specs.View.{followedLen}
+use Rattle.followed.proofs.Lines.{followed-long, nearest-in, on-followed, low-end, high-end}
 use Rattle.update.proofs.Updating.{roomy, updates-as}
 use borrow.Author.Needs.{needs}
 use Rattle.update.proofs.follow_on.Statement.{statement}

@@ -6,7 +6,7 @@ use mathlib.Core.Bool.{Bool}
 use lib.ListN.{length}
 use Rattle.crumbs.specs.Crumb.{capacity}
 use Rattle.state.specs.declared.Course.{Course}
-use Rattle.update.specs.Update.{offEvent, courseMatched}
+use Rattle.matching.specs.Match.{offEvent, courseMatched}
 use Rattle.update.proofs.Matching.{matches}
 use borrow.Author.Needs.{needs}
 use Rattle.update.proofs.matched_at.Statement.{statement}

@@ -4,7 +4,7 @@ use mathlib.Core.Path.{_≡_, refl, sym, ap, _∙_, subst}
 use lib.ListN.{length}
 use lib.Ieee.{ofBits}
 use Rattle.binary32.specs.Arithmetic.{constant}
-use Rattle.search.specs.Constants.{dropM}
+use Rattle.segments.specs.Constants.{dropM}
 use Rattle.crumbs.specs.Crumb.{capacity}
 use Rattle.state.specs.declared.Event.the-variants as event
 use Rattle.state.specs.State.{stateOf}

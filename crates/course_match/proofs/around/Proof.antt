@@ -1,0 +1,15 @@
+-- `course_match::around` meets its contract: each operation is the rule's. Assumes nothing.
+use mathlib.Core.Path.{refl}
+use lib.Ieee.{ofBits}
+use Rattle.binary32.specs.Arithmetic.{constant}
+use Rattle.segments.specs.Constants.{backM, onM}
+use Rattle.course_match.specs.Course.{around}
+use Rattle.course_match.proofs.around.Statement.{statement}
+use Rattle.course_match.proofs.around.Tie as tie
+
+returns : tie.Need-returns
+unfolding around backM onM constant ofBits
+returns c = refl
+
+pub around-spec : {M : Type 1} → statement M
+around-spec = tie.close (tie.spec returns)

@@ -1,0 +1,2 @@
+pub mod Guide
+pub mod View

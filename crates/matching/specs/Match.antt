@@ -1,0 +1,109 @@
+-- A match on the followed line. Document 01, "Guide and event"; homing.rs, `update`.
+use Prim.Native.Nat.{ℕ, _+_, _-_, min, max}
+use mathlib.Core.Bool.{Bool, true, false, _&&_, not, cond}
+use lib.Dec.{leb}
+use lib.Ieee.{Float, lt, le, eq}
+use Rattle.binary32.specs.Arithmetic.{constant}
+use Rattle.plane.specs.declared.Point.{Point}
+use Rattle.plane.specs.declared.Spot.the-variants.{At}
+use Rattle.crumbs.specs.Crumb.{point}
+use Rattle.motion.specs.Heading.{elapsed}
+use Rattle.segments.specs.declared.Nearest.{Nearest}
+use Rattle.segments.specs.declared.Best.{Best}
+use Rattle.segments.specs.declared.Best.the-variants.{Nothing, Found}
+use Rattle.search.specs.declared.Range.{Range}
+use Rattle.segments.specs.Constants.{onM}
+use Rattle.state.specs.declared.Line.{Line}
+use Rattle.state.specs.declared.Line.the-variants as line
+use Rattle.state.specs.declared.Event.{Event}
+use Rattle.state.specs.declared.Event.the-variants as event
+use Rattle.state.specs.declared.Follow.{Follow}
+use Rattle.state.specs.declared.Course.{Course}
+
+-- ---- distances and times
+-- "Off sets above 50 m"
+unfoldable pub offM : Float
+offM = constant 50 1
+
+-- "A reminder comes after 60,000 ms, only on the breadcrumb."
+abbrev pub remindMs : ℕ
+remindMs = 60000
+
+-- ---- which line
+unfoldable pub onCourse : Line → Bool
+onCourse line.Course = true
+onCourse line.Nothing = false
+onCourse line.Breadcrumb = false
+
+unfoldable pub onLine : Line → Bool
+onLine line.Nothing = false
+onLine line.Breadcrumb = true
+onLine line.Course = true
+
+-- ---- the match
+-- segments behind and ahead of the last match are searched first
+abbrev pub searchBack : ℕ
+searchBack = 64
+
+abbrev pub searchAhead : ℕ
+searchAhead = 4
+
+unfoldable pub aroundSegment : ℕ → ℕ → Range
+aroundSegment segment len = record { from = max (segment - searchBack) 1; to = min (segment + searchAhead) (len - 1) }
+
+-- a match elsewhere on the line, if it is nearer
+unfoldable pub nearer : Nearest → Best → Nearest
+nearer near Nothing = near
+nearer near (Found anywhere) = elim (lt (anywhere .off) (near .off)) [ true ↦ anywhere | false ↦ near ]
+
+-- "Off sets above 50 m and clears at 25 m or less."
+unfoldable pub offNow : Bool → Float → Bool
+offNow true off = lt onM off
+offNow false off = lt offM off
+
+-- the smaller of two; of a number and a NaN the number
+unfoldable pub smaller : Float → Float → Float
+smaller a b = cond (le a b) a (cond (eq b b) b a)
+
+-- off the line still: a reminder, if it is due
+unfoldable pub stillOff : Bool → Event
+stillOff true = event.OffTrack
+stillOff false = event.Nothing
+
+-- what leaving the line, coming back to it, or staying off it tells, by whether it was off, is off, and what is followed
+unfoldable pub offEvent : Bool → Bool → Bool → Event
+offEvent false true due = event.OffTrack
+offEvent true false due = event.OnTrack
+offEvent true true due = stillOff due
+offEvent false false due = event.Nothing
+
+-- whether a reminder is due
+unfoldable pub due : Follow → ℕ → Bool
+due f now = not (onCourse (f .line)) && leb remindMs (elapsed now (f .«reminded_ms»))
+
+-- off since now, or reminded now
+unfoldable pub remindedAt : Event → ℕ → ℕ → ℕ
+remindedAt event.OffTrack now was = now
+remindedAt event.Nothing now was = was
+remindedAt event.Following now was = was
+remindedAt event.OnTrack now was = was
+remindedAt event.Dropped now was = was
+remindedAt event.Arrived now was = was
+remindedAt event.CourseEnd now was = was
+
+unfoldable pub followMatched : Nearest → Bool → Event → ℕ → Follow → Follow
+followMatched near off e now f =
+    record { line = f .line; segment = near .end; matched = At (near .point); off = off; «reminded_ms» = remindedAt e now (f .«reminded_ms») }
+
+unfoldable pub courseMatched : Nearest → Point → Course → Course
+courseMatched near p c =
+    record {
+      «line_len» = c .«line_len»;
+      unplaced = c .unplaced;
+      held = c .held;
+      «join_fixes» = c .«join_fixes»;
+      «join_end» = c .«join_end»;
+      along = near .along;
+      reached = smaller (c .reached) (near .along);
+      fix = At p;
+    }

@@ -1,0 +1,4 @@
+-- Facts that the functions' proofs share.
+pub mod Considering
+pub mod Line
+pub mod Testing

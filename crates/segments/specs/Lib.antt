@@ -1,0 +1,5 @@
+pub mod Constants
+pub mod Cost
+pub mod Line
+pub mod Segment
+pub mod Turn
