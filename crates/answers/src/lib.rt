@@ -222,7 +222,7 @@ pub fn course<'a>(h: Homing, line: &'a [f32], refused: &mut u8) -> &'a [f32]
 pub fn arrow(g: Guide) -> Angle
     ensures { λ r. ⌜ AnswersArrow g r ⌝ }
 {
-    let asked = questions::asks_guide(g);
+    let asked = limits::asks_guide(g);
     if asked != 0 {
         return Angle::Refused(asked);
     }

@@ -1,35 +1,26 @@
 -- The tests of the counts, by the counts themselves, whatever the crumb buffer holds. Assumes nothing.
 use Prim.Native.Nat.{ℕ, _≤_}
 use mathlib.Core.Path.{_≡_, refl, sym, ap, _∙_}
-use mathlib.Core.Bool.{Bool, true, false, _&&_, _||_}
+use mathlib.Core.Bool.{Bool, true, false, _&&_}
 use mathlib.Core.List.{List}
 use borrow.Author.Tests.{leb-true}
-use lib.Dec.{leb, ltb, eqb}
+use lib.Dec.{leb}
 use lib.Ieee.{Float}
 use Rattle.crumbs.specs.Crumb.{crumbs}
 use Rattle.crumbs.proofs.Crumbs.{length-crumbs}
-use Rattle.trail.specs.declared.Trail.{Trail}
 use Rattle.trail.specs.Trail.{windowPlaces}
 use Rattle.trail.specs.View.{track}
 use Rattle.trail.proofs.Window.{length-places}
 use Rattle.state.specs.declared.Homing.{Homing}
 use Rattle.state.specs.State.{stateOf}
-use Rattle.joining.specs.Join.{retraceFixes}
-use Rattle.calls.specs.Questions.{followFits, retraceFits, countsFit, crumbsFit, heldFits}
+use Rattle.limits.proofs.Turning.{turned, retrace-counted}
+use Rattle.calls.specs.Questions.{followFits, countsFit, crumbsFit, heldFits}
 
 -- a conjunction that is true
 pub split : (a b : Bool) → (a && b) ≡ true → (a ≡ true) × (b ≡ true)
 split true b e = (refl, e)
 split false true e = (e, refl)
 split false false e = (e, e)
-
--- the turn-round's
-abbrev pub turned : Trail → Bool
-turned t = ltb (t .retrace) retraceFixes && (eqb (t .retrace) 0 || leb (t .«retrace_len») (t .len))
-
-pub retrace-counted : (t : Trail) (b : List Float) → retraceFits (track t b) ≡ turned t
-unfolding retraceFits track
-retrace-counted t b = simp length-crumbs
 
 -- the window's, the segment's and the turn-round's
 abbrev pub counted : Homing → Bool

@@ -1,5 +1,3 @@
-pub mod Numbers
-pub mod Scans
 pub mod Counts
 pub mod Asking
 pub mod Given

@@ -1,5 +1,4 @@
 -- `questions::numbers_fit` meets its contract: the tests are the rule's. Assumes nothing.
-use lib.Ieee.{ofBits}
 use Rattle.trail.specs.View.{track}
 use Rattle.calls.specs.Questions.{numbersFit}
 use borrow.Author.Needs.{needs}
@@ -27,16 +26,20 @@ shown-fits-requires c κs = search needs
 factor-fits-requires : tie.Need-factor-fits-requires
 factor-fits-requires c κs = search needs
 
+tolerance-fits-requires : tie.Need-tolerance-fits-requires
+tolerance-fits-requires c κs = search needs
+
 returns : tie.Need-returns
-unfolding numbersFit track ofBits
+unfolding numbersFit track
 returns c = λ b. simp (
-  ← c .before .before .before .before .before .before .window-fits .ensures,
-  ← c .before .before .before .before .before .spots-fit .ensures b,
-  ← c .before .before .before .before .along-fits .ensures,
-  ← c .before .before .before .along-fits2 .ensures,
-  ← c .before .before .heading-fits .ensures,
-  ← c .before .shown-fits .ensures,
-  ← c .factor-fits .ensures,
+  ← c .before .before .before .before .before .before .before .window-fits .ensures,
+  ← c .before .before .before .before .before .before .spots-fit .ensures b,
+  ← c .before .before .before .before .before .along-fits .ensures,
+  ← c .before .before .before .before .along-fits2 .ensures,
+  ← c .before .before .before .heading-fits .ensures,
+  ← c .before .before .shown-fits .ensures,
+  ← c .before .factor-fits .ensures,
+  ← c .tolerance-fits .ensures,
 )
 
 pub numbers-fit-spec : {M : Type 1} → statement M
@@ -50,4 +53,5 @@ numbers-fit-spec =
     heading-fits-requires
     shown-fits-requires
     factor-fits-requires
+    tolerance-fits-requires
     returns)

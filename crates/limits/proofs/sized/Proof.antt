@@ -1,0 +1,14 @@
+-- `limits::sized` meets its contract: a size is at most the bound where the number lies from the negative bound to the bound. Assumes nothing.
+use lib.Ieee.{ofBits, neg}
+use Rattle.binary32.specs.Arithmetic.{constant}
+use Rattle.calls.specs.Questions.{sized, placeMost}
+use Rattle.limits.proofs.Numbers.{sized-within}
+use Rattle.limits.proofs.sized.Statement.{statement}
+use Rattle.limits.proofs.sized.Tie as tie
+
+returns : tie.Need-returns
+unfolding sized placeMost constant ofBits neg
+returns c = sized-within _ _ (c .args .x)
+
+pub sized-spec : {M : Type 1} → statement M
+sized-spec = tie.close (tie.spec returns)
