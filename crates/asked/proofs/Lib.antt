@@ -1,0 +1,5 @@
+pub mod Bounds
+pub mod Recording
+pub mod State
+pub mod Measured
+pub mod Asked

@@ -1,0 +1,8 @@
+-- Facts that the functions' proofs share, and theorems about the rules.
+mod Making
+pub mod Walking
+pub mod Slots
+pub mod Stepping
+pub mod Calling
+pub mod History
+pub mod Taken

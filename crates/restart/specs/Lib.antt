@@ -1,0 +1,4 @@
+pub mod Walk
+pub mod Promises
+pub mod History
+pub mod Taken
