@@ -1,0 +1,5 @@
+pub mod Writing
+pub mod Numbers
+pub mod Lengths
+pub mod Theorems
+pub mod Retelling
