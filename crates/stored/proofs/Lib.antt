@@ -1,0 +1,4 @@
+pub mod Holding
+pub mod ReadBack
+pub mod Storing
+pub mod Placing

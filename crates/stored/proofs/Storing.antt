@@ -1,0 +1,88 @@
+-- What storing writes, and what it promises. Assumes nothing.
+use Prim.Native.Nat.{ℕ, _+_, _-_, _≤_}
+use mathlib.Core.Path.{_≡_, refl, ap, _∙_}
+use mathlib.Core.List.{List, _++_}
+use native.Mathlib.Omega.{arith}
+use lib.ListN.{length, take, drop, length-append, length-drop}
+use lib.Seq.{paste, take-length, drop-drop, drop-at}
+use lib.Ieee.{Float}
+use Rattle.state.specs.declared.Homing.{Homing}
+use Rattle.parts.specs.Parts.{wordCount, numberCount}
+use Rattle.stored.specs.Stored.{stored, wordsOf, headOf, numbersOf, StateFits, Stores, holds}
+use Rattle.stored.proofs.ReadBack.{read-back}
+use Rattle.fields.proofs.Copying.{in-front}
+
+-- the words before the course's, then the others
+pub first-front : (h : Homing) (w s : List ℕ) {w′ : List ℕ} → s ≡ take 22 (wordsOf h) → w′ ≡ paste w 0 s (length s) → w′ ≡ take 22 (wordsOf h) ++ drop 22 w
+unfolding wordsOf
+first-front h w s e p = p ∙ in-front w s (take 22 (wordsOf h)) e
+
+pub length-first : (h : Homing) (w s : List ℕ) {w′ : List ℕ} → s ≡ take 22 (wordsOf h) → w′ ≡ paste w 0 s (length s) → 45 ≤ length w → length w′ ≡ length w
+unfolding wordsOf
+length-first h w s e p l =
+    let d : length (drop 22 w) ≡ length w - 22 = length-drop 22 w in
+    let k : length (take 22 (wordsOf h)) ≡ 22 = refl in
+    ap length (first-front h w s e p) ∙ length-append (take 22 (wordsOf h)) (drop 22 w) ∙ ap (λ j. j + length (drop 22 w)) k ∙ omega (arith, d, l)
+
+pub words-front : (h : Homing) (w w₁ s : List ℕ) {w′ : List ℕ} → w₁ ≡ take 22 (wordsOf h) ++ drop 22 w → s ≡ drop 22 (wordsOf h)
+    → w′ ≡ paste w₁ 22 s (length s) → w′ ≡ wordsOf h ++ drop wordCount w
+unfolding wordsOf
+words-front h w w₁ s e f p =
+    p ∙ ap (λ x. paste x 22 s (length s)) e
+    ∙ ap (λ x. paste (take 22 (wordsOf h) ++ drop 22 w) 22 x (length x)) f
+    ∙ ap (λ x. wordsOf h ++ x) (drop-drop 23 22 w)
+
+pub head-front : (h : Homing) (n s : List Float) {n′ : List Float} → s ≡ headOf h → n′ ≡ paste n 0 s (length s) → n′ ≡ headOf h ++ drop 14 n
+unfolding headOf
+head-front h n s e p = p ∙ in-front n s (headOf h) e
+
+pub length-head : (h : Homing) (n s : List Float) {n′ : List Float} → s ≡ headOf h → n′ ≡ paste n 0 s (length s) → 110 ≤ length n → length n′ ≡ length n
+unfolding headOf
+length-head h n s e p l =
+    let d : length (drop 14 n) ≡ length n - 14 = length-drop 14 n in
+    let k : length (headOf h) ≡ 14 = refl in
+    ap length (head-front h n s e p) ∙ length-append (headOf h) (drop 14 n) ∙ ap (λ j. j + length (drop 14 n)) k ∙ omega (arith, d, l)
+
+pub numbers-front : (h : Homing) (n n₁ : List Float) {n′ : List Float} → length (h .trail .window) ≡ 96 → n₁ ≡ headOf h ++ drop 14 n
+    → n′ ≡ paste n₁ 14 (h .trail .window) (length (h .trail .window)) → n′ ≡ numbersOf h ++ drop numberCount n
+unfolding numbersOf headOf
+numbers-front h n n₁ long e p =
+    p ∙ ap (λ x. paste x 14 (h .trail .window) (length (h .trail .window))) e
+    ∙ ap (λ x. headOf h ++ x ++ drop (14 + length (h .trail .window)) (headOf h ++ drop 14 n)) (take-length (h .trail .window))
+    ∙ ap (λ k. headOf h ++ h .trail .window ++ drop (14 + k) (headOf h ++ drop 14 n)) long
+    ∙ ap (λ x. headOf h ++ h .trail .window ++ x) (drop-drop 96 14 n)
+
+-- ---- the promises
+module _ (h : Homing) (fits : StateFits h) (w : List ℕ) (n : List Float) (a : wordCount ≤ length w) (b : numberCount ≤ length n) where
+  words-count : length (wordsOf h ++ drop wordCount w) ≡ length w
+  unfolding wordsOf
+  words-count =
+      let d : length (drop wordCount w) ≡ length w - 45 = length-drop wordCount w in
+      let l : length (wordsOf h) ≡ 45 = refl in
+      length-append (wordsOf h) (drop wordCount w) ∙ ap (λ k. k + length (drop wordCount w)) l ∙ omega (arith, d)
+
+  words-after : drop wordCount (wordsOf h ++ drop wordCount w) ≡ drop wordCount w
+  unfolding wordsOf
+  words-after = refl
+
+  numbers-long : length (numbersOf h) ≡ 110
+  unfolding numbersOf headOf
+  numbers-long = length-append (headOf h) (h .trail .window) ∙ ap (λ k. 14 + k) (fits .window)
+
+  numbers-count : length (numbersOf h ++ drop numberCount n) ≡ length n
+  numbers-count =
+      let d : length (drop numberCount n) ≡ length n - numberCount = length-drop numberCount n in
+      length-append (numbersOf h) (drop numberCount n) ∙ omega (arith, d, numbers-long)
+
+  numbers-after : drop numberCount (numbersOf h ++ drop numberCount n) ≡ drop numberCount n
+  numbers-after = drop-at (numbersOf h) (drop numberCount n) numberCount numbers-long
+
+  pub stores : {w′ : List ℕ} {n′ : List Float} → w′ ≡ wordsOf h ++ drop wordCount w → n′ ≡ numbersOf h ++ drop numberCount n → Stores h w n w′ n′
+  stores {w′} {n′} e f =
+      record {
+        holds = ap (λ x. stored x n′) e ∙ ap (stored (wordsOf h ++ drop wordCount w)) f ∙ read-back h fits (drop wordCount w) (drop numberCount n);
+        words-long = ap length e ∙ words-count;
+        numbers-long = ap length f ∙ numbers-count;
+        words-behind = ap (drop wordCount) e ∙ words-after;
+        numbers-behind = ap (drop numberCount) f ∙ numbers-after;
+      }

@@ -1,0 +1,25 @@
+-- `stored::store` meets its contract. Assumes nothing.
+use Rattle.stored.proofs.Storing.{stores}
+use borrow.Author.Needs.{needs}
+use Rattle.stored.proofs.store.Statement.{statement}
+use Rattle.stored.proofs.store.Tie as tie
+
+store-words-requires : tie.Need-store-words-requires
+store-words-requires c κs = search needs
+
+store-numbers-requires : tie.Need-store-numbers-requires
+store-numbers-requires c κs = search needs
+
+same-length : tie.Need-same-length
+same-length c = search needs
+
+same-length-2 : tie.Need-same-length-2
+same-length-2 c = search needs
+
+returns : tie.Need-returns
+returns c = stores (c .before .before .before .before .before .before .before .before .before .before .args .h) (c .before .before .before .before .before .before .store-words .ensures .1) _ _ (c .before .before .before .before .before .before .before .before .before .before .pre .0) (c .before .before .before .before .before .before .before .before .before .before .pre .1) (c .before .before .before .before .before .before .store-words .ensures .0) (c .before .before .store-numbers .ensures)
+
+pub store-spec : {M : Type 1} → statement M
+store-spec =
+    tie.close
+    (tie.spec store-words-requires store-numbers-requires same-length same-length-2 returns)

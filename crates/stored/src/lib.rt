@@ -1,0 +1,220 @@
+// A guide's state in slices that the caller lends: words, and numbers beside them. The layout is the table in
+// specs/Stored.antt. Word 0 is a mark.
+
+use state::Homing;
+ghost use mathlib.Core.Path.{_≡_};
+ghost use mathlib.Core.List.{_++_};
+ghost use Prim.Native.Nat.{_<_, _≤_};
+ghost use lib.ListN.{length, drop};
+ghost use Rattle.fields.specs.Fields.{within};
+ghost use Rattle.parts.specs.Parts.{wordCount, numberCount};
+ghost use Rattle.stored.specs.Stored.{mosts, homingAt, room, holds as holdsState, StateFits, wordsOf, headOf, numbersOf, Loads, Stores};
+pub use stored_rebuild::HeldRebuild;
+pub use stored_rebuild::REBUILD_WORDS;
+pub use stored_rebuild::load_rebuild;
+pub use stored_rebuild::store_rebuild;
+
+pub const WORDS: usize = 45;
+
+pub const NUMBERS: usize = 110;
+
+// The word at which the course's begin.
+const COURSE_AT: usize = 22;
+
+// The most that each word may be, by its field's type.
+const MOST: [u64; 45] = [
+    state_words::MARK,
+    fields::U64,
+    fields::U64,
+    fields::U8,
+    fields::U64,
+    1,
+    fields::U32,
+    fields::U32,
+    1,
+    fields::U32,
+    fields::U32,
+    1,
+    fields::U64,
+    1,
+    1,
+    fields::U16,
+    fields::U64,
+    2,
+    fields::U64,
+    1,
+    1,
+    fields::U64,
+    fields::U64,
+    1,
+    1,
+    fields::U8,
+    fields::U64,
+    1,
+    1,
+    1,
+    2,
+    1,
+    1,
+    fields::U64,
+    1,
+    3,
+    1,
+    1,
+    1,
+    fields::U32,
+    fields::U32,
+    fields::U32,
+    fields::U16,
+    1,
+    fields::U16,
+];
+
+// A guide's state, and whether the slices held it. Where they did not, the state says nothing.
+pub struct Held {
+    pub homing: Homing,
+    pub held: bool,
+}
+
+fn homing_at(words: &[u64], numbers: &[f32]) -> Homing
+    requires { ⌜ (wordCount ≤ length (now words)) × (numberCount ≤ length (now numbers)) ⌝ }
+    ensures { λ r. ⌜ r ≡ homingAt (now (words .entry)) (now (numbers .entry)) ⌝ }
+{
+    Homing {
+        trail: parts::trail_at(words, numbers),
+        frame: parts::frame_at(words, numbers),
+        fed: fields::place_at(words, 8),
+        here: fields::spot_at(words, 11, numbers, 2),
+        here_ms: words[12],
+        motion: parts::motion_at(words, numbers),
+        follow: parts::follow_at(words, numbers),
+        course: parts::course_at(words, numbers),
+        auto_follow: fields::flag_at(words, 28),
+        arrived: fields::flag_at(words, 29),
+        lap: parts::lap_at(words, numbers),
+        updated_ms: words[33],
+        guide: parts::shown_at(words),
+    }
+}
+
+// ---- whether a state is held
+
+fn within(words: &[u64]) -> bool
+    ensures { λ r. ⌜ r ≡ within mosts (now (words .entry)) ⌝ }
+{
+    if words.len() < WORDS {
+        return false;
+    }
+    for i in 0..WORDS {
+        if MOST[i] < words[i] {
+            return false;
+        }
+    }
+    true
+}
+
+// Whether there is room for a state.
+pub fn has_room(words: &[u64], numbers: &[f32]) -> bool
+    ensures { λ r. ⌜ r ≡ room (now (words .entry)) (now (numbers .entry)) ⌝ }
+{
+    (WORDS <= words.len()) & (NUMBERS <= numbers.len())
+}
+
+fn holds(words: &[u64], numbers: &[f32]) -> bool
+    ensures { λ r. ⌜ r ≡ holdsState (now (words .entry)) (now (numbers .entry)) ⌝ }
+{
+    if !within(words) {
+        return false;
+    }
+    (words[0] == state_words::MARK) & (NUMBERS <= numbers.len())
+}
+
+// A state of zeros.
+fn nothing() -> Homing {
+    let words = [0; 45];
+    let numbers = [0.0; 110];
+    homing_at(&words, &numbers)
+}
+
+// The state that the slices hold.
+pub fn load(words: &[u64], numbers: &[f32]) -> Held
+    ensures { λ r. ⌜ Loads (now (words .entry)) (now (numbers .entry)) (r .homing) (r .held) ⌝ }
+{
+    if holds(words, numbers) {
+        return Held {
+            homing: homing_at(words, numbers),
+            held: true,
+        };
+    }
+    Held {
+        homing: nothing(),
+        held: false,
+    }
+}
+
+// ---- the state, written
+
+// The numbers before the window.
+fn head_of(h: Homing) -> [f32; 14]
+    ensures { λ r. ⌜ r ≡ headOf h ⌝ }
+{
+    let s = h.here;
+    let here = fields::point_in(s);
+    let motion = h.motion;
+    let m = motion.from;
+    let from = fields::point_in(m);
+    let follow = h.follow;
+    let f = follow.matched;
+    let matched = fields::point_in(f);
+    let course = h.course;
+    let c = course.fix;
+    let fix = fields::point_in(c);
+    let lap = h.lap;
+    let l = lap.start;
+    let start = fields::point_in(l);
+    [
+        h.trail.tolerance,
+        h.frame.east_per_e7,
+        here.east,
+        here.north,
+        from.east,
+        from.north,
+        matched.east,
+        matched.north,
+        course.along,
+        course.reached,
+        fix.east,
+        fix.north,
+        start.east,
+        start.north,
+    ]
+}
+
+fn store_words(h: Homing, words: &mut [u64])
+    requires { ⌜ wordCount ≤ length (now words) ⌝ }
+    ensures { λ _. ⌜ (now (words .exit) ≡ wordsOf h ++ drop wordCount (now (words .entry))) × (StateFits h) ⌝ }
+{
+    let front = state_words::front_words(h);
+    fields::put_words(&front, words, 0);
+    let back = state_words::back_words(h);
+    fields::put_words(&back, words, COURSE_AT);
+}
+
+fn store_numbers(h: Homing, numbers: &mut [f32])
+    requires { ⌜ numberCount ≤ length (now numbers) ⌝ }
+    ensures { λ _. ⌜ now (numbers .exit) ≡ numbersOf h ++ drop numberCount (now (numbers .entry)) ⌝ }
+{
+    let head = head_of(h);
+    fields::put_numbers(&head, numbers, 0);
+    let window = h.trail.window;
+    fields::put_numbers(&window, numbers, parts::WINDOW_AT);
+}
+
+// The state `h` in the slices, in front of what lies behind.
+pub fn store(h: Homing, words: &mut [u64], numbers: &mut [f32])
+    requires { ⌜ (wordCount ≤ length (now words)) × (numberCount ≤ length (now numbers)) ⌝ }
+    ensures { λ _. ⌜ Stores h (now (words .entry)) (now (numbers .entry)) (now (words .exit)) (now (numbers .exit)) ⌝ }
+{
+    store_words(h, words);
+    store_numbers(h, numbers);
+}
