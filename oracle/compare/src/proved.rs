@@ -1,4 +1,5 @@
-//! The proved code, from libdoor.a. Each function takes its input as one value, as in `reference`.
+//! The proved code, from libdoor.a and libnumbers_door.a. Each function takes its input as one value,
+//! as in `reference`.
 #![allow(unsafe_code)]
 use crate::thinning::Answer;
 use crate::{Framing, Point};

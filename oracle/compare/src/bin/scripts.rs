@@ -79,15 +79,9 @@ fn print(options: &Options) -> bool {
 }
 
 /// The proved guide, through the door.
-#[cfg(feature = "door")]
 fn proved(script: &Script, coverage: &mut Coverage) -> Option<Difference> {
     let mut lent = compare::door::Lent::to(script);
     compared::difference(script, &mut lent.guide(), coverage)
-}
-
-#[cfg(not(feature = "door"))]
-fn proved(_: &Script, _: &mut Coverage) -> Option<Difference> {
-    panic!("built without the feature `door`: --program PATH")
 }
 
 /// The copy that makes the chosen mistake.

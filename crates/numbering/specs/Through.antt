@@ -1,0 +1,54 @@
+-- What an export does with what it is lent: it does what the call does on the state it reads.
+use Prim.Native.Nat.{ℕ}
+use mathlib.Core.Path.{_≡_}
+use mathlib.Core.Logic.{_≢_}
+use mathlib.Core.Bool.{Bool, true, false, not}
+use mathlib.Core.List.{List}
+use mathlib.Core.Option.{none, some}
+use lib.Dec.{eqb}
+use lib.Ieee.{Float}
+use Rattle.state.specs.declared.Homing.{Homing}
+use Rattle.calls.specs.Questions.{question1, unless, _orElse_}
+use Rattle.calls.specs.Promises.{Answer, refused, gives}
+use Rattle.stored.specs.Stored.{stored, Stores}
+
+-- ---- answers as numbers
+-- the question that refused a call, 0 where none did
+unfoldable pub numberOf : {A : Type 0} → Answer A → ℕ
+numberOf (gives a) = 0
+numberOf (refused number) = number
+
+-- what stands after a call where its answer is written: the answer's number, or where the call was refused what stood there
+unfoldable pub written : {A : Type 0} → (A → ℕ) → Answer A → ℕ → ℕ
+written f (gives a) was = f a
+written f (refused number) was = was
+
+-- a flag that comes in, anything but 0 meaning yes, and one that goes out
+unfoldable pub isSet : ℕ → Bool
+isSet flag = not (eqb flag 0)
+
+unfoldable pub flagOf : Bool → ℕ
+flagOf true = 1
+flagOf false = 0
+
+-- ---- slices that hold no state
+-- the number where nothing else is asked first
+abbrev pub noState : ℕ
+noState = 10
+
+-- the number where a crumb buffer of `size` numbers is lent: question 1 comes first
+abbrev pub noStateWith : ℕ → ℕ
+noStateWith size = unless (question1 size) 1 orElse noState
+
+-- ---- a call that changes the guide
+-- What becomes of the words w and the numbers n when a call gives the state h: taken, they hold that state, and what lies behind it is as it was; refused,
+-- they are as they were.
+pub record Leaves (number : ℕ) (h : Homing) (w : List ℕ) (n : List Float) (w′ : List ℕ) (n′ : List Float) : Type 0 where
+  pub taken : number ≡ 0 → Stores h w n w′ n′
+  pub refused : number ≢ 0 → (w′ ≡ w) × (n′ ≡ n)
+
+-- `does h r number`: the call takes the state h to r and is refused by the question with this number, 0 where by none. `unread` is the number where the
+-- slices hold no state, and `untouched` says that what else is lent is as it was.
+pub record Changes (unread : ℕ) (does : Homing → Homing → ℕ → Type 0) (untouched : Type 0) (w : List ℕ) (n : List Float) (number : ℕ) (w′ : List ℕ) (n′ : List Float) : Type 0 where
+  pub nothing : stored w n ≡ none → (number ≡ unread) × ((w′ ≡ w) × ((n′ ≡ n) × untouched))
+  pub state : (h : Homing) → stored w n ≡ some h → (r : Homing) × (does h r number × Leaves number r w n w′ n′)
