@@ -1,14 +1,15 @@
 //! Compares the proved program `retell` with the Rust on random chain files, byte for byte:
 //! `chains [--files N] [--full] [--seed N] [--program PATH]`. With `--self-test` mistakes stand in
 //! the place of the program, and each has to be found. `--show K` only writes file K.
-use compare::bent::RULES;
-use compare::chain_classes::Met;
+use compare::chains::bent::RULES;
+use compare::chains::classes::Met;
+use compare::chains::seen::Seen;
+use compare::chains::{files, mistakes};
 use compare::inputs::Inputs;
 use compare::options::Options;
+use compare::program;
 use compare::retelling::retell;
-use compare::seen::Seen;
 use compare::value::{Difference, Value, difference};
-use compare::{files, mistakes, program};
 use std::fmt;
 use std::io::{self, Write};
 use std::path::{Path, PathBuf};

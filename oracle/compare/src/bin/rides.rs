@@ -1,10 +1,10 @@
 //! Writes sample chain files, good and damaged, each beside what `retell` has to print of it:
 //! `rides FOLDER`. Fails where a file is not what its name says.
 use compare::chain::{self, HALF_TURN, POLE, RECORD, Record, SAMPLES, Sample};
-use compare::files::scattered;
+use compare::chains::files::scattered;
+use compare::chains::seen::Seen;
 use compare::random::Random;
 use compare::retelling::retell;
-use compare::seen::Seen;
 use std::fs;
 use std::path::Path;
 

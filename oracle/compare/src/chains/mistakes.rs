@@ -1,6 +1,6 @@
 //! Mistakes that a program which retells a chain file could make.
-use crate::bent::{RULES, Rules};
 use crate::chain::{HALF_TURN, HEAD, MOST, POLE, RECORD, Record, SAMPLE, Sample};
+use crate::chains::bent::{RULES, Rules};
 
 type Mistakes = Vec<(&'static str, Rules)>;
 

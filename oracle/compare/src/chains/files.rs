@@ -1,8 +1,8 @@
 //! The chain files on which `retell` is compared: good ones of many shapes, damaged ones, files of
 //! the wrong size, and noise.
 use crate::chain::{HALF_TURN, HEAD, LOCATED, MOST, POLE, RECORD, Record, SAMPLE, SAMPLES, TIMED};
+use crate::chains::rider::entries;
 use crate::random::Random;
-use crate::rider::entries;
 
 /// The `k`-th file.
 pub fn file(seed: u64, k: u64) -> Vec<u8> {

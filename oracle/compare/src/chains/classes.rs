@@ -1,7 +1,7 @@
 //! Classes of chain files: a comparison has to meet each.
 use crate::chain::{HALF_TURN, HEAD, MOST, POLE, RECORD, Record, SAMPLE, Sample};
+use crate::chains::seen::Seen;
 use crate::retelling::CRUMBS;
-use crate::seen::Seen;
 use std::sync::atomic::{AtomicU64, Ordering::Relaxed};
 
 /// A name, and what holds of the class's files.
