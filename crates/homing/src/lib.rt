@@ -66,7 +66,7 @@ pub fn new(crumbs: &[f32]) -> Changed
     ensures { λ r. ⌜ MakesNew (now (crumbs .entry)) r ⌝ }
 {
     let h = steer::new();
-    if limits::question1(crumbs.len()) {
+    if counts::question1(crumbs.len()) {
         return taken(h);
     }
     refused(h, 1)
@@ -106,7 +106,7 @@ fn asks_course(h: Homing, line: &[f32], lats: &[i32], lons: &[i32]) -> u8
     if number != 0 {
         return number;
     }
-    limits::asks_fixes(lats, lons)
+    globe::asks_fixes(lats, lons)
 }
 
 // The course to follow, start first; fewer than two points clear it. It is placed in the line now if the
@@ -132,7 +132,7 @@ fn asks_seen(h: Homing, crumbs: &[f32], line: &[f32], lat: i32, lon: i32) -> u8
     if number != 0 {
         return number;
     }
-    limits::asks_fix(lat, lon)
+    globe::asks_fix(lat, lon)
 }
 
 fn seen(h: Homing, crumbs: &mut [f32], line: &[f32], lat: i32, lon: i32, now_ms: u64) -> Observed
@@ -189,7 +189,7 @@ fn asks_replay(h: Homing, crumbs: &[f32], lat: i32, lon: i32) -> u8
     if number != 0 {
         return number;
     }
-    limits::asks_fix(lat, lon)
+    globe::asks_fix(lat, lon)
 }
 
 // A fix from before a restart, `at_ms` into the replay: it grows the breadcrumb, but follows nothing.

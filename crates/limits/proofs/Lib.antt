@@ -1,3 +1,1 @@
-pub mod Numbers
-pub mod Scans
-pub mod Turning
+mod Numbers

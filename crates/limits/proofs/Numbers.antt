@@ -1,17 +1,12 @@
--- A size is at most a bound where the number lies from the negative bound to the bound: the tests of places, factors and fixes. Assumes nothing.
-use Prim.Native.Nat.{ℕ, suc}
-use mathlib.Core.Path.{_≡_, refl, sym, ap, ap₂, _∙_}
-use mathlib.Core.Bool.{Bool, true, false, _&&_, and-true}
-use lib.Dec.{T, leb, leb·suc-suc}
-use lib.IntN.{ℤ, pos, negsuc, natAbs}
-use lib.Signed.{leZ}
+-- A size is at most a bound where the number lies from the negative bound to the bound: the tests of places and factors. Assumes nothing.
+use Prim.Native.Nat.{ℕ}
+use mathlib.Core.Path.{_≡_, refl}
+use mathlib.Core.Bool.{Bool, true, false, _&&_}
+use lib.Dec.{T}
+use lib.IntN.{ℤ}
 use lib.Ieee.{Float, nan, inf, fin, le, lt, eq}
 use lib.Ieee.Fits.{and-i, and-l, and-r}
-use mir.Syntax.{w32}
-use mir.Val.{SFits, toZ, ofZ}
-use mir.ValLaws.{toZ-ofZ}
 use Rattle.binary32.specs.Limits.{sizeOf}
-use Rattle.calls.specs.Questions.{asksFix}
 use Rattle.magnitude.proofs.Tests.{within→le, le→within, size→within}
 
 -- two tests that pass together
@@ -44,15 +39,3 @@ module _ (n : ℕ) (d : ℤ) where
       same (low && high) (le (fin false m e) (fin false n d))
       (λ t. within→le n d (fin false m e) (le→within n d (fin s m e) (and-r low high t) (and-l low high t)) .0)
       (λ t. let w = within→le n d (fin s m e) (size→within n d (fin s m e) tt t) in and-i low high (w .1) (w .0))
-
-pub abs-within : (n : ℕ) (z : ℤ) → (leZ (negsuc n) z && leZ z (pos (suc n))) ≡ leb (natAbs z) (suc n)
-abs-within n (pos a) = refl
-abs-within n (negsuc a) = and-true (leb a n) ∙ sym (leb·suc-suc a n)
-
--- a signed number is handed on by its bits
-pub asked : {v b : Bool} (f : ℤ → Bool) (z : ℤ) → SFits w32 z → b ≡ f (toZ w32 (ofZ w32 z)) → b ≡ v → f z ≡ v
-asked f z fits e t = ap f (sym (toZ-ofZ w32 z fits)) ∙ sym e ∙ t
-
-pub fix-handed : {n : ℕ} (lat lon : ℤ) → SFits w32 lat → SFits w32 lon
-    → n ≡ asksFix (record { lat = toZ w32 (ofZ w32 lat); lon = toZ w32 (ofZ w32 lon) }) → n ≡ asksFix (record { lat = lat; lon = lon })
-fix-handed lat lon x y e = e ∙ ap₂ (λ a b. asksFix (record { lat = a; lon = b })) (toZ-ofZ w32 lat x) (toZ-ofZ w32 lon y)

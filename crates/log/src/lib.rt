@@ -228,7 +228,7 @@ fn asks_place(place: Place) -> u8
     ensures { λ r. ⌜ r ≡ asksPlace place ⌝ }
 {
     match place {
-        Place::At(lat, lon) => limits::asks_fix(lat, lon),
+        Place::At(lat, lon) => globe::asks_fix(lat, lon),
         Place::Missing => 0,
     }
 }

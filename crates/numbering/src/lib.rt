@@ -15,7 +15,7 @@ pub const NO_STATE: u8 = 10;
 pub fn no_state_with(size: usize) -> u8
     ensures { λ r. ⌜ r ≡ noStateWith size ⌝ }
 {
-    if !limits::question1(size) {
+    if !counts::question1(size) {
         return NO_BUFFER;
     }
     NO_STATE

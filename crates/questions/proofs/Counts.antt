@@ -13,7 +13,7 @@ use Rattle.trail.specs.View.{track}
 use Rattle.trail.proofs.Window.{length-places}
 use Rattle.state.specs.declared.Homing.{Homing}
 use Rattle.state.specs.State.{stateOf}
-use Rattle.limits.proofs.Turning.{turned, retrace-counted}
+use Rattle.counts.proofs.Turning.{turned, retrace-counted}
 use Rattle.calls.specs.Questions.{followFits, countsFit, crumbsFit, heldFits}
 
 -- a conjunction that is true

@@ -1,5 +1,5 @@
 // The questions put to a call. Each `asks` answers the number of the first one that says no, 0 where
-// none does. What they ask of less than the whole state is in `limits`.
+// none does. What they ask of less than the whole state is in `limits` and `counts`.
 
 use state::Homing;
 ghost use mathlib.Core.Path.{_≡_};
@@ -20,8 +20,8 @@ fn counts_fit(h: Homing) -> bool
     let f = h.follow;
     let on = f.line;
     (t.window_len <= trail::WINDOW)
-        & limits::follow_fits(on, f.segment, t.len, h.course.line_len)
-        & limits::retrace_fits(t)
+        & counts::follow_fits(on, f.segment, t.len, h.course.line_len)
+        & counts::retrace_fits(t)
 }
 
 fn spots_fit(h: Homing) -> bool
@@ -52,7 +52,7 @@ fn numbers_fit(h: Homing) -> bool
     let m = h.motion;
     let heading = m.heading;
     let shown = h.guide;
-    limits::window_fits(&t.window, t.window_len)
+    counts::window_fits(&t.window, t.window_len)
         & spots_fit(h)
         & limits::along_fits(c.along)
         & limits::along_fits(c.reached)
@@ -87,10 +87,10 @@ pub fn asks_state(h: Homing) -> u8
 pub fn asks_crumbs(h: Homing, crumbs: &[f32]) -> u8
     ensures { λ r. ⌜ r ≡ asksCrumbs (length (now (crumbs .entry))) (stateOf h (now (crumbs .entry))) ⌝ }
 {
-    if !limits::question1(crumbs.len()) {
+    if !counts::question1(crumbs.len()) {
         return 1;
     }
-    if state_fits(h) & limits::held_fits(crumbs, h.trail.len) {
+    if state_fits(h) & counts::held_fits(crumbs, h.trail.len) {
         return 0;
     }
     10
@@ -100,9 +100,9 @@ pub fn asks_crumbs(h: Homing, crumbs: &[f32]) -> u8
 pub fn asks_line(h: Homing, line: &[f32], n: usize) -> u8
     ensures { λ r. ⌜ ((b : List Float) → r ≡ asksLine (now (line .entry)) n (stateOf h b)) ⌝ }
 {
-    let ten = state_fits(h) & limits::held_fits(line, h.course.line_len);
-    let four = limits::question4(line.len(), n);
-    limits::ten_then_four(ten, four)
+    let ten = state_fits(h) & counts::held_fits(line, h.course.line_len);
+    let four = counts::question4(line.len(), n);
+    counts::ten_then_four(ten, four)
 }
 
 // The state, a crumb buffer and a lent line.
@@ -113,7 +113,7 @@ pub fn asks_both(h: Homing, crumbs: &[f32], line: &[f32]) -> u8
     if asked != 0 {
         return asked;
     }
-    let ten = limits::held_fits(line, h.course.line_len);
-    let four = limits::question4(line.len(), 0);
-    limits::ten_then_four(ten, four)
+    let ten = counts::held_fits(line, h.course.line_len);
+    let four = counts::question4(line.len(), 0);
+    counts::ten_then_four(ten, four)
 }

@@ -1,0 +1,2 @@
+mod Scans
+pub mod Turning
