@@ -42,7 +42,8 @@ use Rattle.state.specs.declared.Event.the-variants as event
 use Rattle.state.specs.State.{State, withHereMs}
 use Rattle.state.specs.Rule.{Done}
 use Rattle.follow.specs.Record.{recorded, recordedIn, keep, add, flush}
-use Rattle.follow.specs.Engage.{engageAt, leads, engage, cutTo, leaveAt, forgotten, stopNothing, stopCourse, stopBreadcrumb, stopOn, stop}
+use Rattle.follow_parts.specs.Parts.{leads}
+use Rattle.follow.specs.Engage.{engageAt, engage, cutTo, leaveAt, forgotten, stopNothing, stopCourse, stopBreadcrumb, stopOn, stop}
 use Rattle.retrace.specs.Retrace.{ridesBack}
 use Rattle.joining.specs.Join.{joinOn, joining, withRetrace, retracing}
 use Rattle.followed.specs.declared.Way.{Way}

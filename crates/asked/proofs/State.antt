@@ -29,7 +29,8 @@ use Rattle.state.specs.declared.Frame.{Frame}
 use Rattle.state.specs.declared.Follow.{Follow}
 use Rattle.state.specs.declared.Course.{Course}
 use Rattle.state.specs.State.{State, withFrame}
-use Rattle.follow.specs.Record.{left, afterThinning, recordedIn, recorded, add}
+use Rattle.follow_parts.specs.Parts.{left}
+use Rattle.follow.specs.Record.{afterThinning, recordedIn, recorded, add}
 use Rattle.joining.specs.Join.{retraceFixes}
 use Rattle.course.specs.Fix.{Fix, located}
 use Rattle.calls.specs.Questions.{placesFit, spotFits, alongFits, headingFits, shownFits, factorFits, segmentFits, followFits, retraceFits, countsFit, spotsFit, numbersFit, stateFits, crumbsFit, heldFits, placeFits}

@@ -1,23 +1,14 @@
--- The breadcrumb in the whole state. Document 01, "Crumb": "Added: a thinning while the breadcrumb is followed, which only `replay` can cause, ends the
--- following without a cut: segment 0, nothing matched, off false."
+-- The breadcrumb in the whole state. Document 01, "Crumb": "Added: a thinning while the breadcrumb is followed [..] ends the following".
 use Prim.Native.Nat.{ℕ}
 use mathlib.Core.Bool.{Bool, true, false}
 use Rattle.plane.specs.declared.Point.{Point}
-use Rattle.plane.specs.declared.Spot.the-variants.{Nowhere}
 use Rattle.trail.specs.Notes.{thinnedIn}
 use Rattle.trail.specs.Trail.{Track}
 use Rattle.trail.specs.Trail as trail
-use Rattle.state.specs.declared.Line.{Line}
-use Rattle.state.specs.declared.Line.the-variants.{Nothing, Breadcrumb, Course}
 use Rattle.state.specs.declared.Follow.{Follow}
 use Rattle.state.specs.State.{State, withTrack, withFollow}
 use Rattle.state.specs.Rule.{Done}
-
--- a following of the breadcrumb is over, without a cut; one of the course goes on
-unfoldable pub left : Line → Follow → Follow
-left Breadcrumb f = record { line = Nothing; segment = 0; matched = Nowhere; off = false; «reminded_ms» = f .«reminded_ms» }
-left Nothing f = f
-left Course f = f
+use Rattle.follow_parts.specs.Parts.{left}
 
 unfoldable pub afterThinning : Bool → Follow → Follow
 afterThinning true f = left (f .line) f

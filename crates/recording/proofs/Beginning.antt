@@ -30,7 +30,8 @@ use Rattle.state.specs.declared.Homing.{Homing}
 use Rattle.state.specs.State.{State, stateOf, withTrack}
 use Rattle.state.specs.Rule.{Done, done}
 use Rattle.follow.specs.declared.Answered.{Answered}
-use Rattle.follow.specs.Engage.{courseFrom, engageAt, leads, engage}
+use Rattle.follow_parts.specs.Parts.{courseFrom, leads}
+use Rattle.follow.specs.Engage.{engageAt, engage}
 use Rattle.joining.specs.Join.{joinedTo, joinOn, mayJoin, joinWith, joining, retraceFixes, withRetrace, retracing}
 use Rattle.retrace.specs.Retrace.{ridesBack, lenBefore}
 use Rattle.follow.specs.View.{Fit, courseOf, SameHeld, Asks}

@@ -20,7 +20,8 @@ use Rattle.state.specs.declared.Course.{Course}
 use Rattle.state.specs.declared.Homing.{Homing}
 use Rattle.state.specs.State.{State, stateOf}
 use Rattle.state.specs.Rule.{Done}
-use Rattle.follow.specs.Record.{left, afterThinning, recordedIn, recorded, add}
+use Rattle.follow_parts.specs.Parts.{left}
+use Rattle.follow.specs.Record.{afterThinning, recordedIn, recorded, add}
 use Rattle.follow.specs.View.{Fit, courseOf, Follows}
 use Rattle.guide.specs.declared.Told.{Told}
 use Rattle.update.specs.Update.{update}

@@ -20,7 +20,8 @@ use Rattle.state.specs.declared.Homing.{Homing}
 use Rattle.state.specs.State.{State, stateOf}
 use Rattle.state.specs.Rule.{Done, andThen}
 use Rattle.follow.specs.declared.Answered.{Answered}
-use Rattle.follow.specs.Engage.{courseFrom, engageAt, engage, cutTo, forgotten}
+use Rattle.follow_parts.specs.Parts.{courseFrom}
+use Rattle.follow.specs.Engage.{engageAt, engage, cutTo, forgotten}
 use Rattle.joining.specs.Join.{joining, retracing}
 use Rattle.follow.specs.View.{Fit, courseOf, Asks, Changes}
 use Rattle.guide.specs.declared.Told.{Told}

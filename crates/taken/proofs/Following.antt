@@ -29,8 +29,10 @@ use Rattle.state.specs.declared.Follow.{Follow}
 use Rattle.state.specs.declared.Course.{Course}
 use Rattle.state.specs.State.{State, withTrack, withFollow}
 use Rattle.state.specs.Rule.{Done}
-use Rattle.follow.specs.Record.{left, afterThinning, recordedIn, recorded, keep, add, flush}
-use Rattle.follow.specs.Engage.{alongAt, courseFrom, engageAt, leads, engage, stopped, heldOff, cutTo, leaveAt, forgotten, stopNothing, stopCourse, stopBreadcrumb, stopOn, stop}
+use Rattle.follow_parts.specs.Parts.{left}
+use Rattle.follow.specs.Record.{afterThinning, recordedIn, recorded, keep, add, flush}
+use Rattle.follow_parts.specs.Parts.{alongAt, courseFrom, leads, stopped, heldOff}
+use Rattle.follow.specs.Engage.{engageAt, engage, cutTo, leaveAt, forgotten, stopNothing, stopCourse, stopBreadcrumb, stopOn, stop}
 use Rattle.joining.specs.Join.{joinedTo, joinOn, mayJoin, joinWith, joining}
 use Rattle.taken.proofs.Tests.{one-of, and-left}
 use Rattle.taken.proofs.Bounds.{Along, far, along-start, along-far}

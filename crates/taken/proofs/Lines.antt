@@ -18,7 +18,8 @@ use Rattle.state.specs.declared.Line.the-variants as line
 use Rattle.state.specs.declared.Frame.{Frame}
 use Rattle.state.specs.declared.Course.{Course}
 use Rattle.state.specs.State.{State, withCourse}
-use Rattle.follow.specs.Engage.{stopped, stopCourse}
+use Rattle.follow_parts.specs.Parts.{stopped}
+use Rattle.follow.specs.Engage.{stopCourse}
 use Rattle.course.specs.Fix.{Fix, framed}
 use Rattle.course.specs.Course.{placeBehind, placed, noOrigin, lineOf}
 use Rattle.calls.specs.Fix.{unheaded}

@@ -19,7 +19,8 @@ use Rattle.state.specs.declared.Event.{Event}
 use Rattle.state.specs.declared.Homing.{Homing}
 use Rattle.state.specs.State.{State, stateOf}
 use Rattle.follow.specs.Record.{recordedIn, recorded, keep}
-use Rattle.follow.specs.Engage.{cutTo, leaveAt, heldOff, stopNothing, stopCourse, stopBreadcrumb, stopOn, stop}
+use Rattle.follow_parts.specs.Parts.{heldOff}
+use Rattle.follow.specs.Engage.{cutTo, leaveAt, stopNothing, stopCourse, stopBreadcrumb, stopOn, stop}
 use Rattle.follow.specs.View.{Fit, courseOf, Changes, Follows}
 use Rattle.guide.specs.declared.Told.{Told}
 use Rattle.matching.specs.Match.{onCourse}

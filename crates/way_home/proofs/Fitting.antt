@@ -28,8 +28,10 @@ use Rattle.state.specs.declared.Homing.{Homing}
 use Rattle.state.specs.State.{State, stateOf}
 use Rattle.state.specs.Rule.{Done}
 use Rattle.follow.specs.declared.Answered.{Answered}
-use Rattle.follow.specs.Record.{left, afterThinning, recordedIn, recorded, keep, flush}
-use Rattle.follow.specs.Engage.{courseFrom, engageAt, leads, engage, stopped, heldOff, cutTo, leaveAt, stopNothing, stopCourse, stopBreadcrumb, stopOn, stop}
+use Rattle.follow_parts.specs.Parts.{left}
+use Rattle.follow.specs.Record.{afterThinning, recordedIn, recorded, keep, flush}
+use Rattle.follow_parts.specs.Parts.{courseFrom, leads, stopped, heldOff}
+use Rattle.follow.specs.Engage.{engageAt, engage, cutTo, leaveAt, stopNothing, stopCourse, stopBreadcrumb, stopOn, stop}
 use Rattle.follow.specs.View.{Fit, courseOf, Changes, Follows, SameHeld, Asks}
 use Rattle.segments.specs.Segment.{InLine}
 use Rattle.matching.specs.Match.{onCourse, onLine}

@@ -21,7 +21,8 @@ use Rattle.state.specs.declared.Event.{Event}
 use Rattle.state.specs.declared.Event.the-variants as event
 use Rattle.state.specs.State.{State, withFollow, withArrived}
 use Rattle.state.specs.Rule.{Done, done}
-use Rattle.follow.specs.Engage.{engageAt, leads, engage, forgotten, leaveAt, stopNothing, stopCourse, stopBreadcrumb, stopOn, stop}
+use Rattle.follow_parts.specs.Parts.{leads}
+use Rattle.follow.specs.Engage.{engageAt, engage, forgotten, leaveAt, stopNothing, stopCourse, stopBreadcrumb, stopOn, stop}
 use Rattle.followed.specs.declared.Way.{Way}
 use Rattle.matching.specs.Match.{onLine, aroundSegment}
 use Rattle.followed.specs.Followed.{followed, widened, nearest}

@@ -28,7 +28,7 @@ same-length c = search needs
 
 returns-2 : tie.Need-returns-2
 unfolding track
-returns-2 c = let m = c .before .before .before .before .before .before .before .before .before .before .before .before in let s = m .before .before .before in let g = s .args in let k = c .before .before .keep in subst (λ (x : Spot). Follows (λ C. leaveAt C x (g .segment)) (g .h) (now (g .crumbs)) (k .result) (k .last .1 .0)) (sym (m .matched .given .1)) (left-at (g .h) _ (k .result) (m .matched .given .0 .0) (g .segment) (now (g .crumbs)) (k .last .1 .0) (cut-state (g .h) (g .segment) (now (g .crumbs)) (s .pre .1)) (s .pre .1) (k .ensures))
+returns-2 c = let m = c .before .before .before .before .before .before in let s = m .before .before .before in let g = s .args in let k = c .before .before .keep in subst (λ (x : Spot). Follows (λ C. leaveAt C x (g .segment)) (g .h) (now (g .crumbs)) (k .result) (k .last .1 .0)) (sym (m .matched .given .1)) (left-at (g .h) _ (k .result) (m .matched .given .0 .0) (g .segment) (now (g .crumbs)) (k .last .1 .0) (cut-state (g .h) (g .segment) (now (g .crumbs)) (s .pre .1)) (s .pre .1) (k .ensures))
 
 pub leave-at-spec : {M : Type 1} → statement M
 leave-at-spec =

@@ -15,11 +15,11 @@ left-requires c κs = search needs
 returns : tie.Need-returns
 unfolding recordedIn afterThinning
 returns c =
-    let test = c .before .before .before .before .before .before in
+    let test = c .before .before in
     let g = test .before .before .args in
     record {
       same = λ b.
-          ap (λ (f : Follow). withFollow f (withTrack (track (g .r .trail) b) (stateOf (g .h) b))) (c .before .before .before .before .left .ensures)
+          ap (λ (f : Follow). withFollow f (withTrack (track (g .r .trail) b) (stateOf (g .h) b))) (c .left .ensures)
           ∙ ap (λ (t : Bool). recordedIn t (track (g .r .trail) b) (stateOf (g .h) b)) (sym (test .if1 .taken));
       trail = refl;
     }
@@ -27,9 +27,8 @@ returns c =
 returns-2 : tie.Need-returns-2
 unfolding recordedIn afterThinning
 returns-2 c =
-    let test = c .before .before .before .before .before in
-    let g = test .before .before .args in
-    record { same = λ b. ap (λ (t : Bool). recordedIn t (track (g .r .trail) b) (stateOf (g .h) b)) (sym (test .if1 .left)); trail = refl }
+    let g = c .before .before .args in
+    record { same = λ b. ap (λ (t : Bool). recordedIn t (track (g .r .trail) b) (stateOf (g .h) b)) (sym (c .if1 .left)); trail = refl }
 
 pub recorded-spec : {M : Type 1} → statement M
 recorded-spec = tie.close (tie.spec left-requires returns returns-2)

@@ -1,11 +1,11 @@
--- `follow::along_at` meets its contract. Assumes nothing.
+-- `follow_parts::along_at` meets its contract. Assumes nothing.
 use borrow.Author.Tests.{lt-ltb, le-ltb}
 use lib.Ieee.{ofBits}
 use Rattle.crumbs.proofs.Crumbs.{length-crumbs}
-use Rattle.follow.specs.Engage.{alongAt}
+use Rattle.follow_parts.specs.Parts.{alongAt}
 use borrow.Author.Needs.{needs}
-use Rattle.follow.proofs.along_at.Statement.{statement}
-use Rattle.follow.proofs.along_at.Tie as tie
+use Rattle.follow_parts.proofs.along_at.Statement.{statement}
+use Rattle.follow_parts.proofs.along_at.Tie as tie
 
 crumb-requires : tie.Need-crumb-requires
 crumb-requires c κs = search needs

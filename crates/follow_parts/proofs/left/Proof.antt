@@ -1,10 +1,10 @@
--- `follow::left` meets its contract. Assumes nothing.
+-- `follow_parts::left` meets its contract. Assumes nothing.
 use mathlib.Core.Path.{_≡_, refl, sym, ap, _∙_}
 use Rattle.state.specs.declared.Line.{Line}
-use Rattle.follow.specs.Record.{left}
+use Rattle.follow_parts.specs.Parts.{left}
 use borrow.Author.Needs.{needs}
-use Rattle.follow.proofs.left.Statement.{statement}
-use Rattle.follow.proofs.left.Tie as tie
+use Rattle.follow_parts.proofs.left.Statement.{statement}
+use Rattle.follow_parts.proofs.left.Tie as tie
 
 enum-told : tie.Need-enum-told
 enum-told c = search needs

@@ -1,14 +1,14 @@
--- `follow::leads` meets its contract. Assumes nothing.
+-- `follow_parts::leads` meets its contract. Assumes nothing.
 use borrow.Author.Tests.{lt-leb, le-leb}
 use native.Mathlib.Omega.{arith}
 use lib.Ieee.{ofBits}
 use Rattle.binary32.specs.Arithmetic.{constant}
 use Rattle.crumbs.proofs.Crumbs.{length-crumbs}
 use Rattle.trail.specs.Trail.{minStepM}
-use Rattle.follow.specs.Engage.{leads}
+use Rattle.follow_parts.specs.Parts.{leads}
 use borrow.Author.Needs.{needs}
-use Rattle.follow.proofs.leads.Statement.{statement}
-use Rattle.follow.proofs.leads.Tie as tie
+use Rattle.follow_parts.proofs.leads.Statement.{statement}
+use Rattle.follow_parts.proofs.leads.Tie as tie
 
 returns : tie.Need-returns
 unfolding leads

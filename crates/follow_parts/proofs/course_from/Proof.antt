@@ -1,8 +1,8 @@
--- `follow::course_from` meets its contract. Assumes nothing.
-use Rattle.follow.specs.Engage.{courseFrom}
+-- `follow_parts::course_from` meets its contract. Assumes nothing.
+use Rattle.follow_parts.specs.Parts.{courseFrom}
 use borrow.Author.Needs.{needs}
-use Rattle.follow.proofs.course_from.Statement.{statement}
-use Rattle.follow.proofs.course_from.Tie as tie
+use Rattle.follow_parts.proofs.course_from.Statement.{statement}
+use Rattle.follow_parts.proofs.course_from.Tie as tie
 
 along-at-requires : tie.Need-along-at-requires
 along-at-requires c κs = search needs
