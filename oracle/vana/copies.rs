@@ -1,7 +1,7 @@
 //! Copies of the sources with other text in some places. What is replaced has to stand in the
 //! source exactly once.
 
-/// What is replaced in homing.rs or thin.rs, and by what.
+/// What is replaced in homing.rs, rebuild.rs or thin.rs, and by what.
 pub type Edit = (&'static str, &'static str);
 
 /// A copy finds its own `thin` beside it.
@@ -21,6 +21,21 @@ pub const ADDED: Edit = (
         }
 ",
 );
+
+/// What is noted of a reset, a thinning and its passes (src/notes.rs). They follow `ADDED`.
+pub const NOTED: [Edit; 3] = [
+    (
+        "    pub fn reset(&mut self) {\n",
+        "    pub fn reset(&mut self) {\n        crate::notes::reset();\n",
+    ),
+    (
+        "    fn thin(&mut self) {\n",
+        "    fn thin(&mut self) {
+        crate::notes::thinning(self.retrace > 0, self.following == Some(Line::Breadcrumb));
+",
+    ),
+    ("        len = pass(\n", "        crate::notes::pass();\n        len = pass(\n"),
+];
 
 /// What is wrong, and the edit that makes it so where `MADE` is true. They follow `ADDED`.
 pub const MISTAKES: [(&str, Edit); 46] = [
