@@ -1,6 +1,6 @@
 //! What a script's calls meet: classes of calls, and thinnings.
 use crate::script::Call;
-use crate::step::{FOLLOWED, RETRACE, Step, follows};
+use crate::step::{FOLLOWED, RETRACE, Step, follows, why};
 use crate::transcript::Answer;
 
 /// A name, and what holds of the class's calls.
@@ -68,9 +68,47 @@ const CLASSES: &[Class] = &[
     ("set_course: breadcrumb followed", |s| s.points().is_some() && s.before.breadcrumb),
     ("end_replay", |s| s.makes(Call::EndReplay)),
     ("reset", |s| s.makes(Call::Reset)),
+    ("refused by question 1", |s| s.refused_by(1)),
     ("refused by question 2", |s| s.refused_by(2)),
     ("refused by question 3", |s| s.refused_by(3)),
     ("refused by question 4", |s| s.refused_by(4)),
+    ("refused by question 5", |s| s.refused_by(5)),
+    ("refused by question 6", |s| s.refused_by(6)),
+    ("refused by question 7", |s| s.refused_by(7)),
+    ("refused by question 8", |s| s.refused_by(8)),
+    ("refused by question 9", |s| s.refused_by(9)),
+    ("refused by question 10", |s| s.refused_by(10)),
+    ("refused by 1 before 10", |s| s.refused_before(1, &[10])),
+    ("refused by 1 before 4", |s| s.refused_before(1, &[4])),
+    ("refused by 10 before 4", |s| s.refused_before(10, &[4])),
+    ("refused by 1 before 2 or 3", |s| s.refused_before(1, &[2, 3])),
+    ("refused by 10 before 2 or 3", |s| s.refused_before(10, &[2, 3])),
+    ("refused by 4 before 2 or 3", |s| s.refused_before(4, &[2, 3])),
+    ("step refused by 1 before its file", |s| s.file_refused() && s.refused_by(1)),
+    ("step refused by 10 before its file", |s| s.file_refused() && s.refused_by(10)),
+    ("spoiled, not asked about that", |s| s.spoiled && !s.refused()),
+    ("rebuild", |s| matches!(s.call, Call::Rebuild(..))),
+    ("step taken", |s| s.steps()),
+    ("step refused", |s| matches!(s.call, Call::Step(..)) && s.refused()),
+    ("step that reads on", |s| s.looks_on()),
+    ("step with budget 0", |s| s.steps() && matches!(s.call, Call::Step(_, 0))),
+    ("step decides and carries on", |s| s.steps() && s.decides() && !s.resets()),
+    ("step decides and resets", |s| s.steps() && s.decides() && s.resets()),
+    ("step, all read and decided", |s| s.steps() && s.answer == Answer::Flag(true)),
+    ("thinning in a step", |s| s.steps() && s.thins()),
+    ("step, breadcrumb followed", |s| s.looks() && s.before.breadcrumb),
+    ("step, course followed", |s| s.looks() && s.before.course),
+    ("settle decides and carries on", |s| s.settles() && s.decides() && !s.resets()),
+    ("settle decides and resets", |s| s.settles() && s.decides() && s.resets()),
+    ("settle when decided", |s| s.settles() && s.rebuild.decided),
+    ("settle without a time", |s| s.settles() && matches!(s.call, Call::Settle(false, _))),
+    ("settle 1,800,000 ms apart", |s| s.apart() == Some(1_800_000)),
+    ("settle 1,800,001 ms apart", |s| s.apart() == Some(1_800_001)),
+    ("caught_up: yes", |s| s.caught_up(true)),
+    ("caught_up: no", |s| s.caught_up(false)),
+    ("thin refused", |s| matches!(s.call, Call::Thin(_)) && s.refused()),
+    ("thin measured", |s| s.thinned(|passes| passes < 18)),
+    ("thin halved", |s| s.thinned(|passes| passes == 18)),
 ];
 
 /// What random scripts have to meet besides.
@@ -100,6 +138,13 @@ const RANDOM: &[Class] = &[
     ("outside the domain: turn-round", |s| !s.inside && s.event("following") && s.after.breadcrumb),
     ("outside the domain: dropped", |s| !s.inside && s.event("dropped")),
     ("outside the domain: reset ends it", |s| s.returns),
+    ("step outside the domain", |s| !s.inside && s.looks()),
+    ("step in which an addition acts", |s| s.steps() && s.thinnings().any(|t| why(t).is_some())),
+    ("step in which the domain begins again", |s| s.steps() && s.returns),
+    ("step in which the domain ends and begins again", |s| {
+        s.steps() && s.leaves.is_some() && s.returns
+    }),
+    ("several thinnings in a step", |s| s.steps() && s.thinnings().count() > 1),
 ];
 
 /// The most passes of a thinning.
