@@ -1,6 +1,6 @@
 //! Puts the handed-over sources in place, byte for byte, beside the stand-ins for what is missing,
-//! and copies of homing.rs and thin.rs with the edits of `copies.rs`. The probes follow the text of
-//! rebuild.rs and of each homing.rs. The sources are in the folder `SEEDS`, else in
+//! and copies of homing.rs, rebuild.rs and thin.rs with the edits of `copies.rs`. The probes follow the
+//! text of each homing.rs and each rebuild.rs. The sources are in the folder `SEEDS`, else in
 //! `shared/docs/src` beside the project.
 use std::path::{Path, PathBuf};
 use std::{env, fs};
@@ -16,6 +16,8 @@ const SOURCES: [&str; 6] = [
     "ride/course/turns.rs",
     "ride/log.rs",
 ];
+/// Sources with edited copies, by their path below ride.
+const COPIED: [&str; 3] = ["homing.rs", "homing/rebuild.rs", "thin.rs"];
 /// Sources whose private state is read, and what follows their text.
 const PROBES: [(&str, &str); 2] =
     [("ride/homing.rs", "probe.rs"), ("ride/homing/rebuild.rs", "probe_rebuild.rs")];
@@ -52,12 +54,11 @@ fn main() {
     }
     let mut modules = module(&out, "ride");
     for (name, edits) in [("added", added()), ("mistaken", mistaken())] {
-        let mut texts = [source("ride/homing.rs"), source("ride/thin.rs")];
+        let mut texts = COPIED.map(|path| source(&format!("ride/{path}")));
         edits.iter().for_each(|edit| replace(&mut texts, edit));
-        let [homing, thin] = texts;
-        write(&out.join(name).join("homing.rs"), &(homing + &probe("ride/homing.rs")));
-        write(&out.join(name).join("homing/rebuild.rs"), &source("ride/homing/rebuild.rs"));
-        write(&out.join(name).join("thin.rs"), &thin);
+        for (path, text) in COPIED.iter().zip(texts) {
+            write(&out.join(name).join(path), &(text + &probe(&format!("ride/{path}"))));
+        }
         write(&out.join(name).join("mod.rs"), "pub mod homing;\npub mod thin;\n");
         modules += &module(&out, name);
     }
@@ -66,21 +67,30 @@ fn main() {
 
 type Edit = (&'static str, String);
 
+/// The additions, and what they and a reset note.
 fn added() -> Vec<Edit> {
-    [copies::BESIDE, copies::ADDED].map(|(old, new)| (old, new.to_owned())).into()
+    additions().into_iter().chain(copies::NOTED.map(owned)).collect()
 }
 
-/// As `added`, and the mistakes, each numbered by its place.
+fn additions() -> Vec<Edit> {
+    [copies::BESIDE, copies::ADDED].map(owned).into()
+}
+
+fn owned((old, new): copies::Edit) -> Edit {
+    (old, new.to_owned())
+}
+
+/// The additions, and the mistakes, each numbered by its place.
 fn mistaken() -> Vec<Edit> {
     let made = |k| format!("crate::mistakes::made({k})");
     let mistakes = copies::MISTAKES.iter().enumerate();
-    added()
+    additions()
         .into_iter()
         .chain(mistakes.map(|(k, (_, (old, new)))| (*old, new.replace("MADE", &made(k)))))
         .collect()
 }
 
-fn replace(texts: &mut [String; 2], (old, new): &Edit) {
+fn replace(texts: &mut [String; COPIED.len()], (old, new): &Edit) {
     let found: usize = texts.iter().map(|text| text.matches(old).count()).sum();
     assert_eq!(found, 1, "times that the sources have this text: {old}");
     *texts = texts.each_ref().map(|text| text.replace(old, new));

@@ -1,7 +1,7 @@
 //! Copies of the sources with other text in some places. What is replaced has to stand in the
 //! source exactly once.
 
-/// What is replaced in homing.rs or thin.rs, and by what.
+/// What is replaced in homing.rs, rebuild.rs or thin.rs, and by what.
 pub type Edit = (&'static str, &'static str);
 
 /// A copy finds its own `thin` beside it.
@@ -22,8 +22,23 @@ pub const ADDED: Edit = (
 ",
 );
 
+/// What is noted of a reset, a thinning and its passes (src/notes.rs). They follow `ADDED`.
+pub const NOTED: [Edit; 3] = [
+    (
+        "    pub fn reset(&mut self) {\n",
+        "    pub fn reset(&mut self) {\n        crate::notes::reset();\n",
+    ),
+    (
+        "    fn thin(&mut self) {\n",
+        "    fn thin(&mut self) {
+        crate::notes::thinning(self.retrace > 0, self.following == Some(Line::Breadcrumb));
+",
+    ),
+    ("        len = pass(\n", "        crate::notes::pass();\n        len = pass(\n"),
+];
+
 /// What is wrong, and the edit that makes it so where `MADE` is true. They follow `ADDED`.
-pub const MISTAKES: [(&str, Edit); 46] = [
+pub const MISTAKES: [(&str, Edit); 61] = [
     (
         "retrace kept through a thinning",
         (
@@ -236,6 +251,101 @@ pub const MISTAKES: [(&str, Edit); 46] = [
         (
             "            return self.update(p, now);\n        }\n        self.fed",
             "            if MADE { return None; }\n            return self.update(p, now);\n        }\n        self.fed",
+        ),
+    ),
+    (
+        "rebuild: clock only for located samples",
+        (
+            "self.clock_ms = self.clock_ms.saturating_add(SAMPLE_MS);",
+            "if !MADE || sample.location_e7.is_some() { self.clock_ms = self.clock_ms.saturating_add(SAMPLE_MS); }",
+        ),
+    ),
+    (
+        "rebuild: a fix replayed at another time",
+        (
+            "homing.replay(location, self.clock_ms);",
+            "homing.replay(location, if MADE { 0 } else { self.clock_ms });",
+        ),
+    ),
+    (
+        "rebuild: carries on at 1,800,001 ms",
+        ("abs_diff(first) <= CONTINUE_MS", "abs_diff(first) <= CONTINUE_MS + u64::from(MADE)"),
+    ),
+    (
+        "rebuild: does not carry on at 1,800,000 ms",
+        (
+            ".is_some_and(|(last, first)| last",
+            ".filter(|(a, b)| !MADE || a.abs_diff(*b) != CONTINUE_MS)\n            .is_some_and(|(last, first)| last",
+        ),
+    ),
+    (
+        "rebuild: carries on without a time",
+        (
+            "        if !carries_on {",
+            "        if !carries_on && !(MADE && last_utc.zip(first_utc).is_none()) {",
+        ),
+    ),
+    (
+        "rebuild: settle ignored",
+        (
+            "= self.stage {\n            self.decide(homing, last_utc, utc_ms);",
+            "= self.stage && !MADE {\n            self.decide(homing, last_utc, utc_ms);",
+        ),
+    ),
+    (
+        "rebuild: settle decides again",
+        (
+            "    pub fn settle(&mut self, homing: &mut Homing, utc_ms: Option<u64>) {\n",
+            "    pub fn settle(&mut self, homing: &mut Homing, utc_ms: Option<u64>) {
+        if MADE && self.stage == Stage::Decided { self.decide(homing, None, utc_ms); }
+",
+        ),
+    ),
+    (
+        "rebuild: a later ride's first fix lost",
+        (
+            "=> self.decide(homing, last_utc, sample.utc_ms),",
+            "=> { self.decide(homing, last_utc, sample.utc_ms); if MADE { continue; } }",
+        ),
+    ),
+    (
+        "rebuild: the recovered ride goes on behind the decision",
+        ("Stage::Decided if !own => continue", "Stage::Decided if !own && !MADE => continue"),
+    ),
+    (
+        "rebuild: a fix without a time forgets the last one's",
+        (
+            "sample.utc_ms.or(last_utc)",
+            "if MADE { sample.utc_ms } else { sample.utc_ms.or(last_utc) }",
+        ),
+    ),
+    (
+        "rebuild: every kind of entry told",
+        ("if entry.kind != Kind::Samples {", "if entry.kind != Kind::Samples && !MADE {"),
+    ),
+    (
+        "rebuild: budget off by one",
+        (
+            "walk.step(upper, budget, read",
+            "walk.step(upper, budget.saturating_add(usize::from(MADE)), read",
+        ),
+    ),
+    (
+        "rebuild: a step over slots that are all read answers false",
+        (
+            "        let mut walk = self.walk;\n",
+            "        if MADE && self.walk.caught_up(upper) { return false; }\n        let mut walk = self.walk;\n",
+        ),
+    ),
+    (
+        "rebuild: a step is done before the decision",
+        ("self.stage == Stage::Decided && self", "(MADE || self.stage == Stage::Decided) && self"),
+    ),
+    (
+        "rebuild: caught_up one early",
+        (
+            "-> bool {\n        self.walk.caught_up(upper)",
+            "-> bool {\n        self.walk.caught_up(upper.saturating_sub(usize::from(MADE)))",
         ),
     ),
 ];

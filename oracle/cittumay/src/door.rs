@@ -1,5 +1,5 @@
-//! The exports of the static library `door`, on slices. Each answers 0, or the number of the question
-//! that refused the call.
+//! The exports of the static library `door`, on slices. Each but `thin` answers 0, or the number of the
+//! question that refused the call.
 #![allow(unsafe_code, clippy::too_many_arguments)]
 
 /// The way on, as `course_ahead` and `route_home` write it.
@@ -126,4 +126,27 @@ pub fn way_back(words: &[u64], numbers: &[f32], crumbs: &[f32], told: &mut Back)
 
 pub fn guide(words: &[u64], numbers: &[f32], shown: &mut u8, guide: &mut [u32]) -> u8 {
     told_guide(words, numbers, shown, guide.as_mut_ptr(), guide.len())
+}
+
+unsafe extern "C" {
+    fn cittumay_thin(
+        crumbs: *mut f32,
+        crumbs_len: usize,
+        len: usize,
+        tolerance: &mut f32,
+        passes: &mut usize,
+        refused: &mut u8,
+    ) -> usize;
+}
+
+/// Unlike the others it answers how many crumbs are left, and writes the question's number.
+pub fn thin(
+    crumbs: &mut [f32],
+    len: usize,
+    tolerance: &mut f32,
+    passes: &mut usize,
+    refused: &mut u8,
+) -> usize {
+    // SAFETY: the pointer and the length are those of a slice lent for the call.
+    unsafe { cittumay_thin(crumbs.as_mut_ptr(), crumbs.len(), len, tolerance, passes, refused) }
 }

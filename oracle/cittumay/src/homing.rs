@@ -19,7 +19,18 @@ impl<'a> Homing<'a> {
         Ok(Self { words, numbers, crumbs, line: &mut [] })
     }
 
-    /// Room for a course, three numbers a point.
+    /// A guide whose state was stored, with its crumbs in front in `crumbs`. What is no guide's state
+    /// refuses every call.
+    pub fn resumed(words: [u64; WORDS], numbers: [f32; NUMBERS], crumbs: &'a mut [f32]) -> Self {
+        Self { words, numbers, crumbs, line: &mut [] }
+    }
+
+    /// The state, to be stored with the lent buffers.
+    pub fn stored(&self) -> ([u64; WORDS], [f32; NUMBERS]) {
+        (self.words, self.numbers)
+    }
+
+    /// Room for a course, three numbers a point; of a resumed guide the course that was placed in it.
     pub fn with_line(mut self, line: &'a mut [f32]) -> Self {
         self.line = line;
         self

@@ -6,10 +6,12 @@ pub mod door;
 mod guide;
 mod homing;
 mod rebuild;
+mod thin;
 
 pub use guide::{Event, Guide, Mode};
 pub use homing::{Ahead, Homing};
 pub use rebuild::Rebuild;
+pub use thin::{Thinned, thin};
 
 /// Words and numbers of a guide's state, words of a rebuild's, and numbers of a guide.
 pub const WORDS: usize = 45;

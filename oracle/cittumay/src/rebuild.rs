@@ -10,6 +10,17 @@ impl Rebuild {
         taken(door::rebuild_new(&mut rebuild, recovered, upper), Self(rebuild))
     }
 
+    /// A rebuild whose state was stored. What is no rebuild's state refuses every call.
+    pub fn resumed(words: [u64; REBUILD_WORDS]) -> Self {
+        Self(words)
+    }
+
+    /// The state, to be stored: a mark, the recovered ride, the next slot; whether it is pending, and
+    /// then whether the recovered ride's latest time is known, and the time; the clock.
+    pub fn stored(&self) -> [u64; REBUILD_WORDS] {
+        self.0
+    }
+
     /// Up to `budget` more slots of the chain file; whether all is read and decided.
     pub fn step(
         &mut self,

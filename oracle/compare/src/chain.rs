@@ -41,7 +41,24 @@ pub struct Chain {
     pub entries: Vec<Record>,
 }
 
-impl Record {
+/// A record with all that anyone reads, whatever its flags and its count say.
+#[derive(Clone, Copy, Debug, Default, PartialEq)]
+pub struct Raw {
+    pub next: u32,
+    pub ride: u32,
+    pub kind: u8,
+    pub count: u8,
+    pub samples: [RawSample; SAMPLES],
+}
+
+#[derive(Clone, Copy, Debug, Default, PartialEq)]
+pub struct RawSample {
+    pub flags: u8,
+    pub place: Place,
+    pub utc_ms: u64,
+}
+
+impl Raw {
     /// The record's bytes. Those that nobody reads are 0.
     pub fn bytes(&self) -> [u8; RECORD] {
         let mut bytes = [0; RECORD];
@@ -49,30 +66,57 @@ impl Record {
         bytes[4..8].copy_from_slice(&self.ride.to_le_bytes());
         (bytes[8], bytes[9]) = (self.kind, self.count);
         for (sample, to) in self.samples.iter().zip(bytes[HEAD..].chunks_mut(SAMPLE)) {
-            if let Some((lat, lon)) = sample.place {
-                to[0] |= LOCATED;
-                to[4..8].copy_from_slice(&lat.to_le_bytes());
-                to[8..12].copy_from_slice(&lon.to_le_bytes());
-            }
-            if let Some(utc_ms) = sample.utc_ms {
-                to[0] |= TIMED;
-                to[12..20].copy_from_slice(&utc_ms.to_le_bytes());
-            }
+            to[0] = sample.flags;
+            to[4..8].copy_from_slice(&sample.place.0.to_le_bytes());
+            to[8..12].copy_from_slice(&sample.place.1.to_le_bytes());
+            to[12..20].copy_from_slice(&sample.utc_ms.to_le_bytes());
         }
         bytes
     }
 
+    pub fn read(bytes: &[u8; RECORD]) -> Self {
+        let mut samples = [RawSample::default(); SAMPLES];
+        for (sample, from) in samples.iter_mut().zip(bytes[HEAD..].chunks(SAMPLE)) {
+            let place = (u32_at(from, 4) as i32, u32_at(from, 8) as i32);
+            *sample = RawSample { flags: from[0], place, utc_ms: u64_at(from, 12) };
+        }
+        let (next, ride) = (u32_at(bytes, 0), u32_at(bytes, 4));
+        Self { next, ride, kind: bytes[8], count: bytes[9], samples }
+    }
+}
+
+impl From<&Sample> for RawSample {
+    fn from(sample: &Sample) -> Self {
+        let located = if sample.place.is_some() { LOCATED } else { 0 };
+        let timed = if sample.utc_ms.is_some() { TIMED } else { 0 };
+        let (place, utc_ms) = (sample.place.unwrap_or_default(), sample.utc_ms.unwrap_or_default());
+        Self { flags: located | timed, place, utc_ms }
+    }
+}
+
+impl From<&Record> for Raw {
+    fn from(Record { next, ride, kind, count, samples }: &Record) -> Self {
+        let samples = samples.each_ref().map(RawSample::from);
+        Self { next: *next, ride: *ride, kind: *kind, count: *count, samples }
+    }
+}
+
+impl Record {
+    /// The record's bytes. Those that nobody reads are 0.
+    pub fn bytes(&self) -> [u8; RECORD] {
+        Raw::from(self).bytes()
+    }
+
     /// "Samples past count aren't read, nor the places or UTC a flag lacks."
     pub fn read(bytes: &[u8; RECORD]) -> Self {
-        let count = bytes[9];
+        let Raw { next, ride, kind, count, samples: raw } = Raw::read(bytes);
         let mut samples = [Sample::default(); SAMPLES];
         let used = samples.iter_mut().take(count.into());
-        for (sample, from) in used.zip(bytes[HEAD..].chunks(SAMPLE)) {
-            let place = || (u32_at(from, 4) as i32, u32_at(from, 8) as i32);
-            sample.place = (from[0] & LOCATED != 0).then(place);
-            sample.utc_ms = (from[0] & TIMED != 0).then(|| u64_at(from, 12));
+        for (sample, RawSample { flags, place, utc_ms }) in used.zip(raw) {
+            sample.place = (flags & LOCATED != 0).then_some(place);
+            sample.utc_ms = (flags & TIMED != 0).then_some(utc_ms);
         }
-        Self { next: u32_at(bytes, 0), ride: u32_at(bytes, 4), kind: bytes[8], count, samples }
+        Self { next, ride, kind, count, samples }
     }
 
     /// The samples that are used.

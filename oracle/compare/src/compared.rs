@@ -1,9 +1,9 @@
 //! A script performed by the Rust and by another guide, compared after every call.
 use crate::coverage::Coverage;
-use crate::guide::Guide;
+use crate::guide::Performs;
 use crate::original::{Buffers, Original};
 use crate::script::Script;
-use crate::transcript::{self, Answer, Answers};
+use crate::transcript::{Answer, whole};
 use std::fmt;
 
 /// The first call after which the two differ, and what each tells.
@@ -29,36 +29,30 @@ impl fmt::Display for Difference {
     }
 }
 
-/// The other guide's transcript has all that is compared.
-fn told(number: usize, word: &str, answer: Answer, answers: &Answers) -> String {
-    transcript::changed(number, word, answer, answers) + &answers.dump()
-}
-
-/// Compared are the call's answer, what the guide answers to every question, every held crumb and the
-/// whole placed line.
+/// Compared are the call's answer, what the guide answers to every question, every held crumb, the whole
+/// placed line and the rebuild's state.
 pub fn difference(
     script: &Script,
-    ours: &mut impl Guide,
+    ours: &mut impl Performs,
     coverage: &mut Coverage,
 ) -> Option<Difference> {
     let mut buffers = Buffers::of(script);
     let mut original = Original::new(&mut buffers);
-    let (our_answers, their_answers) = (ours.answers(), original.answers());
-    if our_answers != their_answers {
-        let [ours, theirs] =
-            [our_answers, their_answers].map(|answers| told(1, "new", Answer::Nothing, &answers));
+    let told = [ours.told(), original.told()];
+    if told[0] != told[1] {
+        let [ours, theirs] = told.map(|told| whole(1, "new", &Answer::Nothing, &told));
         return Some(Difference { number: 1, call: "new".to_owned(), ours, theirs });
     }
     for (number, call) in (2..).zip(&script.calls) {
         let step = original.step(call);
         coverage.note(&step);
-        let (answer, answers) = (ours.perform(call), ours.answers());
-        if answer != step.answer || answers != step.answers {
+        let (answer, told) = (ours.perform(call), ours.told());
+        if answer != step.answer || told != step.told {
             return Some(Difference {
                 number,
                 call: call.to_string(),
-                ours: told(number, call.word(), answer, &answers),
-                theirs: told(number, call.word(), step.answer, &step.answers),
+                ours: whole(number, call.word(), &answer, &told),
+                theirs: whole(number, call.word(), &step.answer, &step.told),
             });
         }
     }

@@ -1,159 +1,7 @@
-//! What a script's calls meet, seen through the guide's private state: classes of calls, thinnings,
-//! and where the domain of comparison ends.
+//! What a script's calls meet: classes of calls, and thinnings.
 use crate::script::Call;
-use crate::transcript::{Answer, Answers, EVENTS, Guide, MODES};
-use vana::state::State;
-
-/// A call with what it answered, the state before and after it, and what the guide answers after it.
-pub struct Step<'a> {
-    pub call: &'a Call,
-    pub answer: Answer,
-    pub before: State,
-    pub after: State,
-    pub answers: Answers,
-    /// The domain of comparison holds.
-    pub inside: bool,
-    /// Why it ends with this call.
-    pub leaves: Option<&'static str>,
-    /// It begins again with this call.
-    pub returns: bool,
-}
-
-impl Step<'_> {
-    fn observes(&self) -> bool {
-        matches!(self.call, Call::Observe(Some(_), _)) && !self.refused()
-    }
-
-    fn replays(&self) -> bool {
-        matches!(self.call, Call::Replay(..)) && !self.refused()
-    }
-
-    fn refused(&self) -> bool {
-        matches!(self.answer, Answer::Refused(_))
-    }
-
-    fn refused_by(&self, question: u8) -> bool {
-        self.answer == Answer::Refused(question)
-    }
-
-    /// The fix is missing, and there was a place.
-    fn misses(&self) -> bool {
-        matches!(self.call, Call::Observe(None, _)) && self.before.here.is_some()
-    }
-
-    fn event(&self, name: &str) -> bool {
-        matches!(self.answer, Answer::Event(event) if EVENTS[event] == name)
-    }
-
-    /// Whether such a guide is shown after a fix.
-    fn shows(&self, such: impl Fn(Guide) -> bool) -> bool {
-        self.observes() && self.answers.guide.is_some_and(such)
-    }
-
-    fn mode(&self, name: &str) -> bool {
-        self.shows(|guide| MODES[guide.mode] == name)
-    }
-
-    /// The fix is the one before again.
-    fn repeats(&self) -> bool {
-        matches!(self.call, Call::Observe(fix, _) if fix.is_some() && self.before.fed == *fix)
-    }
-
-    fn too_early(&self) -> bool {
-        let before = &self.before;
-        matches!(self.call, Call::Observe(_, now) if now.saturating_sub(before.updated_ms) < 1_000)
-    }
-
-    fn clock_back(&self) -> bool {
-        matches!(self.call, Call::Observe(_, now) if *now < self.before.here_ms)
-    }
-
-    /// Degrees east of the origin, in 1e-7, the plain difference.
-    fn east_e7(&self) -> i64 {
-        match (self.call, self.after.origin) {
-            (Call::Observe(Some((_, lon)), _) | Call::Replay((_, lon), _), Some((_, lon0))) => {
-                i64::from(*lon) - i64::from(lon0)
-            }
-            _ => 0,
-        }
-    }
-
-    fn sets_following(&self, on: bool) -> bool {
-        matches!(self.call, Call::SetFollowing(to, _) if *to == on)
-    }
-
-    fn starts_by_hand(&self) -> bool {
-        self.sets_following(true) && !follows(&self.before)
-    }
-
-    /// The passes of `Homing::thin`, where the call made it run. It leaves fewer crumbs than the full
-    /// buffer held; else only a reset does, and a follow of the breadcrumb that starts by itself or
-    /// ends. Each pass but the last doubles the tolerance.
-    pub fn passes(&self) -> Option<u32> {
-        let keeps = match self.call {
-            Call::Replay(..) => true,
-            Call::Observe(Some(_), _) => !self.before.breadcrumb && !self.after.breadcrumb,
-            Call::SetFollowing(..) => self.starts_by_hand() && !self.after.course,
-            _ => false,
-        };
-        let full = self.before.len == self.before.capacity;
-        let exponent = |state: &State| state.tolerance.to_bits() >> 23;
-        (keeps && full && self.after.len < self.before.len)
-            .then(|| 1 + exponent(&self.after) - exponent(&self.before))
-    }
-
-    /// Why the domain of comparison ends with this call. `retrace` as a thinning finds it is what
-    /// `observe` leaves; the other calls can clear it behind the thinning.
-    pub fn leaves_domain(&self) -> Option<&'static str> {
-        self.passes()?;
-        let found = if self.observes() { &self.after } else { &self.before };
-        if found.retrace > 0 {
-            return Some(RETRACE);
-        }
-        self.before.breadcrumb.then_some(FOLLOWED)
-    }
-}
-
-const RETRACE: &str = "a thinning finds `retrace` above 0";
-const FOLLOWED: &str = "a thinning finds the breadcrumb followed";
-
-fn follows(state: &State) -> bool {
-    state.breadcrumb || state.course
-}
-
-impl Step<'_> {
-    /// The fix given lies at a pole.
-    fn pole(&self) -> bool {
-        let (Call::Observe(Some((lat, _)), _) | Call::Replay((lat, _), _)) = self.call else {
-            return false;
-        };
-        lat.abs() == 900_000_000
-    }
-
-    /// A follow of the breadcrumb ends, other than by a reset or a thinning.
-    fn stops(&self) -> bool {
-        let ended = self.before.breadcrumb && !self.after.breadcrumb;
-        ended && *self.call != Call::Reset && !self.replays()
-    }
-
-    /// The points of the course that is set.
-    fn points(&self) -> Option<usize> {
-        match self.call {
-            Call::SetCourse(places) if !self.refused() => Some(places.len()),
-            _ => None,
-        }
-    }
-
-    fn clock_jumps(&self) -> bool {
-        matches!(self.call, Call::Observe(_, now) if *now > self.before.here_ms + 3_600_000)
-            && self.before.here.is_some()
-    }
-
-    /// Metres along the breadcrumb.
-    fn along(&self) -> f32 {
-        self.answers.crumbs.last().map_or(0.0, |crumb| f32::from_bits(crumb.0[2]))
-    }
-}
+use crate::step::{FOLLOWED, RETRACE, Step, follows, why};
+use crate::transcript::Answer;
 
 /// A name, and what holds of the class's calls.
 type Class = (&'static str, fn(&Step) -> bool);
@@ -193,14 +41,14 @@ const CLASSES: &[Class] = &[
     ("heading stale", |s| s.observes() && s.before.heading.is_some() && s.after.heading.is_none()),
     ("wrap", |s| s.east_e7().abs() > 1_800_000_000),
     ("half a turn, no wrap", |s| s.east_e7().abs() == 1_800_000_000),
-    ("pole", |s| s.pole() && !s.refused()),
+    ("pole", |s| s.pole()),
     ("east factor 0", |s| s.observes() && s.after.east_per_e7 == 0.0),
-    ("thinning, 1 pass", |s| s.passes() == Some(1)),
-    ("thinning, 2 to 17 passes", |s| s.passes().is_some_and(|passes| (2..18).contains(&passes))),
-    ("thinning, 18 passes", |s| s.passes() == Some(18)),
-    ("thinning, course followed", |s| s.passes().is_some() && s.before.course),
-    ("thinning in set_following", |s| s.passes().is_some() && s.sets_following(true)),
-    ("thinning in replay", |s| s.passes().is_some() && s.replays()),
+    ("thinning, 1 pass", |s| s.thins_by(|passes| passes == 1)),
+    ("thinning, 2 to 17 passes", |s| s.thins_by(|passes| (2..18).contains(&passes))),
+    ("thinning, 18 passes", |s| s.thins_by(|passes| passes == 18)),
+    ("thinning, course followed", |s| s.thins() && s.before.course),
+    ("thinning in set_following", |s| s.thins() && s.sets_following(true)),
+    ("thinning in replay", |s| s.thins() && s.replays()),
     ("replay, breadcrumb followed", |s| s.replays() && s.before.breadcrumb),
     ("replay, course followed", |s| s.replays() && s.before.course),
     ("set_following 1: breadcrumb", |s| s.starts_by_hand() && s.after.breadcrumb),
@@ -209,20 +57,58 @@ const CLASSES: &[Class] = &[
     ("set_following 0: breadcrumb", |s| s.sets_following(false) && s.before.breadcrumb),
     ("set_following 0: course", |s| s.sets_following(false) && s.before.course),
     ("set_auto_follow 0: stopped", |s| {
-        *s.call == Call::SetAutoFollow(false) && follows(&s.before) && !follows(&s.after)
+        s.makes(Call::SetAutoFollow(false)) && follows(&s.before) && !follows(&s.after)
     }),
-    ("set_auto_follow 1", |s| *s.call == Call::SetAutoFollow(true)),
+    ("set_auto_follow 1", |s| s.makes(Call::SetAutoFollow(true))),
     ("set_course: placed", |s| s.points().is_some() && s.after.line_len >= 2),
     ("set_course: waits for a fix", |s| s.points().is_some() && s.after.unplaced),
     ("set_course: 0 points", |s| s.points() == Some(0)),
     ("set_course: 1 point", |s| s.points() == Some(1)),
     ("set_course: course followed", |s| s.points().is_some() && s.before.course),
     ("set_course: breadcrumb followed", |s| s.points().is_some() && s.before.breadcrumb),
-    ("end_replay", |s| *s.call == Call::EndReplay),
-    ("reset", |s| *s.call == Call::Reset),
+    ("end_replay", |s| s.makes(Call::EndReplay)),
+    ("reset", |s| s.makes(Call::Reset)),
+    ("refused by question 1", |s| s.refused_by(1)),
     ("refused by question 2", |s| s.refused_by(2)),
     ("refused by question 3", |s| s.refused_by(3)),
     ("refused by question 4", |s| s.refused_by(4)),
+    ("refused by question 5", |s| s.refused_by(5)),
+    ("refused by question 6", |s| s.refused_by(6)),
+    ("refused by question 7", |s| s.refused_by(7)),
+    ("refused by question 8", |s| s.refused_by(8)),
+    ("refused by question 9", |s| s.refused_by(9)),
+    ("refused by question 10", |s| s.refused_by(10)),
+    ("refused by 1 before 10", |s| s.refused_before(1, &[10])),
+    ("refused by 1 before 4", |s| s.refused_before(1, &[4])),
+    ("refused by 10 before 4", |s| s.refused_before(10, &[4])),
+    ("refused by 1 before 2 or 3", |s| s.refused_before(1, &[2, 3])),
+    ("refused by 10 before 2 or 3", |s| s.refused_before(10, &[2, 3])),
+    ("refused by 4 before 2 or 3", |s| s.refused_before(4, &[2, 3])),
+    ("step refused by 1 before its file", |s| s.file_refused() && s.refused_by(1)),
+    ("step refused by 10 before its file", |s| s.file_refused() && s.refused_by(10)),
+    ("spoiled, not asked about that", |s| s.spoiled && !s.refused()),
+    ("rebuild", |s| matches!(s.call, Call::Rebuild(..))),
+    ("step taken", |s| s.steps()),
+    ("step refused", |s| matches!(s.call, Call::Step(..)) && s.refused()),
+    ("step that reads on", |s| s.looks_on()),
+    ("step with budget 0", |s| s.steps() && matches!(s.call, Call::Step(_, 0))),
+    ("step decides and carries on", |s| s.steps() && s.decides() && !s.resets()),
+    ("step decides and resets", |s| s.steps() && s.decides() && s.resets()),
+    ("step, all read and decided", |s| s.steps() && s.answer == Answer::Flag(true)),
+    ("thinning in a step", |s| s.steps() && s.thins()),
+    ("step, breadcrumb followed", |s| s.looks() && s.before.breadcrumb),
+    ("step, course followed", |s| s.looks() && s.before.course),
+    ("settle decides and carries on", |s| s.settles() && s.decides() && !s.resets()),
+    ("settle decides and resets", |s| s.settles() && s.decides() && s.resets()),
+    ("settle when decided", |s| s.settles() && s.rebuild.decided),
+    ("settle without a time", |s| s.settles() && matches!(s.call, Call::Settle(false, _))),
+    ("settle 1,800,000 ms apart", |s| s.apart() == Some(1_800_000)),
+    ("settle 1,800,001 ms apart", |s| s.apart() == Some(1_800_001)),
+    ("caught_up: yes", |s| s.caught_up(true)),
+    ("caught_up: no", |s| s.caught_up(false)),
+    ("thin refused", |s| matches!(s.call, Call::Thin(_)) && s.refused()),
+    ("thin measured", |s| s.thinned(|passes| passes < 18)),
+    ("thin halved", |s| s.thinned(|passes| passes == 18)),
 ];
 
 /// What random scripts have to meet besides.
@@ -239,19 +125,26 @@ const RANDOM: &[Class] = &[
     ("set_course: 2 points", |s| s.points() == Some(2)),
     ("set_course: 300 points or more", |s| s.points().is_some_and(|points| points >= 300)),
     ("clock jumps an hour", |s| s.clock_jumps()),
-    ("clock at its largest", |s| matches!(s.call, Call::Observe(_, u64::MAX))),
+    ("clock at its largest", |s| matches!(s.taken(), Some(Call::Observe(_, u64::MAX)))),
     ("breadcrumb of 2^24 m", |s| s.along() >= 16_777_216.0),
     ("breadcrumb of 2^32 m", |s| s.along() >= 4_294_967_296.0),
-    ("thinning of 4,096 crumbs", |s| s.passes().is_some() && s.before.capacity == 4_096),
-    ("reset, breadcrumb followed", |s| *s.call == Call::Reset && s.before.breadcrumb),
-    ("reset, course followed", |s| *s.call == Call::Reset && s.before.course),
+    ("thinning of 4,096 crumbs", |s| s.thins() && s.before.capacity == 4_096),
+    ("reset, breadcrumb followed", |s| s.makes(Call::Reset) && s.before.breadcrumb),
+    ("reset, course followed", |s| s.makes(Call::Reset) && s.before.course),
     ("domain ends: retrace above 0", |s| s.leaves == Some(RETRACE)),
     ("domain ends: breadcrumb followed", |s| s.leaves == Some(FOLLOWED)),
     ("outside the domain", |s| !s.inside),
-    ("outside the domain: thinning", |s| !s.inside && s.passes().is_some()),
+    ("outside the domain: thinning", |s| !s.inside && s.thins()),
     ("outside the domain: turn-round", |s| !s.inside && s.event("following") && s.after.breadcrumb),
     ("outside the domain: dropped", |s| !s.inside && s.event("dropped")),
     ("outside the domain: reset ends it", |s| s.returns),
+    ("step outside the domain", |s| !s.inside && s.looks()),
+    ("step in which an addition acts", |s| s.steps() && s.thinnings().any(|t| why(t).is_some())),
+    ("step in which the domain begins again", |s| s.steps() && s.returns),
+    ("step in which the domain ends and begins again", |s| {
+        s.steps() && s.leaves.is_some() && s.returns
+    }),
+    ("several thinnings in a step", |s| s.steps() && s.thinnings().count() > 1),
 ];
 
 /// The most passes of a thinning.
@@ -304,8 +197,8 @@ impl Coverage {
         for ((_, meets), met) in classes().zip(&mut self.met) {
             met.note(meets(step));
         }
-        if let Some(passes) = step.passes() {
-            self.passes[passes as usize - 1].note(true);
+        for thinning in step.thinnings() {
+            self.passes[thinning.passes - 1].note(true);
         }
     }
 

@@ -1,7 +1,7 @@
-//! The proved guide under a script, through the door.
+//! The proved guide's calls through the door, and what they answer, as plain values.
 use crate::guide::Guide;
-use crate::script::{Call, Script};
-use crate::transcript::{self, Ahead, Answer, Answers, Patterns};
+use crate::script::{Call, Question, Script};
+use crate::transcript::{self, Ahead, Answer, Answers, Patterns, patterns};
 use cittumay::{Event, Homing, Mode, Refusal, STRIDE};
 
 /// What is lent to a script's guide.
@@ -36,13 +36,30 @@ impl Guide for Homing<'_> {
                 self.set_course(&lats, &lons).map(nothing)
             }
             Call::SetAutoFollow(on) => self.set_auto_follow(*on).map(nothing),
-            Call::Ask(_) | Call::Dump => Ok(Answer::Nothing),
+            Call::Ask(question) => asked(self, *question).map(nothing),
+            _ => Ok(Answer::Nothing),
         };
         answer.unwrap_or_else(|Refusal(question)| Answer::Refused(question))
     }
 
     fn answers(&self) -> Answers {
         answers(self).expect("a guide's own state")
+    }
+}
+
+/// Whether a question to the guide is taken.
+fn asked(homing: &Homing, question: Question) -> Result<(), Refusal> {
+    match question {
+        Question::Len => homing.len().map(drop),
+        Question::Following => homing.following().map(drop),
+        Question::FollowingCourse => homing.following_course().map(drop),
+        Question::Course => homing.course().map(drop),
+        Question::CourseAhead => homing.course_ahead().map(drop),
+        Question::Crumbs => homing.crumbs().map(drop),
+        Question::WayBack => homing.way_back().map(drop),
+        Question::Heading => homing.heading().map(drop),
+        Question::RouteHome => homing.route_home().map(drop),
+        Question::Guide => homing.guide().map(drop),
     }
 }
 
@@ -76,11 +93,6 @@ fn event(event: Option<Event>) -> Answer {
 fn ahead((end, point): cittumay::Ahead) -> Ahead {
     let point = point.map(|(east, north)| Patterns([east, north].map(f32::to_bits)));
     Ahead { end, point }
-}
-
-fn patterns(numbers: &[f32]) -> Vec<Patterns<3>> {
-    let (crumbs, _) = numbers.as_chunks::<STRIDE>();
-    crumbs.iter().map(|crumb| Patterns(crumb.map(f32::to_bits))).collect()
 }
 
 fn shown(guide: cittumay::Guide) -> Result<transcript::Guide, Refusal> {

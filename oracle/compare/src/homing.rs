@@ -1,13 +1,31 @@
-//! The handed-over guide and its copies under a script: what their calls answer, as plain values.
+//! The handed-over guide and rebuild and their copies under a script: what their calls answer, as plain
+//! values.
+use crate::chain::Record;
 use crate::guide::Guide;
-use crate::script::{Call, Script};
-use crate::transcript::{self, Ahead, Answer, Answers, Patterns};
+use crate::reference;
+use crate::retelling::entry;
+use crate::script::{Call, Script, Thin};
+use crate::thinning::{self, Line};
+use crate::transcript::{self, Ahead, Answer, Answers, Patterns, Thinned, Told, buffer};
 use vana::ride::course;
-use vana::state::State;
+use vana::state::{RebuildState, State};
 
-/// A guide whose private state is shown.
-pub trait Probed: Guide {
+/// A guide and its rebuild, which put no questions, and show their private state.
+pub trait Unasked {
+    /// Performs a call that no question refuses; the chain file has these entries.
+    fn perform(&mut self, call: &Call, entries: &[Record]) -> Answer;
+    fn answers(&self) -> Answers;
+    fn rebuild(&self) -> RebuildState;
     fn state(&self) -> State;
+
+    fn told(&self) -> Told {
+        Told { answers: self.answers(), rebuild: self.rebuild() }
+    }
+}
+
+pub struct Rebuilt<Homing, Rebuild> {
+    homing: Homing,
+    rebuild: Rebuild,
 }
 
 /// What is lent to a script's guide.
@@ -28,9 +46,18 @@ fn ahead((end, point): (usize, Option<(f32, f32)>)) -> Ahead {
     Ahead { end, point }
 }
 
+/// `thin` alone, by the unchanged Rust.
+fn thin(held: &[Patterns<3>], Thin { size, len, tolerance }: Thin) -> Answer {
+    let (crumbs, tolerance) = (buffer(held, size), f32::from_bits(tolerance));
+    let thinned = Line { crumbs, len, tolerance }.thinned(reference::thin);
+    let thinning::Answer { tolerance, passes, .. } = thinned.answer;
+    Answer::Thinned(Thinned::of(&thinned.left, tolerance, passes))
+}
+
 macro_rules! guide {
     ($copy:ident) => {
         const _: () = {
+            use vana::$copy::homing::rebuild::{self, Rebuild};
             use vana::$copy::homing::{Crumb, Event, Guide as Shown, Homing, Mode, probe};
 
             impl Guide for Homing<'_> {
@@ -48,7 +75,7 @@ macro_rules! guide {
                             self.set_course(&places.iter().map(point).collect::<Vec<_>>());
                         }
                         Call::SetAutoFollow(on) => self.set_auto_follow(*on),
-                        Call::Ask(_) | Call::Dump => {}
+                        _ => {}
                     }
                     Answer::Nothing
                 }
@@ -69,9 +96,42 @@ macro_rules! guide {
                 }
             }
 
-            impl Probed for Homing<'_> {
+            impl<'a> Rebuilt<Homing<'a>, Rebuild> {
+                pub fn new(lent: &'a mut Lent<Crumb>) -> Self {
+                    let homing = Homing::new(&mut lent.crumbs).with_line(&mut lent.line);
+                    Self { homing, rebuild: Rebuild::new(0, 0) }
+                }
+            }
+
+            impl Unasked for Rebuilt<Homing<'_>, Rebuild> {
+                fn perform(&mut self, call: &Call, entries: &[Record]) -> Answer {
+                    let Self { homing, rebuild } = self;
+                    match call {
+                        Call::Rebuild(recovered, upper) => {
+                            *rebuild = Rebuild::new(*recovered, *upper);
+                        }
+                        Call::Step(upper, budget) => {
+                            let read = |slot| entries.get(slot).and_then(entry);
+                            return Answer::Flag(rebuild.step(homing, *upper, *budget, read));
+                        }
+                        Call::Settle(known, utc) => rebuild.settle(homing, known.then_some(*utc)),
+                        Call::CaughtUp(upper) => return Answer::Flag(rebuild.caught_up(*upper)),
+                        Call::Thin(thinning) => return thin(&homing.answers().crumbs, *thinning),
+                        _ => return homing.perform(call),
+                    }
+                    Answer::Nothing
+                }
+
+                fn answers(&self) -> Answers {
+                    self.homing.answers()
+                }
+
+                fn rebuild(&self) -> RebuildState {
+                    rebuild::probe::state(&self.rebuild)
+                }
+
                 fn state(&self) -> State {
-                    probe::state(self)
+                    probe::state(&self.homing)
                 }
             }
 

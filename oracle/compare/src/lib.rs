@@ -13,6 +13,7 @@ pub mod inputs;
 pub mod lines;
 pub mod options;
 pub mod original;
+pub mod prepared;
 pub mod program;
 pub mod proved;
 pub mod questions;
@@ -23,9 +24,12 @@ pub mod retelling;
 pub mod riders;
 pub mod script;
 pub mod shorten;
+pub mod step;
+pub mod stored;
 pub mod thinning;
 pub mod transcript;
 pub mod value;
+pub mod words;
 
 /// Metres east and north.
 pub type Point = (f32, f32);

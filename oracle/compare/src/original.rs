@@ -1,12 +1,13 @@
 //! The Rust as document 01 has it compared: unchanged inside the domain; from where that ends until
 //! the next reset, with the additions. Document 01's questions come first.
-use crate::coverage::Step;
-use crate::guide::Guide;
-use crate::homing::{Lent, Probed};
-use crate::questions::refusal;
+use crate::chain::Record;
+use crate::homing::{Lent, Rebuilt, Unasked};
+use crate::prepared::Prepared;
+use crate::questions::{Verdict, verdict};
 use crate::script::{Call, Script};
-use crate::transcript::{Answer, Answers};
-use vana::state::State;
+use crate::step::{Step, why};
+use crate::transcript::{Answer, Told};
+use vana::notes::{self, Note};
 use vana::{added, ride};
 
 /// What is lent to both.
@@ -18,59 +19,107 @@ impl Buffers {
     }
 }
 
+type Unchanged<'a> = Rebuilt<ride::homing::Homing<'a>, ride::homing::rebuild::Rebuild>;
+type Added<'a> = Rebuilt<added::homing::Homing<'a>, added::homing::rebuild::Rebuild>;
+
 /// Both perform every call. Inside the domain they have to answer the same.
 pub struct Original<'a> {
-    unchanged: ride::homing::Homing<'a>,
-    added: added::homing::Homing<'a>,
+    unchanged: Unchanged<'a>,
+    added: Added<'a>,
+    prepared: Prepared,
     inside: bool,
     room: usize,
+}
+
+/// Why the domain ended in a call, and whether it began again.
+#[derive(Default)]
+struct Crossed {
+    leaves: Option<&'static str>,
+    returns: bool,
 }
 
 impl<'a> Original<'a> {
     pub fn new(Buffers(unchanged, added): &'a mut Buffers) -> Self {
         Self {
             room: unchanged.line.len(),
-            unchanged: ride::homing::Homing::new(&mut unchanged.crumbs)
-                .with_line(&mut unchanged.line),
-            added: added::homing::Homing::new(&mut added.crumbs).with_line(&mut added.line),
+            unchanged: Unchanged::new(unchanged),
+            added: Added::new(added),
+            prepared: Prepared::default(),
             inside: true,
         }
     }
 
     pub fn step<'c>(&mut self, call: &'c Call) -> Step<'c> {
-        let before = self.chosen().state();
-        let returns = !self.inside && *call == Call::Reset;
-        self.inside |= returns;
-        let [unchanged, added] = self.perform(call);
-        let step = self.stepped(call, unchanged, before);
-        let leaves = step.leaves_domain().filter(|_| self.inside);
-        if self.inside && leaves.is_none() {
-            let same = added == unchanged && self.added.answers() == step.answers;
+        let (before, rebuild) = (self.chosen().state(), self.chosen().rebuild());
+        self.prepared.take_up(call).expect("a line that may stand here");
+        let spoiled = !call.prepares() && !self.prepared.spoils.is_empty();
+        let Verdict { noes, entries } = verdict(call, &self.prepared, self.room);
+        let [unchanged, added] = self.perform(call, noes.first(), &entries);
+        self.prepared.spent(call);
+        let notes = notes::take();
+        let Crossed { leaves, returns } = self.cross(&notes);
+        let answer = if self.inside { unchanged.clone() } else { added.clone() };
+        let (after, told, inside) = (self.chosen().state(), self.told(), self.inside);
+        if inside {
+            let same = added == unchanged && self.added.told() == told;
             assert!(same, "{call}: the additions act inside the domain");
-            return Step { returns, ..step };
         }
-        self.inside = false;
-        Step { leaves, ..self.stepped(call, added, before) }
-    }
-
-    fn perform(&mut self, call: &Call) -> [Answer; 2] {
-        match refusal(call, self.room) {
-            Some(question) => [Answer::Refused(question); 2],
-            None => [self.unchanged.perform(call), self.added.perform(call)],
+        Step {
+            call,
+            answer,
+            noes,
+            before,
+            after,
+            rebuild,
+            told,
+            notes,
+            spoiled,
+            inside,
+            leaves,
+            returns,
         }
     }
 
-    fn stepped<'c>(&self, call: &'c Call, answer: Answer, before: State) -> Step<'c> {
-        let (after, answers) = (self.chosen().state(), self.answers());
-        let inside = self.inside;
-        Step { call, answer, before, after, answers, inside, leaves: None, returns: false }
+    fn perform(&mut self, call: &Call, no: Option<&u8>, entries: &[Record]) -> [Answer; 2] {
+        match no {
+            Some(question) => [(); 2].map(|()| Answer::Refused(*question)),
+            None => [self.unchanged.perform(call, entries), self.added.perform(call, entries)],
+        }
     }
 
-    fn chosen(&self) -> &dyn Probed {
+    /// Where the domain ends and begins again, by what the copy with the additions noted in a call.
+    /// Inside, the unchanged Rust has the same state and does the same. A reset is made by the call, or
+    /// by the rebuild, which reads nothing of the guide: so both copies make it at the same place. It
+    /// sets all that the additions set (`retrace`, `following`, `segment`, `matched`, `off`), and of what
+    /// can differ by them until then it leaves only what is written before it is next read: the crumbs,
+    /// since `len` is 0; `retrace_len`, since `retrace` is; `course_along`, `course_reached`,
+    /// `course_fix`, `join_end` and `reminded_ms`, which a follow sets when it begins; `heading_ms`,
+    /// which the next heading sets; `updated_ms`, which the next fix sets. So behind a reset the two are
+    /// one guide again, in the middle of a call too.
+    fn cross(&mut self, notes: &[Note]) -> Crossed {
+        let mut crossed = Crossed::default();
+        for note in notes {
+            match note {
+                Note::Reset => {
+                    crossed.returns |= !self.inside;
+                    self.inside = true;
+                }
+                Note::Thinning(thinning) => {
+                    if let Some(why) = why(thinning).filter(|_| self.inside) {
+                        crossed.leaves = crossed.leaves.or(Some(why));
+                        self.inside = false;
+                    }
+                }
+            }
+        }
+        crossed
+    }
+
+    fn chosen(&self) -> &dyn Unasked {
         if self.inside { &self.unchanged } else { &self.added }
     }
 
-    pub fn answers(&self) -> Answers {
-        self.chosen().answers()
+    pub fn told(&self) -> Told {
+        self.chosen().told()
     }
 }

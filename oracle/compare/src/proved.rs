@@ -3,6 +3,7 @@
 #![allow(unsafe_code)]
 use crate::thinning::Answer;
 use crate::{Framing, Point};
+use cittumay::door;
 
 unsafe extern "C" {
     safe fn cittumay_sqrtf(x: f32) -> f32;
@@ -43,14 +44,6 @@ unsafe extern "C" {
         east: &mut f32,
         north: &mut f32,
     );
-    fn cittumay_thin(
-        crumbs: *mut f32,
-        crumbs_len: usize,
-        len: usize,
-        tolerance: &mut f32,
-        passes: &mut usize,
-        refused: &mut u8,
-    ) -> usize;
 }
 
 pub fn sqrtf(x: f32) -> f32 {
@@ -115,8 +108,6 @@ pub fn frame((origin, east_per_e7, place): Framing) -> Point {
 
 pub fn thin(crumbs: &mut [f32], len: usize, mut tolerance: f32) -> Answer {
     let (mut passes, mut refused) = (Answer::NO_PASSES, u8::MAX);
-    let (start, size) = (crumbs.as_mut_ptr(), crumbs.len());
-    // SAFETY: `start` and `size` are those of a slice that is lent for the call.
-    let len = unsafe { cittumay_thin(start, size, len, &mut tolerance, &mut passes, &mut refused) };
+    let len = door::thin(crumbs, len, &mut tolerance, &mut passes, &mut refused);
     Answer { refused, len, tolerance, passes }
 }

@@ -1,10 +1,14 @@
 //! Scripts of calls, as text: a call a line, a word and decimal integers behind it. `new` begins a
-//! script, `#` a remark. No two words have the same first and last letter.
-use crate::Place;
-use std::fmt;
-use std::str::{FromStr, SplitWhitespace};
+//! script, `#` a remark.
+mod read;
 
-/// A guide's calls, from `new` on.
+use crate::Place;
+use crate::chain::{Raw, RawSample};
+use std::fmt;
+
+pub use read::read;
+
+/// A guide's calls, from `new` on, with the lines between them that prepare a call.
 #[derive(Clone)]
 pub struct Script {
     /// Crumbs that the lent buffer has room for.
@@ -14,7 +18,7 @@ pub struct Script {
     pub calls: Vec<Call>,
 }
 
-#[derive(Clone, PartialEq)]
+#[derive(Clone, Debug, PartialEq)]
 pub enum Call {
     Reset,
     /// The fix, or none, and the clock.
@@ -27,10 +31,46 @@ pub enum Call {
     Ask(Question),
     /// Crumbs and course.
     Dump,
+    Thin(Thin),
+    /// The recovered ride, and the upper slot.
+    Rebuild(u32, usize),
+    /// The upper slot, and the budget.
+    Step(usize, usize),
+    /// Whether the time is known, and the time.
+    Settle(bool, u64),
+    CaughtUp(usize),
+    /// No call: the next one is given this in place of its own.
+    Spoil(Spoil),
+    /// No call: a record behind the chain file.
+    Record(Raw),
+    /// No call: the chain file's length from here on.
+    Bytes(usize),
+}
+
+/// `thin` on the held crumbs in a buffer of its own.
+#[derive(Clone, Copy, Debug, PartialEq)]
+pub struct Thin {
+    /// Numbers of the buffer.
+    pub size: usize,
+    pub len: usize,
+    /// The tolerance's pattern.
+    pub tolerance: u32,
+}
+
+/// What a question refuses: of the crumb buffer, the line or the state the `which`-th.
+#[derive(Clone, Copy, Debug, PartialEq)]
+pub struct Spoil {
+    pub question: u8,
+    pub which: u8,
+}
+
+impl Spoil {
+    /// The questions, and how many ways there are to be refused by each.
+    pub const WAYS: [(u8, u8); 3] = [(1, 2), (4, 2), (10, 7)];
 }
 
 /// The calls that change nothing.
-#[derive(Clone, Copy, PartialEq)]
+#[derive(Clone, Copy, Debug, PartialEq)]
 pub enum Question {
     Len,
     Following,
@@ -87,25 +127,20 @@ impl Call {
             Self::SetFollowing(..) => "set_following",
             Self::Ask(question) => question.word(),
             Self::Dump => "dump",
+            Self::Thin(_) => "thin",
+            Self::Rebuild(..) => "rebuild",
+            Self::Step(..) => "step",
+            Self::Settle(..) => "settle",
+            Self::CaughtUp(_) => "caught_up",
+            Self::Spoil(_) => "spoil",
+            Self::Record(_) => "record",
+            Self::Bytes(_) => "bytes",
         }
     }
 
-    fn read(word: &str, numbers: &mut Numbers) -> Result<Self, String> {
-        Ok(match word {
-            "reset" => Self::Reset,
-            "observe" => Self::Observe(Some(numbers.place()?), numbers.next()?),
-            "missing" => Self::Observe(None, numbers.next()?),
-            "replay" => Self::Replay(numbers.place()?, numbers.next()?),
-            "end_replay" => Self::EndReplay,
-            "set_course" => Self::SetCourse(numbers.places()?),
-            "set_auto_follow" => Self::SetAutoFollow(numbers.flag()?),
-            "set_following" => Self::SetFollowing(numbers.flag()?, numbers.next()?),
-            "dump" => Self::Dump,
-            _ => {
-                let question = Question::ALL.into_iter().find(|question| question.word() == word);
-                Self::Ask(question.ok_or_else(|| format!("no such call: {word}"))?)
-            }
-        })
+    /// The line is no call, but prepares one.
+    pub fn prepares(&self) -> bool {
+        matches!(self, Self::Spoil(_) | Self::Record(_) | Self::Bytes(_))
     }
 }
 
@@ -122,8 +157,30 @@ impl fmt::Display for Call {
             }
             Self::SetAutoFollow(on) => write!(f, " {}", u8::from(*on)),
             Self::SetFollowing(on, now_ms) => write!(f, " {} {now_ms}", u8::from(*on)),
+            Self::Thin(Thin { size, len, tolerance }) => write!(f, " {size} {len} {tolerance}"),
+            Self::Rebuild(recovered, upper) => write!(f, " {recovered} {upper}"),
+            Self::Step(upper, budget) => write!(f, " {upper} {budget}"),
+            Self::Settle(known, utc_ms) => write!(f, " {} {utc_ms}", u8::from(*known)),
+            Self::CaughtUp(number) | Self::Bytes(number) => write!(f, " {number}"),
+            Self::Spoil(Spoil { question, which }) => write!(f, " {question} {which}"),
+            Self::Record(record) => write!(f, " {}", Numbers(record)),
             Self::Reset | Self::EndReplay | Self::Ask(_) | Self::Dump => Ok(()),
         }
+    }
+}
+
+/// A record's numbers. Samples of zeros at its end are left out.
+struct Numbers<'a>(&'a Raw);
+
+impl fmt::Display for Numbers<'_> {
+    fn fmt(&self, f: &mut fmt::Formatter) -> fmt::Result {
+        let Raw { next, ride, kind, count, samples } = self.0;
+        write!(f, "{next} {ride} {kind} {count}")?;
+        let told = samples.iter().rposition(|sample| *sample != RawSample::default());
+        let told = &samples[..told.map_or(0, |last| last + 1)];
+        told.iter().try_for_each(|RawSample { flags, place: (lat, lon), utc_ms }| {
+            write!(f, " {flags} {lat} {lon} {utc_ms}")
+        })
     }
 }
 
@@ -132,80 +189,4 @@ impl fmt::Display for Script {
         writeln!(f, "new {} {}", self.capacity, self.room)?;
         self.calls.iter().try_for_each(|call| writeln!(f, "{call}"))
     }
-}
-
-/// The most points of a course, and the most places of a line.
-pub const POINTS: usize = 2_048;
-
-/// The numbers behind a word. A guide has its buffers from `new`, where those that document 01's
-/// questions would refuse are an error.
-struct Numbers<'a>(SplitWhitespace<'a>);
-
-impl Numbers<'_> {
-    fn next<T: FromStr>(&mut self) -> Result<T, String> {
-        let word = self.0.next().ok_or("a number is missing")?;
-        word.parse().map_err(|_| format!("not a number here: {word}"))
-    }
-
-    fn flag(&mut self) -> Result<bool, String> {
-        match self.next()? {
-            0u8 => Ok(false),
-            1 => Ok(true),
-            other => Err(format!("not 0 or 1: {other}")),
-        }
-    }
-
-    fn place(&mut self) -> Result<Place, String> {
-        Ok((self.next()?, self.next()?))
-    }
-
-    /// The places up to the line's end.
-    fn places(&mut self) -> Result<Vec<Place>, String> {
-        let mut places = Vec::new();
-        while self.0.clone().next().is_some() {
-            places.push(self.place()?);
-        }
-        let many = places.len() > POINTS;
-        if many { Err("a course of more than 2,048 points".to_owned()) } else { Ok(places) }
-    }
-
-    fn script(&mut self) -> Result<Script, String> {
-        let (capacity, room) = (self.next()?, self.next()?);
-        refuse(1, !(8..=4_096).contains(&capacity))?;
-        refuse(4, room > POINTS)?;
-        Ok(Script { capacity, room, calls: Vec::new() })
-    }
-
-    fn end(&mut self) -> Result<(), String> {
-        self.0.next().map_or(Ok(()), |word| Err(format!("too much: {word}")))
-    }
-}
-
-fn refuse(number: u8, when: bool) -> Result<(), String> {
-    if when { Err(format!("refused by question {number}")) } else { Ok(()) }
-}
-
-/// The scripts of a text.
-pub fn read(text: &str) -> Result<Vec<Script>, String> {
-    let mut scripts = Vec::new();
-    for (k, line) in text.lines().enumerate() {
-        read_line(line, &mut scripts).map_err(|error| format!("line {}: {error}", k + 1))?;
-    }
-    Ok(scripts)
-}
-
-fn read_line(line: &str, scripts: &mut Vec<Script>) -> Result<(), String> {
-    let line = line.split_once('#').map_or(line, |(call, _)| call);
-    let mut words = line.split_whitespace();
-    let Some(word) = words.next() else {
-        return Ok(());
-    };
-    let mut numbers = Numbers(words);
-    if word == "new" {
-        scripts.push(numbers.script()?);
-    } else {
-        let script = scripts.last_mut().ok_or("a script begins with `new`")?;
-        script.calls.push(Call::read(word, &mut numbers)?);
-    }
-    numbers.end()
 }

@@ -1,5 +1,6 @@
 //! A script on which two guides differ, cut down.
 use crate::compared::Difference;
+use crate::prepared::check;
 use crate::script::Script;
 
 /// Calls performed at most.
@@ -15,7 +16,8 @@ pub fn shortened(script: &Script, differs: impl Fn(&Script) -> Option<Difference
             let mut fewer = script.clone();
             fewer.calls.drain(at..(at + size).min(script.calls.len()));
             performed += fewer.calls.len();
-            match differs(&fewer) {
+            let may_stand = check(&fewer).is_ok();
+            match may_stand.then(|| differs(&fewer)).flatten() {
                 Some(difference) => {
                     fewer.calls.truncate(difference.number - 1);
                     script = fewer;

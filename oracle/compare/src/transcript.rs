@@ -3,21 +3,59 @@
 //! 0 or 1, and `-` stands for none.
 use crate::script::{Call, Question};
 use std::fmt::{self, Display};
+use vana::state::RebuildState;
 
 /// What a call answers.
-#[derive(Clone, Copy, Debug, PartialEq)]
+#[derive(Clone, Debug, PartialEq)]
 pub enum Answer {
     Nothing,
     /// A number below `EVENTS`' length.
     Event(usize),
     Flag(bool),
+    Thinned(Thinned),
     /// The number of the question that refused the call.
     Refused(u8),
+}
+
+/// What `thin` alone leaves.
+#[derive(Clone, Debug, PartialEq)]
+pub struct Thinned {
+    pub left: Vec<Patterns<3>>,
+    /// The tolerance's pattern.
+    pub tolerance: u32,
+    pub passes: usize,
+}
+
+impl Thinned {
+    pub fn of(left: &[f32], tolerance: f32, passes: usize) -> Self {
+        Self { left: patterns(left), tolerance: tolerance.to_bits(), passes }
+    }
+}
+
+/// The crumbs of a buffer.
+pub fn patterns(numbers: &[f32]) -> Vec<Patterns<3>> {
+    let (crumbs, _) = numbers.as_chunks();
+    crumbs.iter().map(|crumb| Patterns(crumb.map(f32::to_bits))).collect()
+}
+
+/// A buffer of so many numbers: those of the crumbs as far as they go, zeros behind.
+pub fn buffer(crumbs: &[Patterns<3>], size: usize) -> Vec<f32> {
+    let mut numbers: Vec<f32> =
+        crumbs.iter().flat_map(|crumb| crumb.0.map(f32::from_bits)).collect();
+    numbers.resize(size, 0.0);
+    numbers
 }
 
 pub const EVENTS: [&str; 7] =
     ["-", "following", "off_track", "on_track", "dropped", "arrived", "course_end"];
 pub const MODES: [&str; 4] = ["direct", "track", "off_track", "arrived"];
+
+/// What is told behind a call.
+#[derive(PartialEq)]
+pub struct Told {
+    pub answers: Answers,
+    pub rebuild: RebuildState,
+}
 
 /// What a guide answers to the questions.
 #[derive(PartialEq)]
@@ -58,7 +96,7 @@ pub struct Guide {
 }
 
 /// The patterns of a place, or of a crumb: east, north, along.
-#[derive(Clone, Copy, PartialEq)]
+#[derive(Clone, Copy, Debug, PartialEq)]
 pub struct Patterns<const N: usize>(pub [u32; N]);
 
 struct OrNone<T>(Option<T>);
@@ -101,6 +139,9 @@ impl Display for Answer {
             Self::Nothing => Ok(()),
             Self::Event(event) => write!(f, " {}", EVENTS[*event]),
             Self::Flag(flag) => write!(f, " {}", u8::from(*flag)),
+            Self::Thinned(Thinned { left, tolerance, passes }) => {
+                write!(f, " {} {tolerance:08X} {passes}{}", left.len(), each(left))
+            }
             Self::Refused(question) => write!(f, " refused {question}"),
         }
     }
@@ -134,8 +175,11 @@ impl Answers {
 
 /// How many, and a line for each.
 fn lines(crumbs: &[Patterns<3>]) -> String {
-    let lines: String = crumbs.iter().map(|crumb| format!("\n{crumb}")).collect();
-    format!("{}{lines}", crumbs.len())
+    format!("{}{}", crumbs.len(), each(crumbs))
+}
+
+fn each(crumbs: &[Patterns<3>]) -> String {
+    crumbs.iter().map(|crumb| format!("\n{crumb}")).collect()
 }
 
 /// What stands in one line behind each call that may change something.
@@ -149,27 +193,51 @@ const STATE: [Question; 7] = [
     Question::Len,
 ];
 
-/// The lines behind call `number`; what the guide answers after it comes last.
-pub fn after(number: usize, call: &Call, answer: Answer, answers: &Answers) -> String {
+/// The lines behind call `number`; what is told after it comes last.
+pub fn after(number: usize, call: &Call, answer: &Answer, told: &Told) -> String {
     match call {
-        Call::Ask(question) => format!("{number} {}\n", answers.tell(*question)),
-        Call::Dump => format!("{number} dump\n{}\n", answers.dump()),
-        _ => changed(number, call.word(), answer, answers),
+        Call::Ask(question) if !matches!(answer, Answer::Refused(_)) => {
+            format!("{number} {}\n", told.answers.tell(*question))
+        }
+        Call::Dump => format!("{number} dump\n{}\n", told.answers.dump()),
+        Call::Ask(_) | Call::Thin(_) | Call::CaughtUp(_) => alone(number, call, answer),
+        Call::Spoil(_) | Call::Record(_) | Call::Bytes(_) => alone(number, call, answer),
+        Call::Rebuild(..) | Call::Step(..) | Call::Settle(..) => {
+            changed(number, call.word(), answer, &told.answers) + &rebuild(&told.rebuild)
+        }
+        _ => changed(number, call.word(), answer, &told.answers),
     }
 }
 
-/// The lines behind `new`, a script's call 1.
-pub fn begin(answers: &Answers) -> String {
-    changed(1, "new", Answer::Nothing, answers)
+fn alone(number: usize, call: &Call, answer: &Answer) -> String {
+    format!("{number} {}{answer}\n", call.word())
 }
 
-pub fn changed(number: usize, word: &str, answer: Answer, answers: &Answers) -> String {
+/// The lines behind `new`, a script's call 1.
+pub fn begin(told: &Told) -> String {
+    changed(1, "new", &Answer::Nothing, &told.answers)
+}
+
+fn changed(number: usize, word: &str, answer: &Answer, answers: &Answers) -> String {
     let guide = answers.tell(Question::Guide);
     let state = STATE.map(|question| answers.tell(question)).join(" ");
     format!("{number} {word}{answer}\n{guide}\n{state}\n")
 }
 
+fn rebuild(state: &RebuildState) -> String {
+    let RebuildState { slot, clock_ms, decided, last_utc } = *state;
+    let stage =
+        if decided { "decided".to_owned() } else { format!("pending {}", OrNone(last_utc)) };
+    format!("rebuild slot {slot} clock {clock_ms} {stage}\n")
+}
+
+/// All that is compared behind a call.
+pub fn whole(number: usize, word: &str, answer: &Answer, told: &Told) -> String {
+    let Told { answers, rebuild: state } = told;
+    changed(number, word, answer, answers) + &rebuild(state) + &answers.dump()
+}
+
 /// The lines behind a script.
-pub fn end(answers: &Answers) -> String {
-    format!("end\n{}\n", answers.dump())
+pub fn end(told: &Told) -> String {
+    format!("end\n{}\n", told.answers.dump())
 }

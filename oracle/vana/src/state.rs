@@ -1,4 +1,4 @@
-//! Of a guide's private state what the coverage of a script reads.
+//! Of a guide's private state what the coverage of a script reads, and a rebuild's.
 #[derive(Clone, Copy)]
 pub struct State {
     pub capacity: usize,
@@ -21,4 +21,14 @@ pub struct State {
     pub off: bool,
     pub arrived: bool,
     pub updated_ms: u64,
+}
+
+#[derive(Clone, Copy, Debug, PartialEq)]
+pub struct RebuildState {
+    /// The next slot to look at.
+    pub slot: usize,
+    pub clock_ms: u64,
+    pub decided: bool,
+    /// When the recovered ride's latest fix was, if known; none once decided.
+    pub last_utc: Option<u64>,
 }

@@ -1,7 +1,7 @@
 //! Reads scripts and prints the transcript by the proved code: `drive-rattle < scripts`.
-use compare::door::Lent;
 use compare::driver::drive_by;
 use compare::script;
+use compare::stored::Stored;
 use std::io::{self, Read, Write};
 use std::process::ExitCode;
 
@@ -17,7 +17,7 @@ fn main() -> ExitCode {
     };
     let mut out = String::new();
     for script in scripts {
-        drive_by(&mut Lent::to(&script).guide(), &script, &mut out);
+        drive_by(&mut Stored::new(&script), &script, &mut out);
     }
     io::stdout().write_all(out.as_bytes()).expect("standard output");
     ExitCode::SUCCESS

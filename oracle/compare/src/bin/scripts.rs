@@ -3,10 +3,11 @@
 //! code behind the door. A class that no call meets is a failure. With `--self-test` mistakes stand in the place of the Rust, and each has to be found.
 use compare::compared::{self, Difference};
 use compare::coverage::Coverage;
-use compare::homing::Lent;
+use compare::homing::{Lent, Rebuilt};
 use compare::questions::Asked;
 use compare::script::Script;
 use compare::shorten::shortened;
+use compare::stored::Stored;
 use compare::{by_program, riders};
 use std::ops::Range;
 use std::path::PathBuf;
@@ -14,6 +15,7 @@ use std::process::ExitCode;
 use std::sync::atomic::{AtomicBool, Ordering::Relaxed};
 use std::{env, fs, thread};
 use vana::mistaken::homing::Homing;
+use vana::mistaken::homing::rebuild::Rebuild;
 use vana::{copies, mistakes};
 
 struct Options {
@@ -80,16 +82,14 @@ fn print(options: &Options) -> bool {
 
 /// The proved guide, through the door.
 fn proved(script: &Script, coverage: &mut Coverage) -> Option<Difference> {
-    let mut lent = compare::door::Lent::to(script);
-    compared::difference(script, &mut lent.guide(), coverage)
+    compared::difference(script, &mut Stored::new(script), coverage)
 }
 
 /// The copy that makes the chosen mistake.
 fn mistaken(script: &Script, coverage: &mut Coverage) -> Option<Difference> {
     let mut lent = Lent::to(script);
-    let guide = Homing::new(&mut lent.crumbs).with_line(&mut lent.line);
-    let mut guide = Asked { guide, room: script.room };
-    compared::difference(script, &mut guide, coverage)
+    let guide = Rebuilt::<Homing, Rebuild>::new(&mut lent);
+    compared::difference(script, &mut Asked::new(script, guide), coverage)
 }
 
 /// The first script of each half on which the two differ; what the scripts met.

@@ -1,7 +1,8 @@
 //! The chain files on which `retell` is compared: good ones of many shapes, damaged ones, files of
 //! the wrong size, and noise.
+use crate::Place;
 use crate::chain::{HALF_TURN, HEAD, LOCATED, MOST, POLE, RECORD, Record, SAMPLE, SAMPLES, TIMED};
-use crate::chains::rider::entries;
+use crate::chains::rider::{entries, entries_from};
 use crate::random::Random;
 
 /// The `k`-th file.
@@ -10,9 +11,17 @@ pub fn file(seed: u64, k: u64) -> Vec<u8> {
     match random.below(16) {
         0 => noise(random),
         1 => sized(random),
-        2..7 => damaged(random),
+        2..7 => damaged(good(random), random),
         _ => good(random).bytes,
     }
+}
+
+/// A file of so many entries that begins at a place; some are damaged.
+pub fn near(place: Place, count: usize, random: &mut Random) -> Vec<u8> {
+    let recovered = recovered(random);
+    let entries = entries_from(place, recovered, count, random);
+    let laid = laid(recovered, &entries, random);
+    if random.once_in(4) { damaged(laid, random) } else { laid.bytes }
 }
 
 /// A file, and where its records along the chain stand, record 0 first.
@@ -32,24 +41,33 @@ impl Laid {
 }
 
 fn good(random: &mut Random) -> Laid {
-    let recovered = match random.below(12) {
+    let recovered = recovered(random);
+    let entries = entries(recovered, random);
+    laid(recovered, &entries, random)
+}
+
+fn recovered(random: &mut Random) -> u32 {
+    match random.below(12) {
         0 => 0,
         1 => u32::MAX,
         2 => random.word(),
         _ => 1 + random.below(1_000) as u32,
-    };
-    let entries = entries(recovered, random);
+    }
+}
+
+// ---- where the records stand
+
+/// Some records off the chain, any order, and noise where nobody reads, or none of these.
+fn laid(recovered: u32, entries: &[Record], random: &mut Random) -> Laid {
     let room = (MOST - entries.len()).min(9);
     let spare = if random.below(3) == 0 { random.below(room) } else { 0 };
     let shuffled = random.below(2) == 0;
-    let mut laid = lay(recovered, &entries, spare, shuffled, random);
+    let mut laid = lay(recovered, entries, spare, shuffled, random);
     if random.below(2) == 0 {
         litter(&mut laid, random);
     }
     laid
 }
-
-// ---- where the records stand
 
 /// The entries in any order, with noise in some records off the chain and wherever nobody reads.
 pub fn scattered(recovered: u32, entries: &[Record], random: &mut Random) -> Vec<u8> {
@@ -126,8 +144,7 @@ fn fill(bytes: &mut [u8], random: &mut Random) {
 // ---- what is wrong
 
 /// Up to three things wrong, in one record or in several.
-fn damaged(random: &mut Random) -> Vec<u8> {
-    let mut laid = good(random);
+fn damaged(mut laid: Laid, random: &mut Random) -> Vec<u8> {
     let mut at = random.below(laid.along.len());
     for _ in 0..1 + random.below(3) {
         damage(&mut laid, at, random);

@@ -3,8 +3,7 @@ use crate::Place;
 use crate::chain::{HALF_TURN, MOST, POLE, Record, SAMPLES, Sample};
 use crate::random::Random;
 
-/// Some of older rides, then the recovered ride, then often a later one; in some logs here and there
-/// an entry of any of them.
+/// The entries of a log, from anywhere on.
 pub fn entries(recovered: u32, random: &mut Random) -> Vec<Record> {
     let mut rider = Rider::new(recovered, random);
     let count = match random.below(32) {
@@ -16,22 +15,19 @@ pub fn entries(recovered: u32, random: &mut Random) -> Vec<Record> {
         8..12 => random.below(120),
         _ => random.below(12),
     };
-    let older = if random.below(2) == 0 { random.below(4) } else { 0 };
-    let later = if random.below(4) == 0 { count } else { random.below(count + 1) };
-    let strays = !rider.plain && random.below(2) == 0;
-    let mut entry = |k| {
-        let ride = match random.below(24) {
-            0 if strays => recovered.saturating_sub(1 + random.below(3) as u32),
-            1 if strays => recovered,
-            2 if strays => recovered.saturating_add(1 + random.below(2) as u32),
-            3 if strays => random.pick(&[0, u32::MAX]),
-            _ if k < older && !rider.plain => recovered.saturating_sub(1),
-            _ if k < later => recovered,
-            _ => recovered.saturating_add(1),
-        };
-        rider.entry(ride, random)
-    };
-    (0..count).map(&mut entry).collect()
+    rider.log(count, random)
+}
+
+/// The same from a place on, and so many.
+pub fn entries_from(
+    (lat, lon): Place,
+    recovered: u32,
+    count: usize,
+    random: &mut Random,
+) -> Vec<Record> {
+    let (lat, lon) = (lat.into(), lon.into());
+    let mut rider = Rider { lat, lon, middle: lat, ..Rider::new(recovered, random) };
+    rider.log(count, random)
 }
 
 /// Whoever rode the log: where the next sample is, and when.
@@ -90,6 +86,28 @@ impl Rider {
             untimed: random.pick(&[1, 2, 16, 1_000, 1_000]),
             plain: random.below(4) == 0,
         }
+    }
+
+    /// Some entries of older rides, then the recovered ride, then often a later one; in some logs here and
+    /// there an entry of any of them.
+    fn log(&mut self, count: usize, random: &mut Random) -> Vec<Record> {
+        let recovered = self.recovered;
+        let older = if random.below(2) == 0 { random.below(4) } else { 0 };
+        let later = if random.below(4) == 0 { count } else { random.below(count + 1) };
+        let strays = !self.plain && random.below(2) == 0;
+        let mut entry = |k| {
+            let ride = match random.below(24) {
+                0 if strays => recovered.saturating_sub(1 + random.below(3) as u32),
+                1 if strays => recovered,
+                2 if strays => recovered.saturating_add(1 + random.below(2) as u32),
+                3 if strays => random.pick(&[0, u32::MAX]),
+                _ if k < older && !self.plain => recovered.saturating_sub(1),
+                _ if k < later => recovered,
+                _ => recovered.saturating_add(1),
+            };
+            self.entry(ride, random)
+        };
+        (0..count).map(&mut entry).collect()
     }
 
     /// A zigzag of about as many places as the guide has room for.

@@ -3,7 +3,7 @@ use crate::chain::{self, Chain, RECORD, Record, Sample};
 use crate::retelling::{CRUMBS, entry, refused, tell};
 use vana::ride::homing::rebuild::Rebuild;
 use vana::ride::homing::{Crumb, Homing, probe, rebuild};
-use vana::state::State;
+use vana::state::{RebuildState, State};
 
 /// A file, what the questions say to it, and its slots as far as it was retold.
 pub struct Seen<'a> {
@@ -21,7 +21,7 @@ pub struct Seen<'a> {
 pub struct Slot {
     pub entry: Record,
     pub guide: [State; 2],
-    pub rebuild: [rebuild::probe::State; 2],
+    pub rebuild: [RebuildState; 2],
 }
 
 impl<'a> Seen<'a> {

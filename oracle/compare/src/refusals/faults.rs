@@ -1,6 +1,10 @@
 //! What the questions refuse, and what is just allowed.
 use super::calls::Part;
 use super::given::Given;
+use crate::words::{
+    COURSE_ALONG, COURSE_REACHED, EAST_PER_E7, HEADING, HEADING_KNOWN, LEN, LINE, LINE_LEN,
+    RETRACE, SEGMENT, TOLERANCE, WINDOW, WINDOW_LEN,
+};
 use cittumay::{NUMBERS, REBUILD_WORDS, STRIDE, WORDS};
 
 pub struct Fault {
@@ -21,15 +25,6 @@ fn fault(
     Fault { name: name.into(), question, part, spoil: Box::new(spoil) }
 }
 
-/// Words and numbers of the state, by the table in crates/stored/specs/Stored.antt.
-const LEN: usize = 1;
-const WINDOW_LEN: usize = 2;
-const RETRACE: usize = 3;
-const LINE: usize = 17;
-const LINE_LEN: usize = 22;
-const SEGMENT: usize = 18;
-const WINDOW: usize = 14;
-
 /// A place in the state: its name, its flag among the words, its east among the numbers.
 const SPOTS: [(&str, usize, usize); 5] = [
     ("here", 11, 2),
@@ -40,8 +35,11 @@ const SPOTS: [(&str, usize, usize); 5] = [
 ];
 
 /// An angle in the state: its name, the words that say it is there, and its own.
-const ANGLES: [(&str, &[usize], usize); 3] =
-    [("heading", &[14], 15), ("guide's bearing", &[34], 42), ("guide's heading", &[34, 43], 44)];
+const ANGLES: [(&str, &[usize], usize); 3] = [
+    ("heading", &[HEADING_KNOWN], HEADING),
+    ("guide's bearing", &[34], 42),
+    ("guide's heading", &[34, 43], 44),
+];
 
 const FLAGS: [usize; 19] =
     [5, 8, 11, 13, 14, 19, 20, 23, 24, 27, 28, 29, 31, 32, 34, 36, 37, 38, 43];
@@ -183,14 +181,14 @@ fn numbers() -> Vec<Fault> {
         }
     }
     for along in [-1e-45, LONG, f32::INFINITY, f32::NAN] {
-        all.push(number("course along".to_owned(), 8, along, &[]));
-        all.push(number("course reached".to_owned(), 9, along, &[]));
+        all.push(number("course along".to_owned(), COURSE_ALONG, along, &[]));
+        all.push(number("course reached".to_owned(), COURSE_REACHED, along, &[]));
     }
     for factor in [0.02_f32.next_up(), -0.02_f32.next_up(), f32::NAN] {
-        all.push(number("east factor".to_owned(), 1, factor, &[]));
+        all.push(number("east factor".to_owned(), EAST_PER_E7, factor, &[]));
     }
     for tolerance in [-1e-45, f32::NEG_INFINITY, f32::NAN] {
-        all.push(number("tolerance".to_owned(), 0, tolerance, &[]));
+        all.push(number("tolerance".to_owned(), TOLERANCE, tolerance, &[]));
     }
     for (name, flags, at) in ANGLES {
         for angle in [4_096, 65_535] {
@@ -308,10 +306,10 @@ pub fn limits() -> Vec<Fault> {
             set(g, 27, 0);
             g.numbers[10] = f32::NAN;
         }),
-        state("course along below 10^16", |g| g.numbers[8] = LONG.next_down()),
-        state("east factor 0.02", |g| g.numbers[1] = 0.02),
-        state("tolerance -0", |g| g.numbers[0] = -0.0),
-        state("tolerance infinity", |g| g.numbers[0] = f32::INFINITY),
+        state("course along below 10^16", |g| g.numbers[COURSE_ALONG] = LONG.next_down()),
+        state("east factor 0.02", |g| g.numbers[EAST_PER_E7] = 0.02),
+        state("tolerance -0", |g| g.numbers[TOLERANCE] = -0.0),
+        state("tolerance infinity", |g| g.numbers[TOLERANCE] = f32::INFINITY),
         state("retrace 7", |g| {
             set(g, RETRACE, 7);
             set(g, RETRACE + 1, word(g, LEN));
@@ -325,8 +323,8 @@ pub fn limits() -> Vec<Fault> {
             set(g, SEGMENT, u64::MAX);
         }),
         state("heading 4,095", |g| {
-            set(g, 14, 1);
-            set(g, 15, 4_095);
+            set(g, HEADING_KNOWN, 1);
+            set(g, HEADING, 4_095);
         }),
         fault(0, Part::Crumbs, "4,096 crumbs", |g| g.crumbs.resize(3 * 4_096, -8.5)),
         fault(0, Part::Line, "a line of 2,048", |g| g.line.resize(3 * 2_048, -9.5)),

@@ -104,7 +104,7 @@ impl Rider {
 
     /// Any call, mostly near.
     pub fn anything(&mut self) {
-        match self.random.below(12) {
+        match self.random.below(18) {
             0 => self.press(),
             1 => self.clock(),
             2 => self.lose(),
@@ -116,6 +116,12 @@ impl Rider {
             8 => self.few_points(),
             9 if self.random.once_in(6) => self.restart(),
             10 => self.replays = !self.replays,
+            11 => self.spoil(),
+            12 => self.thin(),
+            13 => self.step(),
+            14 => self.settle(),
+            15 if self.random.once_in(3) => self.write_log(),
+            16 => self.rebuild(),
             _ => {
                 let (on, aside) = (self.random.real(-30.0, 90.0), self.random.real(-40.0, 40.0));
                 self.go(self.ahead(on, aside));
@@ -124,7 +130,7 @@ impl Rider {
     }
 
     /// A course of 0, 1, 2 or a few points, near or anywhere.
-    fn few_points(&mut self) {
+    pub fn few_points(&mut self) {
         let points = self.random.below(4).min(self.room);
         let far = self.random.once_in(4);
         let places = (0..points).map(|k| match far {

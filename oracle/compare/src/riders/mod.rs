@@ -1,14 +1,17 @@
 //! Random scripts that reach a guide's less common states: riders who ride out and back, stray, stand,
-//! lose the fix, load courses and press buttons. Buffers are mostly small, so that thinnings are
-//! frequent. Only +, -, *, / and roots are used on f64, so a script is the same on every machine.
+//! lose the fix, load courses, press buttons, and have their breadcrumb built again. Buffers are mostly
+//! small, so that thinnings are frequent. Only +, -, *, / and roots are used on f64, so a script is the
+//! same on every machine.
 mod buttons;
 mod courses;
 mod exact;
 mod far;
 mod full;
 mod ground;
+mod logs;
 mod rider;
 mod scenes;
+mod spoils;
 
 use crate::random::Random;
 use crate::script::Script;
@@ -25,6 +28,7 @@ pub fn script(seed: u64, k: u64) -> Script {
         1..11 => far::script(random),
         11..200 => exact::script(random),
         200..220 => noise(random),
+        220..320 => rebuilds(random),
         _ => ride(random),
     }
 }
@@ -44,6 +48,22 @@ fn ride(mut random: Random) -> Script {
     let mut rider = Rider::new(random, room);
     while rider.calls.len() < calls {
         rider.scene();
+    }
+    Script { capacity, room, calls: rider.calls }
+}
+
+/// Short rides, and the breadcrumb built again and again.
+fn rebuilds(mut random: Random) -> Script {
+    let (capacity, room) = (random.pick(&[8, 9, 10, 12, 16, 32]), random.pick(&[0, 2, 8]));
+    let calls = random.between(CALLS.0, CALLS.1);
+    let mut rider = Rider::new(random, room);
+    while rider.calls.len() < calls {
+        match rider.random.below(8) {
+            0 => rider.scene(),
+            1 => rider.straight(),
+            2 => rider.zigzag(),
+            _ => rider.rebuilt(),
+        }
     }
     Script { capacity, room, calls: rider.calls }
 }

@@ -1,5 +1,6 @@
 //! A rider whose doings are written down as calls.
 use super::ground::{Base, Spot, beyond, distance, turned, way};
+use super::logs::Log;
 use crate::random::Random;
 use crate::script::Call;
 
@@ -20,6 +21,7 @@ pub struct Rider {
     pub course: Vec<Spot>,
     /// Fixes go to `replay`.
     pub replays: bool,
+    pub log: Log,
 }
 
 impl Rider {
@@ -41,6 +43,7 @@ impl Rider {
             trail: Vec::new(),
             course: Vec::new(),
             replays: false,
+            log: Log::default(),
         }
     }
 

@@ -6,7 +6,7 @@ use crate::script::Call;
 /// How often, and what.
 type Scene = (usize, fn(&mut Rider));
 
-const SCENES: [Scene; 25] = [
+const SCENES: [Scene; 28] = [
     (14, Rider::straight),
     (14, Rider::zigzag),
     (12, Rider::back),
@@ -30,6 +30,9 @@ const SCENES: [Scene; 25] = [
     (1, Rider::restart),
     (1, Rider::barely_out),
     (1, Rider::refused),
+    (2, Rider::rebuilt),
+    (2, Rider::spoil),
+    (1, Rider::thin),
     (1, Rider::ask),
     (1, Rider::anything),
 ];

@@ -1,5 +1,8 @@
 //! Prints the stored input of the proved program `recorded`: some rides as one script. Fails where
 //! the script leaves the domain of comparison, or where a class of calls is not met.
+mod refused;
+mod restarts;
+
 use compare::Place;
 use compare::coverage::Coverage;
 use compare::driver::drive;
@@ -59,6 +62,12 @@ fn rides() -> Vec<Call> {
     rider.replays_while_following();
     rider.is_refused();
     rider.thins_by_every_count();
+    rider.builds_again();
+    rider.builds_again_while_following();
+    rider.settles();
+    rider.thins_alone();
+    rider.brings_bad_files();
+    rider.brings_bad_buffers();
     rider.calls
 }
 
