@@ -69,8 +69,9 @@ pub fn headed(h: Homing, p: Point, now_ms: u64) -> Homing
     ensures { λ r. ⌜ Changes (headed p «now_ms») h r ⌝ }
 {
     let was = h.motion;
-    let motion = motion::track_heading(was, p, now_ms);
-    Homing { motion, ..h }
+    let mut next = h;
+    next.motion = motion::track_heading(was, p, now_ms);
+    next
 }
 
 // ---- a fix from before a restart
@@ -83,9 +84,10 @@ fn pass_only(h: Homing, p: Point) -> Homing
     let heading = m.heading;
     let was = h.lap;
     let passed = was.passed;
-    let stepped = motion::step_pass(was, p, heading);
-    let lap = Lap { passed, ..stepped };
-    Homing { lap, ..h }
+    let mut next = h;
+    next.lap = motion::step_pass(was, p, heading);
+    next.lap.passed = passed;
+    next
 }
 
 pub fn replay(h: Homing, crumbs: &mut [f32], lat: i32, lon: i32, now_ms: u64) -> Homing
@@ -95,7 +97,8 @@ pub fn replay(h: Homing, crumbs: &mut [f32], lat: i32, lon: i32, now_ms: u64) ->
     let was = h.frame;
     let frame = course::located(was, lat, lon);
     let p = course::framed(frame, lat, lon);
-    let there = Homing { frame, ..h };
+    let mut there = h;
+    there.frame = frame;
     let on = headed(there, p, now_ms);
     let grown = follow::add(on, crumbs, p);
     pass_only(grown, p)
@@ -111,5 +114,7 @@ pub fn end_replay(h: Homing) -> Homing
         heading: Heading::Unknown,
         heading_ms: m.heading_ms,
     };
-    Homing { motion, ..h }
+    let mut next = h;
+    next.motion = motion;
+    next
 }

@@ -71,16 +71,13 @@ fn auto_off(h: Homing, crumbs: &mut [f32]) -> Homing
     ensures { λ r. ⌜ Follows (autoOff (h .«auto_follow»)) h (now (crumbs .entry)) r (now (crumbs .exit)) ⌝ }
 {
     if h.auto_follow {
-        let stopped = follow::stop_following(h, crumbs);
-        return Homing {
-            auto_follow: false,
-            ..stopped
-        };
+        let mut stopped = follow::stop_following(h, crumbs);
+        stopped.auto_follow = false;
+        return stopped;
     }
-    Homing {
-        auto_follow: false,
-        ..h
-    }
+    let mut next = h;
+    next.auto_follow = false;
+    next
 }
 
 // Whether riding back over the breadcrumb, or along the course, starts following it.
@@ -89,10 +86,9 @@ pub fn set_auto_follow(h: Homing, crumbs: &mut [f32], on: bool) -> Homing
     ensures { λ r. ⌜ Follows (setAutoFollow on) h (now (crumbs .entry)) r (now (crumbs .exit)) ⌝ }
 {
     if on {
-        return Homing {
-            auto_follow: true,
-            ..h
-        };
+        let mut next = h;
+        next.auto_follow = true;
+        return next;
     }
     auto_off(h, crumbs)
 }

@@ -37,10 +37,8 @@ fn left_start(h: Homing, direct: f32, e: Event) -> Told
     ensures { λ r. ⌜ ((b : List Float) (long : Bool) → Tells (arrivalFrom true long direct e) h b r) ⌝ }
 {
     if direct > LEAVE_M {
-        let homing = Homing {
-            arrived: false,
-            ..h
-        };
+        let mut homing = h;
+        homing.arrived = false;
         return Told { homing, event: e };
     }
     Told {
@@ -68,11 +66,9 @@ fn arrival(h: Homing, long: bool, direct: f32, e: Event) -> Told
                 off: false,
                 reminded_ms: f.reminded_ms,
             };
-            let homing = Homing {
-                arrived: true,
-                follow,
-                ..h
-            };
+            let mut homing = h;
+            homing.arrived = true;
+            homing.follow = follow;
             return Told {
                 homing,
                 event: Event::Arrived,

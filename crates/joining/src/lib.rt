@@ -37,20 +37,17 @@ fn join_on(h: Homing, join: Join) -> Answered
     match join {
         Join::Segment(end) => {
             let fixes = one_more(c.join_fixes);
-            let course = Course {
-                join_fixes: fixes,
-                join_end: end,
-                ..c
-            };
-            let homing = Homing { course, ..h };
+            let mut homing = h;
+            homing.course.join_fixes = fixes;
+            homing.course.join_end = end;
             Answered {
                 homing,
                 yes: JOIN_FIXES <= fixes,
             }
         }
         Join::NoSegment => {
-            let course = Course { join_fixes: 0, ..c };
-            let homing = Homing { course, ..h };
+            let mut homing = h;
+            homing.course.join_fixes = 0;
             Answered { homing, yes: false }
         }
     }
@@ -108,18 +105,15 @@ pub fn retracing(h: Homing, crumbs: &[f32], p: Point) -> Answered
     if retrace::rides_back(crumbs, t.len, p, heading) {
         let fixes = t.retrace + 1;
         let retrace_len = retrace::len_before(t);
-        let trail = Trail {
-            retrace: fixes,
-            retrace_len,
-            ..t
-        };
-        let homing = Homing { trail, ..h };
+        let mut homing = h;
+        homing.trail.retrace = fixes;
+        homing.trail.retrace_len = retrace_len;
         return Answered {
             homing,
             yes: RETRACE_FIXES <= fixes,
         };
     }
-    let trail = Trail { retrace: 0, ..t };
-    let homing = Homing { trail, ..h };
+    let mut homing = h;
+    homing.trail.retrace = 0;
     Answered { homing, yes: false }
 }

@@ -82,10 +82,8 @@ pub fn seen(h: Homing, crumbs: &mut [f32], line: &[f32], lat: i32, lon: i32, now
     requires { ⌜ Ready h (length (now crumbs)) (length (now line)) ⌝ }
     ensures { λ r. ⌜ Updates (λ C. seen C (courseOf h (now (line .entry))) (record { lat = lat; lon = lon }) «now_ms») h (now (crumbs .entry)) r (now (crumbs .exit)) ⌝ }
 {
-    let on = Homing {
-        here_ms: now_ms,
-        ..h
-    };
+    let mut on = h;
+    on.here_ms = now_ms;
     let fed = h.fed;
     if same_fix(fed, lat, lon) {
         let here = h.here;

@@ -46,14 +46,11 @@ fn turned_back(h: Homing) -> Homing
     requires { ⌜ h .trail .«retrace_len» ≤ h .trail .len ⌝ }
     ensures { λ r. ⌜ TurnsBack h r ⌝ }
 {
-    let t = h.trail;
-    let trail = Trail {
-        len: t.retrace_len,
-        window_len: 0,
-        retrace: 0,
-        ..t
-    };
-    Homing { trail, ..h }
+    let mut next = h;
+    next.trail.len = h.trail.retrace_len;
+    next.trail.window_len = 0;
+    next.trail.retrace = 0;
+    next
 }
 
 // Long enough back along the breadcrumb: it is followed, if what is left leads anywhere.

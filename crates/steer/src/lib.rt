@@ -168,13 +168,10 @@ fn off_course(h: Homing) -> Homing
                 off: false,
                 ..f
             };
-            let c = h.course;
-            let course = Course { held: true, ..c };
-            Homing {
-                follow,
-                course,
-                ..h
-            }
+            let mut off = h;
+            off.follow = follow;
+            off.course.held = true;
+            off
         }
         Line::Nothing => h,
         Line::Breadcrumb => h,
@@ -192,6 +189,7 @@ pub fn set_course(h: Homing, line: &mut [f32], lats: &[i32], lons: &[i32]) -> Ho
     let unplaced = course::waits(f, lats, lons);
     let off = off_course(h);
     let was = off.course;
-    let course = lined(was, line_len, unplaced, was.held);
-    Homing { course, ..off }
+    let mut next = off;
+    next.course = lined(was, line_len, unplaced, was.held);
+    next
 }

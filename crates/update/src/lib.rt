@@ -30,12 +30,10 @@ fn begun(h: Homing, p: Point, now_ms: u64) -> Homing
     let m = h.motion;
     let heading = m.heading;
     let was = h.lap;
-    let lap = motion::step_pass(was, p, heading);
-    Homing {
-        lap,
-        updated_ms: now_ms,
-        ..h
-    }
+    let mut next = h;
+    next.lap = motion::step_pass(was, p, heading);
+    next.updated_ms = now_ms;
+    next
 }
 
 // Matched: the guide along the line.
@@ -48,14 +46,10 @@ fn matched_at(h: Homing, crumbs: &[f32], line: &[f32], p: Point, now_ms: u64, ne
     let off = matching::off_now(f.off, near.off);
     let e = matching::off_event(f.off, off, matching::due(f, now_ms));
     let w = followed::way_on(h, crumbs, line, off, near);
-    let follow = matching::follow_matched(near, off, e, now_ms, f);
     let c = h.course;
-    let course = matching::course_matched(near, p, c);
-    let matched = Homing {
-        follow,
-        course,
-        ..h
-    };
+    let mut matched = h;
+    matched.follow = matching::follow_matched(near, off, e, now_ms, f);
+    matched.course = matching::course_matched(near, p, c);
     guide::finished(matched, crumbs, line, p, w, e)
 }
 

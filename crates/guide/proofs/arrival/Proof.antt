@@ -24,9 +24,9 @@ returns c = λ b.
 returns-2 : tie.Need-returns-2
 unfolding arriveM constant ofBits offCleared
 returns-2 c = λ b.
-    let g = c .before .before .before .before .before .before .before .before .before .args in
+    let g = c .before .before .before .before .args in
     tells (arrivalFrom (g .h .arrived) (g .long) (g .direct) (g .e)) (g .h) b _ (done event.Arrived (withArrived true (withFollow (offCleared (g .h .follow)) (stateOf (g .h) b))))
-    (ap (λ (x : Bool). arrivalFrom x (g .long) (g .direct) (g .e) (stateOf (g .h) b)) (c .before .before .before .before .before .before .before .before .if1 .left) ∙ arrived-now (g .long) (g .direct) (g .e) (stateOf (g .h) b) (c .before .before .before .before .before .before .before .if2 .taken) (c .before .before .before .before .before .before .if3 .taken))
+    (ap (λ (x : Bool). arrivalFrom x (g .long) (g .direct) (g .e) (stateOf (g .h) b)) (c .before .before .before .if1 .left) ∙ arrived-now (g .long) (g .direct) (g .e) (stateOf (g .h) b) (c .before .before .if2 .taken) (c .before .if3 .taken))
     refl refl refl
 
 returns-3 : tie.Need-returns-3

@@ -13,8 +13,8 @@ use Rattle.guide.proofs.left_start.Tie as tie
 returns : tie.Need-returns
 unfolding leaveM constant ofBits
 returns c = λ b long.
-    let g = c .before .before .before .before .before .before .before .args in
-    tells (arrivalFrom true long (g .direct) (g .e)) (g .h) b _ (done (g .e) (withArrived false (stateOf (g .h) b))) (left-far long (g .direct) (g .e) (stateOf (g .h) b) (c .before .before .before .before .before .before .if1 .taken)) refl refl refl
+    let g = c .before .args in
+    tells (arrivalFrom true long (g .direct) (g .e)) (g .h) b _ (done (g .e) (withArrived false (stateOf (g .h) b))) (left-far long (g .direct) (g .e) (stateOf (g .h) b) (c .if1 .taken)) refl refl refl
 
 returns-2 : tie.Need-returns-2
 unfolding leaveM constant ofBits

@@ -23,21 +23,21 @@ len-before-requires c κs = search needs
 returns : tie.Need-returns
 unfolding track withRetrace
 returns c =
-    let g = c .before .before .before .before .before .before .before .before .before .before .before .before .before .args in
+    let g = c .before .before .before .before .before .before .before .before .before .args in
     let b = now (g .crumbs) in
-    let is = rode-back (g .p) (stateOf (g .h) b) (sym (c .before .before .before .before .before .before .before .before .before .rides-back .ensures) ∙ c .before .before .before .before .before .before .before .before .if1 .taken) in
+    let is = rode-back (g .p) (stateOf (g .h) b) (sym (c .before .before .before .before .before .rides-back .ensures) ∙ c .before .before .before .before .if1 .taken) in
     record {
       answered = sym (ap (λ (d : Done Bool). d .answer) is);
-      same = simp (c .before .before .before .before .before .before .len-before .ensures b) (sym (ap (λ (d : Done Bool). d .state) is));
+      same = simp (c .before .before .len-before .ensures b) (sym (ap (λ (d : Done Bool). d .state) is));
       held = record { len = refl; tolerance = refl; window = refl; waiting = refl };
     }
 
 returns-2 : tie.Need-returns-2
 unfolding track withRetrace
 returns-2 c =
-    let g = c .before .before .before .before .before .before .before .before .before .before .before .args in
+    let g = c .before .before .before .before .before .before .args in
     let b = now (g .crumbs) in
-    let is = rode-on (g .p) (stateOf (g .h) b) (sym (c .before .before .before .before .before .before .before .rides-back .ensures) ∙ c .before .before .before .before .before .before .if1 .left) in
+    let is = rode-on (g .p) (stateOf (g .h) b) (sym (c .before .before .rides-back .ensures) ∙ c .before .if1 .left) in
     record {
       answered = sym (ap (λ (d : Done Bool). d .answer) is);
       same = sym (ap (λ (d : Done Bool). d .state) is);

@@ -13,8 +13,8 @@ step-pass-requires c κs = search needs
 returns : tie.Need-returns
 unfolding begun
 returns c =
-    let g = c .before .before .before .before .before .before .before .before .args in
-    record { same = λ b. ap (λ (l : Lap). withUpdatedMs (g .now-ms) (withLap l (stateOf (g .h) b))) (c .before .before .before .before .before .step-pass .ensures); trail = refl }
+    let g = c .before .before .before .args in
+    record { same = λ b. ap (λ (l : Lap). withUpdatedMs (g .now-ms) (withLap l (stateOf (g .h) b))) (c .step-pass .ensures); trail = refl }
 
 pub begun-spec : {M : Type 1} → statement M
 begun-spec = tie.close (tie.spec step-pass-requires returns)

@@ -33,22 +33,22 @@ course-matched-requires c κs = search needs
 finished-requires : tie.Need-finished-requires
 unfolding courseMatched
 finished-requires c κs =
-    let s = c .before .before .before .before .before .before .before .before .before .before .before .before .before .before in
+    let s = c .before .before .before .before .before .before .before .before .before .before in
     record {
       held = s .pre .0 .held;
-      placed = subst (λ (x : Course). x .«line_len» ≤ capacity (length (now (s .args .line)))) (sym (c .before .before .before .before .course-matched .ensures)) (s .pre .0 .placed);
+      placed = subst (λ (x : Course). x .«line_len» ≤ capacity (length (now (s .args .line)))) (sym (c .course-matched .ensures)) (s .pre .0 .placed);
     }
 
 returns : tie.Need-returns
 returns c =
-    let g = c .before .before .before .before .before .before .before .before .before .before .before .before .before .before .before .args in
+    let g = c .before .before .before .before .before .before .before .before .before .before .before .args in
     matches (g .h) (now (g .crumbs)) (now (g .line)) (g .p) (g .now-ms) (g .near)
-    (c .before .before .before .before .before .before .before .before .before .before .before .off-now .result) (c .before .before .before .before .before .before .before .before .before .off-event .result) (c .before .before .before .before .before .before .before .before .way-on .result) (c .before .before .before .before .before .before .before .follow-matched .result) (c .before .before .before .before .before .course-matched .result)
-    (c .before .before .before .before .before .before .before .before .before .before .before .off-now .ensures)
-    (c .before .before .before .before .before .before .before .before .before .off-event .ensures ∙ ap (λ (x : Bool). offEvent (g .h .follow .off) (c .before .before .before .before .before .before .before .before .before .before .before .off-now .result) x) (c .before .before .before .before .before .before .before .before .before .before .due .ensures))
-    (c .before .before .before .before .before .before .before .before .way-on .ensures)
-    (c .before .before .before .before .before .before .before .follow-matched .ensures)
-    (c .before .before .before .before .before .course-matched .ensures)
+    (c .before .before .before .before .before .before .before .off-now .result) (c .before .before .before .before .before .off-event .result) (c .before .before .before .before .way-on .result) (c .before .before .follow-matched .result) (c .before .course-matched .result)
+    (c .before .before .before .before .before .before .before .off-now .ensures)
+    (c .before .before .before .before .before .off-event .ensures ∙ ap (λ (x : Bool). offEvent (g .h .follow .off) (c .before .before .before .before .before .before .before .off-now .result) x) (c .before .before .before .before .before .before .due .ensures))
+    (c .before .before .before .before .way-on .ensures)
+    (c .before .before .follow-matched .ensures)
+    (c .before .course-matched .ensures)
     _ refl refl (c .finished .result) (c .finished .ensures)
 
 pub matched-at-spec : {M : Type 1} → statement M
