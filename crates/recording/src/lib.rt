@@ -5,7 +5,6 @@ use plane::Point;
 use state::Event;
 use state::Homing;
 use state::Line;
-use trail::Trail;
 ghost use mathlib.Core.Path.{_≡_};
 ghost use mathlib.Core.Bool.{true};
 ghost use Prim.Native.Nat.{_≤_, _<_};

@@ -12,7 +12,7 @@ track-heading-requires c κs = search needs
 
 returns : tie.Need-returns
 unfolding headed
-returns c = record { same = λ b. ap (λ (m : Motion). withMotion m (stateOf (c .before .before .before .before .before .before .before .args .h) b)) (c .before .before .before .before .before .track-heading .ensures); trail = refl }
+returns c = record { same = λ b. ap (λ (m : Motion). withMotion m (stateOf (c .before .before .args .h) b)) (c .track-heading .ensures); trail = refl }
 
 pub headed-spec : {M : Type 1} → statement M
 headed-spec = tie.close (tie.spec track-heading-requires returns)

@@ -13,9 +13,9 @@ step-pass-requires c κs = search needs
 returns : tie.Need-returns
 unfolding passOnly
 returns c =
-    let g = c .before .before .before .before .before .before .before .before .before .args in
+    let g = c .before .before .before .before .args in
     record {
-      same = λ b. ap (λ (l : Lap). withLap (record { pass = l .pass; start = l .start; passed = g .h .lap .passed }) (stateOf (g .h) b)) (c .before .before .before .before .before .before .step-pass .ensures);
+      same = λ b. ap (λ (l : Lap). withLap (record { pass = l .pass; start = l .start; passed = g .h .lap .passed }) (stateOf (g .h) b)) (c .before .step-pass .ensures);
       trail = refl;
     }
 

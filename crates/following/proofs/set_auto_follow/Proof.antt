@@ -15,10 +15,10 @@ use Rattle.following.proofs.set_auto_follow.Tie as tie
 returns : tie.Need-returns
 unfolding setAutoFollow
 returns c =
-    let s = c .before .before .before .before .before .before .before .before in
+    let s = c .before .before in
     let g = s .args in
     follows-as (setAutoFollow (g .on)) (λ C t. done (tt {0}) (withAutoFollow true t)) (g .h) (now (g .crumbs)) _ (now (g .crumbs))
-    (ap (λ (b : Bool). setAutoFollow b (capacity (length (now (g .crumbs)))) (stateOf (g .h) (now (g .crumbs))) .state) (c .before .before .before .before .before .before .if1 .taken))
+    (ap (λ (b : Bool). setAutoFollow b (capacity (length (now (g .crumbs)))) (stateOf (g .h) (now (g .crumbs))) .state) (c .if1 .taken))
     (record { same = refl; fit = s .pre .0; size = refl; beyond = refl })
 
 auto-off-requires : tie.Need-auto-off-requires

@@ -19,14 +19,14 @@ same-fix-requires : tie.Need-same-fix-requires
 same-fix-requires c κs = search needs
 
 still-at-requires : tie.Need-still-at-requires
-still-at-requires c κs = let s = c .before .before .before .before .before .before .before .before .before .before .before in ready-same (s .args .h) _ _ _ (s .pre) refl refl refl .fit
+still-at-requires c κs = let s = c .before .before .before .before .before in ready-same (s .args .h) _ _ _ (s .pre) refl refl refl .fit
 
 same-length : tie.Need-same-length
 same-length c = search needs
 
 returns : tie.Need-returns
 returns c =
-    let s = c .before .before .before .before .before .before .before .before .before .before .before .before .before .before in
+    let s = c .before .before .before .before .before .before .before .before in
     let g = s .args in
     let x : Fix = record { lat = g .lat; lon = g .lon } in
     let same = handed-fix (g .lat) (g .lon) (s .fits .lat .sfits) (s .fits .lon .sfits) in
@@ -37,14 +37,14 @@ returns c =
     (u .ensures)
 
 new-fix-requires : tie.Need-new-fix-requires
-new-fix-requires c κs = let s = c .before .before .before .before .before .before .before .before .before .before .before in ready-same (s .args .h) _ _ _ (s .pre) refl refl refl
+new-fix-requires c κs = let s = c .before .before .before .before .before in ready-same (s .args .h) _ _ _ (s .pre) refl refl refl
 
 same-length-2 : tie.Need-same-length-2
 same-length-2 c = search needs
 
 returns-2 : tie.Need-returns-2
 returns-2 c =
-    let s = c .before .before .before .before .before .before .before .before .before .before .before .before .before .before in
+    let s = c .before .before .before .before .before .before .before .before in
     let g = s .args in
     let x : Fix = record { lat = g .lat; lon = g .lon } in
     let same = handed-fix (g .lat) (g .lon) (s .fits .lat .sfits) (s .fits .lon .sfits) in

@@ -17,7 +17,7 @@ use Rattle.recording.proofs.turned_back.Tie as tie
 returns : tie.Need-returns
 unfolding turnedBack cutTo forgotten track places
 returns c =
-    let s = c .before .before .before .before .before .before .before in
+    let s = c .before .before .before in
     let t = s .args .h .trail in
     record {
       same = λ b.

@@ -20,7 +20,7 @@ enum-told-3 c = search needs
 
 returns : tie.Need-returns
 unfolding offCourse stopCourse stopped heldOff
-returns c = off-by line.Course (c .before .before .before .before .before .before .before .before .args .h) _ (c .before .before .before .before .before .enum-told .given .1) (λ b. refl) refl
+returns c = off-by line.Course (c .before .before .before .before .args .h) _ (c .before .enum-told .given .1) (λ b. refl) refl
 
 returns-2 : tie.Need-returns-2
 unfolding offCourse
