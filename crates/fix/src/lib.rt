@@ -1,6 +1,6 @@
 // A fix that is missing, and one from before a restart, once the questions are answered.
 
-use motion::Lap;
+use lap::Lap;
 use motion::Motion;
 use plane::Heading;
 use plane::Point;
@@ -83,7 +83,7 @@ fn pass_only(h: Homing, p: Point) -> Homing
     let heading = m.heading;
     let was = h.lap;
     let passed = was.passed;
-    let stepped = motion::step_pass(was, p, heading);
+    let stepped = lap::step_pass(was, p, heading);
     let lap = Lap { passed, ..stepped };
     Homing { lap, ..h }
 }

@@ -30,7 +30,7 @@ fn begun(h: Homing, p: Point, now_ms: u64) -> Homing
     let m = h.motion;
     let heading = m.heading;
     let was = h.lap;
-    let lap = motion::step_pass(was, p, heading);
+    let lap = lap::step_pass(was, p, heading);
     Homing {
         lap,
         updated_ms: now_ms,
