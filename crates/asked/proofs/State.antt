@@ -16,9 +16,9 @@ use Rattle.plane.specs.declared.Heading.the-variants.{Known, Unknown}
 use Rattle.plane.specs.Plane.{turn, distance, bearing}
 use Rattle.plane.proofs.Theorems.{bearing-below}
 use Rattle.motion.specs.declared.Motion.{Motion}
-use Rattle.motion.specs.declared.Lap.{Lap}
+use Rattle.lap.specs.declared.Lap.{Lap}
 use Rattle.motion.specs.Heading.{elapsed, headingStepM, headingStaleMs, spotOr, renewed, aged, trackHeading}
-use Rattle.motion.specs.Lap.{movingAt, lapStart, stepFrom, stepPass}
+use Rattle.lap.specs.Lap.{movingAt, lapStart, stepFrom, stepPass}
 use Rattle.trail.specs.Notes.{thinnedIn}
 use Rattle.trail.specs.Trail.{Track, windowPlaces}
 use Rattle.trail.specs.Trail as trail

@@ -2,7 +2,6 @@
 
 use answers::Verdict;
 use homing::Changed;
-use homing::Reply;
 use homing::Sight;
 use numbering::NO_STATE;
 use state::Event;
@@ -16,7 +15,7 @@ ghost use Rattle.course.specs.Course.{fixes};
 ghost use Rattle.answers.specs.Answers.{saysVerdict};
 ghost use Rattle.homing.specs.Answers.{saysReply, saysSight};
 ghost use Rattle.stored.specs.Stored.{wordCount, numberCount};
-ghost use Rattle.numbering.specs.Through.{numberOf, written, flagOf, noStateWith, Leaves};
+ghost use Rattle.numbering.specs.Through.{numberOf, written, flagOf, Leaves};
 ghost use Rattle.calling.specs.Calls.{numberOfEvent, New, Reset, EndReplay, SetCourse, SetAutoFollow, Observe, Replay, SetFollowing};
 
 // ---- answers as numbers

@@ -10,9 +10,9 @@ use Rattle.plane.specs.declared.Spot.the-variants as spot
 use Rattle.plane.specs.declared.Heading.the-variants.{Unknown}
 use Rattle.crumbs.specs.declared.Crumb.{Crumb}
 use Rattle.motion.specs.declared.Motion.{Motion}
-use Rattle.motion.specs.declared.Lap.{Lap}
+use Rattle.lap.specs.declared.Lap.{Lap}
 use Rattle.motion.specs.Heading.{elapsed, trackHeading}
-use Rattle.motion.specs.Lap.{stepPass}
+use Rattle.lap.specs.Lap.{stepPass}
 use Rattle.trail.specs.Trail.{Track, withCrumbs, withWindow}
 use Rattle.state.specs.declared.Place.{Place}
 use Rattle.state.specs.declared.Place.the-variants as place

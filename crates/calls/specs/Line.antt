@@ -8,8 +8,8 @@ use Rattle.binary32.specs.Limits.{plusZero}
 use Rattle.plane.specs.declared.Spot.the-variants.{Nowhere}
 use Rattle.plane.specs.declared.Heading.the-variants.{Unknown}
 use Rattle.plane.specs.Fix.{mPerE7}
-use Rattle.motion.specs.declared.Stage.the-variants.{Spent}
-use Rattle.motion.specs.declared.Lap.{Lap}
+use Rattle.lap.specs.declared.Stage.the-variants.{Spent}
+use Rattle.lap.specs.declared.Lap.{Lap}
 use Rattle.trail.specs.Trail.{fresh}
 use Rattle.trail.specs.Trail as trail
 use Rattle.state.specs.declared.Place.the-variants.{Missing}

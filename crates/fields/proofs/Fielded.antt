@@ -8,7 +8,7 @@ use lib.Ieee.{Float}
 use Rattle.plane.specs.declared.Point.{Point}
 use Rattle.plane.specs.declared.Spot.the-variants as spot
 use Rattle.plane.specs.declared.Heading.the-variants as heading
-use Rattle.motion.specs.declared.Stage.the-variants as stage
+use Rattle.lap.specs.declared.Stage.the-variants as stage
 use Rattle.state.specs.declared.Place.the-variants as place
 use Rattle.state.specs.declared.Line.the-variants as line
 use Rattle.state.specs.declared.Mode.the-variants as mode

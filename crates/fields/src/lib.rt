@@ -1,7 +1,7 @@
 // One field of a guide's state, as words and numbers in slices that the caller lends. A flag is 0 or 1; what may
 // be missing is a flag with its parts behind it, which are 0 where it is missing and are then not read.
 
-use motion::Stage as Pass;
+use lap::Stage as Pass;
 use plane::Heading;
 use plane::Point;
 use plane::Spot;

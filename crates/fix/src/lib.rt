@@ -1,6 +1,5 @@
 // A fix that is missing, and one from before a restart, once the questions are answered.
 
-use motion::Lap;
 use motion::Motion;
 use plane::Heading;
 use plane::Point;
@@ -85,7 +84,7 @@ fn pass_only(h: Homing, p: Point) -> Homing
     let was = h.lap;
     let passed = was.passed;
     let mut next = h;
-    next.lap = motion::step_pass(was, p, heading);
+    next.lap = lap::step_pass(was, p, heading);
     next.lap.passed = passed;
     next
 }

@@ -1,3 +1,1 @@
-pub mod Pass
-pub mod Lap
 pub mod Heading

@@ -10,7 +10,7 @@ use mir.Val.{SFits}
 use Rattle.plane.specs.declared.Heading.{Heading}
 use Rattle.plane.specs.declared.Heading.the-variants as heading
 use Rattle.motion.specs.declared.Motion.{Motion}
-use Rattle.motion.specs.declared.Lap.{Lap}
+use Rattle.lap.specs.declared.Lap.{Lap}
 use Rattle.trail.specs.declared.Trail.{Trail}
 use Rattle.state.specs.declared.Place.{Place}
 use Rattle.state.specs.declared.Mode.the-variants as mode

@@ -1,9 +1,9 @@
 // The parts of a guide's state, read from slices that the caller lends and written as words. Where each stands is
 // the table in crates/stored/specs/Stored.antt.
 
-use motion::Lap;
+use lap::Lap;
+use lap::StartPass;
 use motion::Motion;
-use motion::StartPass;
 use plane::Heading;
 use state::Course;
 use state::Follow;

@@ -1,22 +1,16 @@
 // The calls of a rebuild, whose state lives in words of its own. Words that hold no rebuild, and slices
 // that hold no state, are refused with 10.
 
-use answers::Verdict;
-use homing::Reply;
 use log::Utc;
 use numbering::NO_STATE;
 use rebuild::Rebuild;
-use restart::Settled;
-use restart::Stepped;
 use state::Homing;
 ghost use mathlib.Core.Path.{_≡_};
 ghost use Prim.Native.Nat.{_≤_};
 ghost use lib.ListN.{length};
-ghost use Rattle.answers.specs.Answers.{saysVerdict};
-ghost use Rattle.homing.specs.Answers.{saysReply};
 ghost use Rattle.stored.specs.Stored.{wordCount, numberCount};
 ghost use Rattle.stored.specs.Rebuilt.{rebuildCount, utcOf};
-ghost use Rattle.numbering.specs.Through.{numberOf, isSet, Leaves};
+ghost use Rattle.numbering.specs.Through.{isSet, Leaves};
 ghost use Rattle.rebuilding.specs.Rebuild.{LeavesRebuild, RebuildNew, RebuildCaughtUp, slices, RebuildStep, RebuildSettle};
 
 // ---- the rebuild alone

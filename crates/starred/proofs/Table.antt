@@ -18,7 +18,7 @@ use Rattle.plane.proofs.Starred as plane
 use Rattle.thin.specs.Crumb.{clear, farther, reach, twoOn, passBy, measuringPass, halvingPass, doubled, passesFrom, thinning}
 use Rattle.thin.specs.Questions.{question9}
 use Rattle.thin.specs.Promises.{answer}
-use Rattle.motion.specs.Pass.{passArmM, passM, passEndM, fromStage, stepOf}
+use Rattle.lap.specs.Pass.{passArmM, passM, passEndM, fromStage, stepOf}
 use Rattle.state.specs.Guide.{arrow, arrowFrom}
 use Rattle.segments.specs.Constants.{onM}
 use Rattle.matching.specs.Match.{offM, offNow}

@@ -15,9 +15,9 @@ use Rattle.crumbs.specs.declared.Crumb.{Crumb}
 use Rattle.crumbs.specs.Crumb.{stride}
 use Rattle.thin.specs.Crumb.{thinning}
 use Rattle.thin.specs.Promises.{left, refused, answer}
-use Rattle.motion.specs.declared.Stage.the-variants.{Spent}
-use Rattle.motion.specs.declared.StartPass.{StartPass}
-use Rattle.motion.specs.Pass.{stepOf}
+use Rattle.lap.specs.declared.Stage.the-variants.{Spent}
+use Rattle.lap.specs.declared.StartPass.{StartPass}
+use Rattle.lap.specs.Pass.{stepOf}
 use Rattle.state.specs.declared.Guide.{Guide}
 use Rattle.state.specs.Guide.{arrow}
 use Rattle.matching.specs.Match.{offNow}

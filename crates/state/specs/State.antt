@@ -11,7 +11,7 @@ use Rattle.state.specs.declared.Place.{Place}
 use Rattle.state.specs.declared.Frame.{Frame}
 use Rattle.state.specs.declared.Follow.{Follow}
 use Rattle.state.specs.declared.Course.{Course}
-use Rattle.motion.specs.declared.Lap.{Lap}
+use Rattle.lap.specs.declared.Lap.{Lap}
 use Rattle.state.specs.declared.Shown.{Shown}
 use Rattle.state.specs.declared.Homing.{Homing}
 

@@ -1,6 +1,6 @@
 // The guide's state, in groups, by value beside the lent buffers.
 
-use motion::Lap;
+use lap::Lap;
 use motion::Motion;
 use plane::Heading;
 use plane::Spot;

@@ -1,9 +1,9 @@
 // The guide made anew, and a course set.
 
-use motion::Lap;
+use lap::Lap;
+use lap::Stage;
+use lap::StartPass;
 use motion::Motion;
-use motion::Stage;
-use motion::StartPass;
 use plane::Heading;
 use plane::Spot;
 use state::Course;

@@ -11,7 +11,7 @@ use lib.ListN.{length, getD, take, drop, length-append}
 use lib.Seq.{take-at}
 use lib.Ieee.{Float}
 use Rattle.plane.specs.declared.Heading.the-variants as heading
-use Rattle.motion.specs.declared.Stage.the-variants as stage
+use Rattle.lap.specs.declared.Stage.the-variants as stage
 use Rattle.state.specs.declared.Line.the-variants as line
 use Rattle.state.specs.declared.Mode.the-variants as mode
 use Rattle.state.specs.declared.Homing.{Homing}

@@ -15,9 +15,9 @@ use Rattle.plane.specs.Plane.{turn, distance, bearing}
 use Rattle.plane.specs.Place.{Place, OnGlobe}
 use Rattle.plane.proofs.Theorems.{bearing-below, east-factor, frame-place}
 use Rattle.motion.specs.declared.Motion.{Motion}
-use Rattle.motion.specs.declared.Lap.{Lap}
+use Rattle.lap.specs.declared.Lap.{Lap}
 use Rattle.motion.specs.Heading.{elapsed, headingStepM, headingStaleMs, spotOr, renewed, aged, trackHeading}
-use Rattle.motion.specs.Lap.{movingAt, lapStart, stepFrom, stepPass}
+use Rattle.lap.specs.Lap.{movingAt, lapStart, stepFrom, stepPass}
 use Rattle.state.specs.declared.Place.{Place as Fed}
 use Rattle.state.specs.declared.Place.the-variants as fed
 use Rattle.state.specs.declared.Frame.{Frame}

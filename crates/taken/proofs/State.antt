@@ -6,7 +6,7 @@ use mathlib.Core.List.{List}
 use lib.ListN.{length}
 use Rattle.plane.specs.declared.Spot.{Spot}
 use Rattle.motion.specs.declared.Motion.{Motion}
-use Rattle.motion.specs.declared.Lap.{Lap}
+use Rattle.lap.specs.declared.Lap.{Lap}
 use Rattle.crumbs.specs.declared.Crumb.{Crumb}
 use Rattle.trail.specs.Trail.{Track}
 use Rattle.state.specs.declared.Place.{Place as Fed}

@@ -7,7 +7,7 @@ use lib.ListN.{length}
 use lib.Ieee.{lt, le}
 use Rattle.plane.specs.declared.Point.{Point}
 use Rattle.crumbs.specs.declared.Crumb.{Crumb}
-use Rattle.motion.specs.Lap.{stepPass}
+use Rattle.lap.specs.Lap.{stepPass}
 use Rattle.segments.specs.declared.Nearest.{Nearest}
 use Rattle.segments.specs.declared.Best.{Best}
 use Rattle.segments.specs.declared.Best.the-variants.{Nothing, Found}

@@ -31,7 +31,7 @@ fn begun(h: Homing, p: Point, now_ms: u64) -> Homing
     let heading = m.heading;
     let was = h.lap;
     let mut next = h;
-    next.lap = motion::step_pass(was, p, heading);
+    next.lap = lap::step_pass(was, p, heading);
     next.updated_ms = now_ms;
     next
 }

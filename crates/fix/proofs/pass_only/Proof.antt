@@ -1,6 +1,6 @@
 -- `fix::pass_only` meets its contract. Assumes nothing.
 use mathlib.Core.Path.{_≡_, refl, ap}
-use Rattle.motion.specs.declared.Lap.{Lap}
+use Rattle.lap.specs.declared.Lap.{Lap}
 use Rattle.state.specs.State.{stateOf, withLap}
 use Rattle.calls.specs.Fix.{passOnly}
 use borrow.Author.Needs.{needs}

@@ -1,6 +1,6 @@
 -- `update::begun` meets its contract. Assumes nothing.
 use mathlib.Core.Path.{_≡_, refl, sym, ap, _∙_}
-use Rattle.motion.specs.declared.Lap.{Lap}
+use Rattle.lap.specs.declared.Lap.{Lap}
 use Rattle.state.specs.State.{stateOf, withLap, withUpdatedMs}
 use Rattle.update.specs.Update.{begun}
 use borrow.Author.Needs.{needs}

@@ -1,12 +1,12 @@
--- `motion::lap_start` meets its contract. Assumes nothing.
+-- `lap::lap_start` meets its contract. Assumes nothing.
 use mathlib.Core.Path.{_≡_, sym, ap, _∙_}
 use mathlib.Core.Bool.{Bool}
 use borrow.Author.Needs.{needs}
 use Rattle.plane.specs.declared.Spot.{Spot}
 use Rattle.plane.specs.declared.Spot.the-variants.{Nowhere}
-use Rattle.motion.specs.Lap.{lapStart}
-use Rattle.motion.proofs.lap_start.Statement.{statement}
-use Rattle.motion.proofs.lap_start.Tie as tie
+use Rattle.lap.specs.Lap.{lapStart}
+use Rattle.lap.proofs.lap_start.Statement.{statement}
+use Rattle.lap.proofs.lap_start.Tie as tie
 
 enum-known-start : tie.Need-enum-known-start
 enum-known-start c = search needs

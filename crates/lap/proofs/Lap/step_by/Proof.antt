@@ -1,4 +1,4 @@
--- `motion::Lap::step_by` meets its contract: a walk of its MIR, by hand. The state is copied into a local in memory; of that local's cell the pass's own cell is taken out,
+-- `lap::Lap::step_by` meets its contract: a walk of its MIR, by hand. The state is copied into a local in memory; of that local's cell the pass's own cell is taken out,
 -- lent to `StartPass::step` for a lifetime that is made for the call, and put back at what `step` says that it was last, which makes the state's cell at the new state.
 -- All that the proof knows of `step` is that it meets its contract. Only `at-pass` says where the field stands; no line counts the state's fields. Assumes nothing.
 use mathlib.Core.Path.{_≡_, refl, ap}
@@ -47,25 +47,25 @@ use denote.Triple.Clauses.{ensured, lasts}
 use denote.Triple.Table.{entered, cited}
 use denote.Triple.Walked.{says, Stays, stay-none, walkOf, goes-none, Walks, ends-at, walked, walk-meets}
 use denote.Exit.{yes}
-use Rattle.motion.specs.declared.StartPass.{StartPass}
-use Rattle.motion.specs.declared.Lap.{Lap}
-use Rattle.motion.specs.declared.LapStepped.{LapStepped}
-use Rattle.motion.specs.Pass.{stepOf}
-use Rattle.motion.specs.Lap.{withPass, lapStepOf}
-use Rattle.motion.proofs.StartPass as P
-use Rattle.motion.proofs.StartPass.Laws as P′
-use Rattle.motion.proofs.Lap as T
-use Rattle.motion.proofs.Lap.Laws as T′
-use Rattle.motion.proofs.LapStepped as S
-use Rattle.motion.proofs.LapStepped.Laws as S′
-use Rattle.motion.proofs.StartPass.step as callee
-use Rattle.motion.proofs.StartPass.step.Symbol as callee-def
-use Rattle.motion.proofs.StartPass.step.Symbol.{name as #step}
-use Rattle.motion.proofs.StartPass.step.Met as callee-thm
-use Rattle.motion.proofs.Lap.step_by.Key.{name as #step-by}
-use Rattle.motion.proofs.Lap.step_by as this
-use Rattle.motion.proofs.Lap.step_by.Statement as stated
-use Rattle.motion.proofs.Lap.step_by.Code as code
+use Rattle.lap.specs.declared.StartPass.{StartPass}
+use Rattle.lap.specs.declared.Lap.{Lap}
+use Rattle.lap.specs.declared.LapStepped.{LapStepped}
+use Rattle.lap.specs.Pass.{stepOf}
+use Rattle.lap.specs.Lap.{withPass, lapStepOf}
+use Rattle.lap.proofs.StartPass as P
+use Rattle.lap.proofs.StartPass.Laws as P′
+use Rattle.lap.proofs.Lap as T
+use Rattle.lap.proofs.Lap.Laws as T′
+use Rattle.lap.proofs.LapStepped as S
+use Rattle.lap.proofs.LapStepped.Laws as S′
+use Rattle.lap.proofs.StartPass.step as callee
+use Rattle.lap.proofs.StartPass.step.Symbol as callee-def
+use Rattle.lap.proofs.StartPass.step.Symbol.{name as #step}
+use Rattle.lap.proofs.StartPass.step.Met as callee-thm
+use Rattle.lap.proofs.Lap.step_by.Key.{name as #step-by}
+use Rattle.lap.proofs.Lap.step_by as this
+use Rattle.lap.proofs.Lap.step_by.Statement as stated
+use Rattle.lap.proofs.Lap.step_by.Code as code
 
 abbrev stayed : Stays (this.ended .signature .params) (this.ended .kept)
 stayed = (stay-none (λ _. T.the-row) yes, (stay-none (λ _. f32) yes, (stay-none (λ _. bool) yes, tt)))
@@ -233,4 +233,4 @@ step-by-spec 𝓤 H 𝓜 𝓖 𝓡 =
     entered 𝓤 H (tripleOf 𝓤 H (𝓖 .A) this.signature (this.spec 𝓤 H (𝓖 .A) (𝓜 .mem) (𝓡 .run)))
     (tables 𝓤 H 𝓜 𝓡 code.env .C) (tables 𝓤 H 𝓜 𝓡 code.env .Λ) #step-by code.function (code.unfolded 𝓤 H 𝓜 𝓡)
     (step-by-meets 𝓤 H (𝓖 .A) (givenOf 𝓤 H 𝓜 𝓖) (𝓜 .mem) (𝓡 .run) (tablesOf 𝓤 H 𝓜 (tables 𝓤 H 𝓜 𝓡 code.env))
-    (cited 𝓤 H (Callee 𝓤 H (𝓖 .A) (𝓜 .mem) (𝓡 .run)) 𝓜 𝓡 code.env #step callee-def.routine code.calls-motion·StartPass·step (callee-thm.met 𝓤 H 𝓜 𝓖 𝓡)))
+    (cited 𝓤 H (Callee 𝓤 H (𝓖 .A) (𝓜 .mem) (𝓡 .run)) 𝓜 𝓡 code.env #step callee-def.routine code.calls-lap·StartPass·step (callee-thm.met 𝓤 H 𝓜 𝓖 𝓡)))

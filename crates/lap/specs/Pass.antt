@@ -2,10 +2,10 @@
 use mathlib.Core.Bool.{Bool, true, false, cond}
 use lib.Ieee.{Float, lt}
 use Rattle.binary32.specs.Arithmetic.{constant}
-use Rattle.motion.specs.declared.Stage.{Stage}
-use Rattle.motion.specs.declared.Stage.the-variants.{Spent, Armed, Inside}
-use Rattle.motion.specs.declared.StartPass.{StartPass}
-use Rattle.motion.specs.declared.Stepped.{Stepped}
+use Rattle.lap.specs.declared.Stage.{Stage}
+use Rattle.lap.specs.declared.Stage.the-variants.{Spent, Armed, Inside}
+use Rattle.lap.specs.declared.StartPass.{StartPass}
+use Rattle.lap.specs.declared.Stepped.{Stepped}
 
 -- a pass counts once the rider was this far away, 100 m
 unfoldable pub passArmM : Float

@@ -1,9 +1,9 @@
--- `motion::moving` meets its contract. Assumes nothing.
+-- `lap::moving` meets its contract. Assumes nothing.
 use mathlib.Core.Path.{sym, ap}
 use borrow.Author.Needs.{needs}
-use Rattle.motion.specs.Lap.{movingAt}
-use Rattle.motion.proofs.moving.Statement.{statement}
-use Rattle.motion.proofs.moving.Tie as tie
+use Rattle.lap.specs.Lap.{movingAt}
+use Rattle.lap.proofs.moving.Statement.{statement}
+use Rattle.lap.proofs.moving.Tie as tie
 
 enum-told : tie.Need-enum-told
 enum-told c = search needs

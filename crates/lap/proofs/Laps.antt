@@ -7,9 +7,9 @@ use Rattle.plane.specs.declared.Spot.{Spot}
 use Rattle.plane.specs.declared.Spot.the-variants.{At, Nowhere}
 use Rattle.plane.specs.declared.Heading.{Heading}
 use Rattle.plane.specs.Plane.{distance}
-use Rattle.motion.specs.declared.Lap.{Lap}
-use Rattle.motion.specs.declared.LapStepped.{LapStepped}
-use Rattle.motion.specs.Lap.{movingAt, lapStart, stepFrom, stepPass, lapStepOf}
+use Rattle.lap.specs.declared.Lap.{Lap}
+use Rattle.lap.specs.declared.LapStepped.{LapStepped}
+use Rattle.lap.specs.Lap.{movingAt, lapStart, stepFrom, stepPass, lapStepOf}
 
 abbrev pub startedAt : Lap → Spot → Lap
 startedAt l s = record { pass = l .pass; start = s; passed = l .passed }

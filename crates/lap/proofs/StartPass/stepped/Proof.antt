@@ -1,10 +1,10 @@
--- `motion::StartPass::stepped` meets its contract. Each return rewrites with the stage that the match told and with the test that led there.
+-- `lap::StartPass::stepped` meets its contract. Each return rewrites with the stage that the match told and with the test that led there.
 -- A float constant is its bit pattern in MIR, which `ofBits` reads. Assumes nothing.
 use lib.Ieee
 use borrow.Author.Needs.{needs}
-use Rattle.motion.specs.Pass.{passArmM, passM, passEndM, fromStage, stepOf}
-use Rattle.motion.proofs.StartPass.stepped.Statement.{statement}
-use Rattle.motion.proofs.StartPass.stepped.Tie as tie
+use Rattle.lap.specs.Pass.{passArmM, passM, passEndM, fromStage, stepOf}
+use Rattle.lap.proofs.StartPass.stepped.Statement.{statement}
+use Rattle.lap.proofs.StartPass.stepped.Tie as tie
 
 enum-told : tie.Need-enum-told
 enum-told c = search needs

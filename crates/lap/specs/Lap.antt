@@ -7,10 +7,10 @@ use Rattle.plane.specs.declared.Spot.the-variants.{At, Nowhere}
 use Rattle.plane.specs.declared.Heading.{Heading}
 use Rattle.plane.specs.declared.Heading.the-variants.{Known, Unknown}
 use Rattle.plane.specs.Plane.{distance}
-use Rattle.motion.specs.declared.StartPass.{StartPass}
-use Rattle.motion.specs.declared.Lap.{Lap}
-use Rattle.motion.specs.declared.LapStepped.{LapStepped}
-use Rattle.motion.specs.Pass.{stepOf}
+use Rattle.lap.specs.declared.StartPass.{StartPass}
+use Rattle.lap.specs.declared.Lap.{Lap}
+use Rattle.lap.specs.declared.LapStepped.{LapStepped}
+use Rattle.lap.specs.Pass.{stepOf}
 
 -- a lap with another pass, and nothing else changed
 abbrev pub withPass : Lap → StartPass → Lap

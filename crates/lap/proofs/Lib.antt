@@ -1,3 +1,3 @@
 -- Document 01's starred line on `StartPass`, and facts that the functions share.
-pub mod Starred
+mod Starred
 mod Laps

@@ -1,4 +1,4 @@
--- `motion::StartPass::step` meets its contract: a walk of its MIR, by hand. The borrow is opened, the struct behind it is copied whole and passed to `stepped`,
+-- `lap::StartPass::step` meets its contract: a walk of its MIR, by hand. The borrow is opened, the struct behind it is copied whole and passed to `stepped`,
 -- the struct that came back is stored whole, and the borrow is closed at it. All that the proof knows of `stepped` is that it meets its contract.
 -- Nothing in the walk reads the struct's fields: it goes by the struct's laws, whatever it holds. Assumes nothing.
 use mathlib.Core.Path.{_≡_, refl, ap}
@@ -43,21 +43,21 @@ use denote.Triple.Clauses.{ensured, lasts}
 use denote.Triple.Table.{entered, cited}
 use denote.Triple.Walked.{says, Stays, stay-ref, stay-none, walkOf, AllGo, goes-none, goes-ref, Walks, ends-at, walked, walk-meets}
 use denote.Exit.{yes}
-use Rattle.motion.specs.declared.StartPass.{StartPass}
-use Rattle.motion.specs.declared.Stepped.{Stepped}
-use Rattle.motion.specs.Pass.{stepOf}
-use Rattle.motion.proofs.StartPass as T
-use Rattle.motion.proofs.StartPass.Laws as T′
-use Rattle.motion.proofs.Stepped as S
-use Rattle.motion.proofs.Stepped.Laws as S′
-use Rattle.motion.proofs.StartPass.stepped as callee
-use Rattle.motion.proofs.StartPass.stepped.Symbol as callee-def
-use Rattle.motion.proofs.StartPass.stepped.Symbol.{name as #stepped}
-use Rattle.motion.proofs.StartPass.stepped.Met as callee-thm
-use Rattle.motion.proofs.StartPass.step.Key.{name as #step}
-use Rattle.motion.proofs.StartPass.step as step
-use Rattle.motion.proofs.StartPass.step.Statement as stated
-use Rattle.motion.proofs.StartPass.step.Code as code
+use Rattle.lap.specs.declared.StartPass.{StartPass}
+use Rattle.lap.specs.declared.Stepped.{Stepped}
+use Rattle.lap.specs.Pass.{stepOf}
+use Rattle.lap.proofs.StartPass as T
+use Rattle.lap.proofs.StartPass.Laws as T′
+use Rattle.lap.proofs.Stepped as S
+use Rattle.lap.proofs.Stepped.Laws as S′
+use Rattle.lap.proofs.StartPass.stepped as callee
+use Rattle.lap.proofs.StartPass.stepped.Symbol as callee-def
+use Rattle.lap.proofs.StartPass.stepped.Symbol.{name as #stepped}
+use Rattle.lap.proofs.StartPass.stepped.Met as callee-thm
+use Rattle.lap.proofs.StartPass.step.Key.{name as #step}
+use Rattle.lap.proofs.StartPass.step as step
+use Rattle.lap.proofs.StartPass.step.Statement as stated
+use Rattle.lap.proofs.StartPass.step.Code as code
 
 abbrev stayed : Stays (step.ended .signature .params) (step.ended .kept)
 stayed = (stay-ref (0 ∷ []) tt (plain (λ _. T.the-row)), (stay-none (λ _. f32) yes, (stay-none (λ _. bool) yes, tt)))
@@ -160,4 +160,4 @@ step-spec 𝓤 H 𝓜 𝓖 𝓡 =
     entered 𝓤 H (tripleOf 𝓤 H (𝓖 .A) step.signature (step.spec 𝓤 H (𝓖 .A) (𝓜 .mem) (𝓡 .run)))
     (tables 𝓤 H 𝓜 𝓡 code.env .C) (tables 𝓤 H 𝓜 𝓡 code.env .Λ) #step code.function (code.unfolded 𝓤 H 𝓜 𝓡)
     (step-meets 𝓤 H (𝓖 .A) (givenOf 𝓤 H 𝓜 𝓖) (𝓜 .mem) (𝓡 .run) (tablesOf 𝓤 H 𝓜 (tables 𝓤 H 𝓜 𝓡 code.env))
-    (cited 𝓤 H (Callee 𝓤 H (𝓖 .A) (𝓜 .mem) (𝓡 .run)) 𝓜 𝓡 code.env #stepped callee-def.routine code.calls-motion·StartPass·stepped (callee-thm.met 𝓤 H 𝓜 𝓖 𝓡)))
+    (cited 𝓤 H (Callee 𝓤 H (𝓖 .A) (𝓜 .mem) (𝓡 .run)) 𝓜 𝓡 code.env #stepped callee-def.routine code.calls-lap·StartPass·stepped (callee-thm.met 𝓤 H 𝓜 𝓖 𝓡)))

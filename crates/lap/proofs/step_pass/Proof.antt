@@ -1,8 +1,8 @@
--- `motion::step_pass` meets its contract. Assumes nothing.
+-- `lap::step_pass` meets its contract. Assumes nothing.
 use borrow.Author.Needs.{needs}
-use Rattle.motion.proofs.Laps.{unmoved, completed, went-on}
-use Rattle.motion.proofs.step_pass.Statement.{statement}
-use Rattle.motion.proofs.step_pass.Tie as tie
+use Rattle.lap.proofs.Laps.{unmoved, completed, went-on}
+use Rattle.lap.proofs.step_pass.Statement.{statement}
+use Rattle.lap.proofs.step_pass.Tie as tie
 
 moving-requires : tie.Need-moving-requires
 moving-requires c κs = search needs

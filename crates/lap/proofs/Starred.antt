@@ -5,9 +5,9 @@ use mathlib.Core.List.{List, [], _∷_}
 use mathlib.Core.Path.{_≡_, refl}
 use lib.IntN.{pos}
 use lib.Ieee.{Float, binary32, ofInt, lt}
-use Rattle.motion.specs.declared.Stage.the-variants.{Spent}
-use Rattle.motion.specs.declared.StartPass.{StartPass}
-use Rattle.motion.specs.Pass.{passArmM, passM, passEndM, fromStage, stepOf}
+use Rattle.lap.specs.declared.Stage.the-variants.{Spent}
+use Rattle.lap.specs.declared.StartPass.{StartPass}
+use Rattle.lap.specs.Pass.{passArmM, passM, passEndM, fromStage, stepOf}
 
 -- whole metres as an f32
 abbrev pub m : ℕ → Float
