@@ -173,8 +173,8 @@ fn way_back_from(here: Spot, crumbs: &[f32], len: usize) -> Back
     if len == 0 {
         return Back::Nothing;
     }
-    let direct = plane::distance(p, trail::start(crumbs, len, p));
-    let track = trail::recorded_m(crumbs, len, p);
+    let direct = plane::distance(p, along::start(crumbs, len, p));
+    let track = along::recorded_m(crumbs, len, p);
     Back::Metres(binary32::as_u32(direct), binary32::as_u32(track))
 }
 

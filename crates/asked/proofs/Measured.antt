@@ -30,7 +30,8 @@ use Rattle.segments.specs.declared.Best.the-variants.{Nothing, Found}
 use Rattle.search.specs.declared.Join.{Join}
 use Rattle.search.specs.declared.Join.the-variants.{Segment, NoSegment}
 use Rattle.segments.specs.Constants.{dropM}
-use Rattle.trail.specs.Trail.{Track, alongTo, alongBehind, recordedM, realongBehind, realong, fresh, thin, put, wait}
+use Rattle.along.specs.Along.{alongTo, alongBehind, recordedM, realongBehind, realong}
+use Rattle.trail.specs.Trail.{Track, fresh, thin, put, wait}
 use Rattle.trail.specs.Trail as trail
 use Rattle.trail.proofs.Rules.{keep-full, keep-room, flush-none, flush-some, bends, simplify-bends, simplify-straight, add-first, near, add-near, add-far}
 use Rattle.state.specs.declared.Place.{Place}

@@ -14,7 +14,8 @@ use Rattle.crumbs.specs.declared.Crumb.{Crumb}
 use Rattle.crumbs.specs.Crumb.{point}
 use Rattle.crumbs.specs.Choice.{Choice, end, leave, strike, last}
 use Rattle.thin.proofs.Theorems.{thins-any}
-use Rattle.trail.specs.Trail.{Track, crumbOf, alongTo, alongBehind, recordedM, realongBehind, realong, thin, put, keep, flush, wait, simplify, add}
+use Rattle.along.specs.Along.{crumbOf, alongTo, alongBehind, recordedM, realongBehind, realong}
+use Rattle.trail.specs.Trail.{Track, thin, put, keep, flush, wait, simplify, add}
 use Rattle.trail.proofs.Rules.{keep-full, keep-room, flush-none, flush-some, bends, simplify-bends, simplify-straight, add-first, near, add-near, add-far}
 use Rattle.trail.proofs.Theorems.{Sound, thin-sound, flush-sound}
 use Rattle.calls.specs.Questions.{placeFits, placesFit, alongFits, crumbFits, crumbsFit}

@@ -87,7 +87,7 @@ fn place_all(f: Frame, lats: &[i32], lons: &[i32], line: &mut [f32]) -> usize
         let c = Crumb {
             east: p.east,
             north: p.north,
-            along: trail::recorded_m(line, k, p),
+            along: along::recorded_m(line, k, p),
         };
         crumbs::put(line, k, c);
     }

@@ -6,7 +6,7 @@ use Rattle.goal.specs.Goal.{goalOn}
 use Prim.Native.Nat.{_-_}
 use Rattle.plane.specs.declared.Point.{Point}
 use Rattle.crumbs.specs.declared.Crumb.{Crumb}
-use Rattle.trail.specs.Trail.{startOf}
+use Rattle.along.specs.Along.{startOf}
 use Rattle.state.specs.declared.Line.the-variants as line
 
 -- ---- where the rider is to arrive

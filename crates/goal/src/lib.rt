@@ -19,7 +19,7 @@ pub fn goal_on(on: Line, line: &[f32], len: usize, start: Point) -> Point
     ensures { λ r. ⌜ r ≡ goalOn on (heldCrumbs len (now (line .entry))) start ⌝ }
 {
     match on {
-        Line::Course => trail::start(line, len, start),
+        Line::Course => along::start(line, len, start),
         Line::Nothing => start,
         Line::Breadcrumb => start,
     }

@@ -6,7 +6,7 @@ use lib.Ieee.{Float}
 use Rattle.plane.specs.declared.Point.{Point}
 use Rattle.plane.specs.Plane.{distance}
 use Rattle.crumbs.specs.Crumb.{crumbs}
-use Rattle.trail.specs.Trail.{startOf}
+use Rattle.along.specs.Along.{startOf}
 use Rattle.trail.specs.View.{track}
 use Rattle.state.specs.declared.Event.{Event}
 use Rattle.state.specs.declared.Course.{Course}

@@ -8,7 +8,7 @@ use Rattle.plane.specs.declared.Point.{Point}
 use Rattle.plane.specs.Plane.{distance, bearing, metres}
 use Rattle.crumbs.specs.declared.Crumb.{Crumb}
 use Rattle.segments.specs.declared.Best.the-variants.{Nothing}
-use Rattle.trail.specs.Trail.{recordedM, startOf}
+use Rattle.along.specs.Along.{recordedM, startOf}
 use Rattle.state.specs.declared.Mode.the-variants as mode
 use Rattle.state.specs.declared.Event.{Event}
 use Rattle.state.specs.declared.Event.the-variants as event

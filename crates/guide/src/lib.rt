@@ -113,7 +113,7 @@ pub fn finished(h: Homing, crumbs: &[f32], line: &[f32], p: Point, w: Way, e: Ev
     let f = h.follow;
     let on = f.line;
     let len = h.trail.len;
-    let start = trail::start(crumbs, len, p);
+    let start = along::start(crumbs, len, p);
     let goal = goal::goal_on(on, line, h.course.line_len, start);
     let direct = plane::distance(p, goal);
     let long = goal::long_enough(matching::on_course(on), crumbs, len);
@@ -136,9 +136,9 @@ pub fn direct(h: Homing, crumbs: &[f32], line: &[f32], p: Point) -> Told
     let len = h.trail.len;
     let w = Way {
         mode: Mode::Direct,
-        track: trail::recorded_m(crumbs, len, p),
+        track: along::recorded_m(crumbs, len, p),
         off: 0.0,
-        target: trail::start(crumbs, len, p),
+        target: along::start(crumbs, len, p),
     };
     finished(h, crumbs, line, p, w, Event::Nothing)
 }

@@ -12,7 +12,7 @@ use Rattle.binary32.specs.Limits.{plusZero}
 use Rattle.magnitude.specs.Size.{Within, frac}
 use Rattle.plane.specs.Fix.{mPerE7}
 use Rattle.crumbs.specs.declared.Crumb.{Crumb}
-use Rattle.trail.specs.Trail.{alongBehind}
+use Rattle.along.specs.Along.{alongBehind}
 use Rattle.state.specs.declared.Line.{Line}
 use Rattle.state.specs.declared.Line.the-variants as line
 use Rattle.state.specs.declared.Frame.{Frame}

@@ -20,7 +20,7 @@ use Rattle.search.specs.declared.Range.{Range}
 use Rattle.segments.specs.Constants.{dropM}
 use Rattle.search.proofs.Theorems.{breadcrumb-met}
 use Rattle.course_match.proofs.Theorems.{course-met}
-use Rattle.trail.specs.Trail.{startOf}
+use Rattle.along.specs.Along.{startOf}
 use Rattle.state.specs.declared.Line.{Line}
 use Rattle.state.specs.declared.Line.the-variants as line
 use Rattle.state.specs.declared.Event.{Event}

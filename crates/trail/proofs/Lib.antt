@@ -1,5 +1,4 @@
 pub mod Window
-pub mod Line
 pub mod Rules
 pub mod Theorems
 pub mod Tracks

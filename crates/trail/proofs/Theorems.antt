@@ -23,7 +23,8 @@ use Rattle.crumbs.proofs.Choices.{choice-map, first-map}
 use Rattle.thin.specs.Crumb.{measuringPass, doubled, target, Thinning, passesFrom, thinning}
 use Rattle.thin.proofs.Theorems.{thins-any}
 use Rattle.trail.specs.Notes.{Note, Kept, Thinned}
-use Rattle.trail.specs.Trail.{windowPlaces, Track, realongBehind, realong, thin, put, keep, flush, wait, strays, simplify, add}
+use Rattle.along.specs.Along.{realongBehind, realong}
+use Rattle.trail.specs.Trail.{windowPlaces, Track, thin, put, keep, flush, wait, strays, simplify, add}
 use Rattle.trail.proofs.Rules.{keep-full, keep-room, flush-none, flush-some, bends, simplify-bends, simplify-straight, add-first, near, add-near, add-far}
 
 -- ---- recomputing along

@@ -20,8 +20,10 @@ use Rattle.thin.proofs.Asked.{true-false}
 use Rattle.trail.specs.declared.Trail.{Trail}
 use Rattle.trail.specs.declared.Recorded.{Recorded}
 use Rattle.trail.specs.Notes.{thinnedIn}
-use Rattle.trail.specs.Trail.{windowPlaces, Track, withCrumbs, withWindow, Rule, _>>_, still, crumbOf, recordedM, realong, thin, put, wait}
-use Rattle.trail.specs.View.{places, track, Fit, Follows, Records, Realongs, Changes}
+use Rattle.along.specs.Along.{crumbOf, recordedM, realong}
+use Rattle.trail.specs.Trail.{windowPlaces, Track, withCrumbs, withWindow, Rule, _>>_, still, thin, put, wait}
+use Rattle.along.specs.Along.{Realongs}
+use Rattle.trail.specs.View.{places, track, Fit, Follows, Records, Changes}
 use Rattle.trail.proofs.Window.{length-places, putPlace, places-put}
 use Rattle.trail.proofs.Rules.{thinned-then}
 use Rattle.trail.proofs.Theorems.{Sound, thin-sound}

@@ -1,4 +1,4 @@
--- The recording of the breadcrumb: document 01, "Crumb", and homing.rs's `add`, `keep`, `thin`, `recorded_m` and `start`. Nothing here knows of a
+-- The recording of the breadcrumb: document 01, "Crumb", and homing.rs's `add`, `keep` and `thin`. Nothing here knows of a
 -- buffer. C is how many crumbs there is room for.
 use Prim.Native.Nat.{ℕ}
 use mathlib.Core.Bool.{Bool, true, false, _||_}
@@ -7,14 +7,14 @@ use mathlib.Core.Option.{Option, none, some, Option·getD}
 use lib.ListN.{length}
 use lib.Dec.{eqb}
 use lib.Ieee.{Float, lt}
-use Rattle.binary32.specs.Arithmetic.{_⊕_, constant}
-use Rattle.binary32.specs.Limits.{plusZero}
+use Rattle.binary32.specs.Arithmetic.{constant}
 use Rattle.plane.specs.declared.Point.{Point}
 use Rattle.plane.specs.Plane.{distance, offSegment}
 use Rattle.crumbs.specs.declared.Crumb.{Crumb}
 use Rattle.crumbs.specs.Crumb.{point}
 use Rattle.crumbs.specs.Choice.{last}
 use Rattle.thin.specs.Crumb.{thinning}
+use Rattle.along.specs.Along.{crumbOf, recordedM, realong}
 use Rattle.trail.specs.Notes.{Note, Kept, Thinned, Reset}
 
 -- "Points wait in a window of 48 places"
@@ -71,36 +71,6 @@ become f t = record { track = f t; notes = [] }
 -- changes nothing
 abbrev pub still : Rule
 still t = become (λ u. u) t
-
--- ---- the line of crumbs
-abbrev pub crumbOf : Point → Float → Crumb
-crumbOf p along = record { east = p .east; north = p .north; along = along }
-
--- how far along the line p lies, which comes next after the crumb a
-unfoldable pub alongTo : Crumb → Point → Float
-alongTo a p = a .along ⊕ distance (point a) p
-
-unfoldable pub alongBehind : Option Crumb → Point → Float
-alongBehind none p = plusZero
-alongBehind (some a) p = alongTo a p
-
--- `recorded_m`: how long the line is from its first crumb to p behind its last; 0 where none is held
-unfoldable pub recordedM : List Crumb → Point → Float
-recordedM l p = alongBehind (last l) p
-
--- `start`: where the ride began, its first crumb; p where none is held
-unfoldable pub startOf : List Crumb → Point → Point
-startOf [] p = p
-startOf (a ∷ l) p = point a
-
--- "`Homing::thin` then recomputes along": each crumb's from the one before it, the first keeping its own
-unfoldable pub realongBehind : Crumb → List Crumb → List Crumb
-realongBehind a [] = []
-realongBehind a (b ∷ l) = let c = crumbOf (point b) (alongTo a (point b)) in c ∷ realongBehind c l
-
-unfoldable pub realong : List Crumb → List Crumb
-realong [] = []
-realong (a ∷ l) = a ∷ realongBehind a l
 
 -- ---- the rules
 -- "Added: a thinning sets the turn-round count `retrace` to 0. In the Rust `retrace_len` survives". It leaves the tolerance of its last pass.

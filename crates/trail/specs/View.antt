@@ -11,7 +11,7 @@ use Rattle.crumbs.specs.Crumb.{whole, capacity, crumbs, behind}
 use Rattle.trail.specs.declared.Trail.{Trail}
 use Rattle.trail.specs.declared.Recorded.{Recorded}
 use Rattle.trail.specs.Notes.{thinnedIn}
-use Rattle.trail.specs.Trail.{windowPlaces, Track, Rule, realong, fresh}
+use Rattle.trail.specs.Trail.{windowPlaces, Track, Rule, fresh}
 
 -- "places at 2i and 2i+1": the place i of the window's numbers
 unfoldable pub placeAt : List Float → ℕ → Point
@@ -54,12 +54,6 @@ pub record Follows (rule : ℕ → Rule) (t : Trail) (entry : List Float) (r : T
 pub record Records (rule : ℕ → Rule) (t : Trail) (entry : List Float) (r : Recorded) (exit : List Float) : Type 0 where
   pub follows : Follows rule t entry (r .trail) exit
   pub thinned : r .thinned ≡ thinnedIn (rule (capacity (length entry)) (track t entry) .notes)
-
--- Along is recomputed over the first n crumbs of a buffer.
-pub record Realongs (n : ℕ) (entry exit : List Float) : Type 0 where
-  pub held : crumbs n exit ≡ realong (crumbs n entry)
-  pub beyond : behind n exit ≡ behind n entry
-  pub size : length exit ≡ length entry
 
 -- A rule that needs no buffer is followed, whatever the buffer.
 pub record Changes (rule : Rule) (t r : Trail) : Type 0 where

@@ -6,13 +6,13 @@ use crumbs::Crumb;
 use plane::Point;
 use thin::Thinned;
 ghost use mathlib.Core.Path.{_≡_};
-ghost use mathlib.Core.Option.{some, Option·map, Option·getD};
+ghost use mathlib.Core.Option.{Option·getD};
 ghost use Prim.Native.Nat.{_<_, _≤_};
 ghost use lib.ListN.{length};
-ghost use Rattle.crumbs.specs.Crumb.{capacity, point, crumbs as held};
+ghost use Rattle.crumbs.specs.Crumb.{capacity};
 ghost use Rattle.crumbs.specs.Choice.{last};
-ghost use Rattle.trail.specs.Trail.{windowPlaces, startOf, alongTo, recordedM, strays, thin, put, keep, flush, wait, simplify, add, reset};
-ghost use Rattle.trail.specs.View.{placeAt, places, Emptied, Changes, Realongs, Fit, Follows, Records};
+ghost use Rattle.trail.specs.Trail.{windowPlaces, strays, thin, put, keep, flush, wait, simplify, add, reset};
+ghost use Rattle.trail.specs.View.{placeAt, places, Emptied, Changes, Fit, Follows, Records};
 
 // Fixes closer than this to the last one add nothing to the breadcrumb.
 pub const MIN_STEP_M: f32 = 5.0;
@@ -119,60 +119,6 @@ fn strays(window: &[f32; 96], window_len: usize, anchor: Point, p: Point, tolera
     false
 }
 
-// Where the breadcrumb ends: its last crumb.
-pub fn end(crumbs: &[f32], len: usize) -> Point
-    requires { ⌜ (0 < len) × (len ≤ capacity (length (now crumbs))) ⌝ }
-    ensures { λ r. ⌜ some r ≡ Option·map point (last (held len (now (crumbs .entry)))) ⌝ }
-{
-    crumbs::point_at(crumbs, len - 1)
-}
-
-// Where the ride began: its first crumb, or `p` where none is held.
-pub fn start(crumbs: &[f32], len: usize, p: Point) -> Point
-    requires { ⌜ len ≤ capacity (length (now crumbs)) ⌝ }
-    ensures { λ r. ⌜ r ≡ startOf (held len (now (crumbs .entry))) p ⌝ }
-{
-    if len == 0 {
-        return p;
-    }
-    crumbs::point_at(crumbs, 0)
-}
-
-// How far along the line `p` lies, which comes next after the crumb `a`.
-fn along_to(a: Crumb, p: Point) -> f32
-    ensures { λ r. ⌜ r ≡ alongTo a p ⌝ }
-{
-    a.along + plane::distance(crumbs::point(a), p)
-}
-
-// The breadcrumb's length from the start to `p`.
-pub fn recorded_m(crumbs: &[f32], len: usize, p: Point) -> f32
-    requires { ⌜ len ≤ capacity (length (now crumbs)) ⌝ }
-    ensures { λ r. ⌜ r ≡ recordedM (held len (now (crumbs .entry))) p ⌝ }
-{
-    if len == 0 {
-        return 0.0;
-    }
-    along_to(crumbs::crumb_at(crumbs, len - 1), p)
-}
-
-// Distances along follow the thinned line.
-fn realong(crumbs: &mut [f32], len: usize)
-    requires { ⌜ len ≤ capacity (length (now crumbs)) ⌝ }
-    ensures { λ _. ⌜ Realongs len (now (crumbs .entry)) (now (crumbs .exit)) ⌝ }
-{
-    for i in 1..len {
-        let a = crumbs::crumb_at(crumbs, i - 1);
-        let p = crumbs::point_at(crumbs, i);
-        let c = Crumb {
-            east: p.east,
-            north: p.north,
-            along: along_to(a, p),
-        };
-        crumbs::put(crumbs, i, c);
-    }
-}
-
 // Thin the full breadcrumb in place until a quarter of it is free. The crumbs that a turn-round would
 // go back to may be gone, so one that is under way is forgotten.
 fn thin(t: Trail, crumbs: &mut [f32]) -> Trail
@@ -187,7 +133,7 @@ fn thin(t: Trail, crumbs: &mut [f32]) -> Trail
     else {
         return t;
     };
-    realong(crumbs, len);
+    along::realong(crumbs, len);
     let mut left = t;
     left.len = len;
     left.tolerance = tolerance;
@@ -204,7 +150,7 @@ fn put(t: Trail, crumbs: &mut [f32], p: Point) -> Trail
     let c = Crumb {
         east: p.east,
         north: p.north,
-        along: recorded_m(crumbs, len, p),
+        along: along::recorded_m(crumbs, len, p),
     };
     crumbs::put(crumbs, len, c);
     Trail { len: len + 1, ..t }
@@ -280,7 +226,7 @@ pub fn add(t: Trail, crumbs: &mut [f32], p: Point) -> Recorded
     if t.len == 0 {
         return keep(t, crumbs, p);
     }
-    let anchor = end(crumbs, t.len);
+    let anchor = along::end(crumbs, t.len);
     if plane::distance(last(&t.window, t.window_len, anchor), p) < MIN_STEP_M {
         return Recorded {
             trail: t,

@@ -5,7 +5,7 @@ use Rattle.binary32.specs.Limits.{plusZero}
 use lib.Ieee.{Float, ofBits}
 use Rattle.plane.specs.declared.Point.{Point}
 use Rattle.crumbs.specs.Crumb.{crumbs}
-use Rattle.trail.specs.Trail.{recordedM, startOf}
+use Rattle.along.specs.Along.{recordedM, startOf}
 use Rattle.trail.specs.View.{track}
 use Rattle.state.specs.declared.Mode.the-variants as mode
 use Rattle.state.specs.declared.Event.the-variants as event

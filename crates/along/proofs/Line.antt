@@ -15,8 +15,7 @@ use Rattle.crumbs.specs.Crumb.{capacity, crumbAt, putAt, crumbs, behind, point}
 use Rattle.crumbs.specs.Choice.{last}
 use Rattle.crumbs.proofs.Choices.{last-snoc}
 use Rattle.crumbs.proofs.Crumbs.{length-crumbs, getD-crumbs, drop-crumbs, take-crumbs, crumbs-put, behind-put, length-put, put-same}
-use Rattle.trail.specs.Trail.{crumbOf, alongTo, alongBehind, recordedM, startOf, realongBehind, realong}
-use Rattle.trail.specs.View.{Realongs}
+use Rattle.along.specs.Along.{crumbOf, alongTo, alongBehind, recordedM, startOf, realongBehind, realong, Realongs}
 
 -- ---- the last and the first crumb of a buffer
 last-is : (n : ℕ) (b : List Float) → crumbs (suc n) b ≡ crumbs n b ++ crumbAt b n ∷ []

@@ -1,10 +1,10 @@
--- `trail::start` is the place of the first crumb, if there is one.
+-- `along::start` is the place of the first crumb, if there is one.
 use mathlib.Core.Path.{sym, _∙_}
 use native.Mathlib.Omega.{arith}
-use Rattle.trail.proofs.Line.{start-none, start-some}
+use Rattle.along.proofs.Line.{start-none, start-some}
 use borrow.Author.Needs.{needs}
-use Rattle.trail.proofs.start.Statement.{statement}
-use Rattle.trail.proofs.start.Tie as tie
+use Rattle.along.proofs.start.Statement.{statement}
+use Rattle.along.proofs.start.Tie as tie
 
 returns : tie.Need-returns
 returns c = rw (c .if1 .taken) (sym (start-none _ _))

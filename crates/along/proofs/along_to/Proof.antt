@@ -1,8 +1,8 @@
--- `trail::along_to` adds the distance.
-use Rattle.trail.specs.Trail.{alongTo}
+-- `along::along_to` adds the distance.
+use Rattle.along.specs.Along.{alongTo}
 use borrow.Author.Needs.{needs}
-use Rattle.trail.proofs.along_to.Statement.{statement}
-use Rattle.trail.proofs.along_to.Tie as tie
+use Rattle.along.proofs.along_to.Statement.{statement}
+use Rattle.along.proofs.along_to.Tie as tie
 
 point-requires : tie.Need-point-requires
 point-requires c κs = search needs

@@ -1,12 +1,12 @@
--- `trail::end` is the place of the last crumb.
+-- `along::end` is the place of the last crumb.
 use mathlib.Core.Path.{sym, ap, _∙_}
 use mathlib.Core.Option.{some, Option·map}
 use native.Mathlib.Omega.{arith}
 use Rattle.crumbs.specs.Crumb.{point}
-use Rattle.trail.proofs.Line.{last-crumbs}
+use Rattle.along.proofs.Line.{last-crumbs}
 use borrow.Author.Needs.{needs}
-use Rattle.trail.proofs.end.Statement.{statement}
-use Rattle.trail.proofs.end.Tie as tie
+use Rattle.along.proofs.end.Statement.{statement}
+use Rattle.along.proofs.end.Tie as tie
 
 sub-point-at : tie.Need-sub-point-at
 sub-point-at c = search needs

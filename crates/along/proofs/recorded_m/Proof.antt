@@ -1,12 +1,12 @@
--- `trail::recorded_m` measures on from the last crumb, if there is one.
+-- `along::recorded_m` measures on from the last crumb, if there is one.
 use mathlib.Core.Path.{sym, ap, _∙_}
 use native.Mathlib.Omega.{arith}
 use lib.Ieee.{ofBits}
-use Rattle.trail.specs.Trail.{alongTo}
-use Rattle.trail.proofs.Line.{recorded-none, recorded-some}
+use Rattle.along.specs.Along.{alongTo}
+use Rattle.along.proofs.Line.{recorded-none, recorded-some}
 use borrow.Author.Needs.{needs}
-use Rattle.trail.proofs.recorded_m.Statement.{statement}
-use Rattle.trail.proofs.recorded_m.Tie as tie
+use Rattle.along.proofs.recorded_m.Statement.{statement}
+use Rattle.along.proofs.recorded_m.Tie as tie
 
 returns : tie.Need-returns
 unfolding ofBits

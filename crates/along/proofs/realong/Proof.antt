@@ -1,9 +1,9 @@
--- `trail::realong` recomputes along from the second crumb on.
+-- `along::realong` recomputes along from the second crumb on.
 use Prim.Native.Nat.{_-_}
 use borrow.Author.Needs.{needs}
-use Rattle.trail.proofs.Line.{Going, going-start, going-on, going-end}
-use Rattle.trail.proofs.realong.Statement.{statement}
-use Rattle.trail.proofs.realong.Tie as tie
+use Rattle.along.proofs.Line.{Going, going-start, going-on, going-end}
+use Rattle.along.proofs.realong.Statement.{statement}
+use Rattle.along.proofs.realong.Tie as tie
 
 abbrev Inv-loop : tie.InvT-loop
 Inv-loop crumbs₀ len i₀ crumbs i = Going len crumbs₀ crumbs i
