@@ -1,9 +1,9 @@
--- `segments::against` meets its contract: the tests are the rule's. Assumes nothing.
+-- `turns::against` meets its contract: the tests are the rule's. Assumes nothing.
 use borrow.Author.Tests.{le-leb, lt-leb}
 use borrow.Author.Needs.{needs}
-use Rattle.segments.specs.Turn.{against}
-use Rattle.segments.proofs.against.Statement.{statement}
-use Rattle.segments.proofs.against.Tie as tie
+use Rattle.turns.specs.Turn.{against}
+use Rattle.turns.proofs.against.Statement.{statement}
+use Rattle.turns.proofs.against.Tie as tie
 
 enum-known-heading : tie.Need-enum-known-heading
 enum-known-heading c = search needs

@@ -1,9 +1,9 @@
--- `segments::turned_from` meets its contract: a bearing is below a whole turn. Assumes nothing.
+-- `turns::turned_from` meets its contract: a bearing is below a whole turn. Assumes nothing.
 use borrow.Author.Needs.{needs}
 use Rattle.plane.proofs.Theorems.{bearing-below}
-use Rattle.segments.specs.Turn.{turnedFrom}
-use Rattle.segments.proofs.turned_from.Statement.{statement}
-use Rattle.segments.proofs.turned_from.Tie as tie
+use Rattle.turns.specs.Turn.{turnedFrom}
+use Rattle.turns.proofs.turned_from.Statement.{statement}
+use Rattle.turns.proofs.turned_from.Tie as tie
 
 point-requires : tie.Need-point-requires
 point-requires c κs = search needs

@@ -1,9 +1,9 @@
--- `segments::turned` meets its contract: in 32 bits nothing overflows. Assumes nothing.
+-- `turns::turned` meets its contract: in 32 bits nothing overflows. Assumes nothing.
 use mathlib.Core.Path.{refl}
 use borrow.Author.Needs.{needs}
-use Rattle.segments.specs.Turn.{turned}
-use Rattle.segments.proofs.turned.Statement.{statement}
-use Rattle.segments.proofs.turned.Tie as tie
+use Rattle.turns.specs.Turn.{turned}
+use Rattle.turns.proofs.turned.Statement.{statement}
+use Rattle.turns.proofs.turned.Tie as tie
 
 cast-result : tie.Need-cast-result
 cast-result c = search needs

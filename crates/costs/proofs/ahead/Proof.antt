@@ -1,11 +1,11 @@
--- `segments::ahead` meets its contract: the tests are the rule's. Assumes nothing.
+-- `costs::ahead` meets its contract: the tests are the rule's. Assumes nothing.
 use borrow.Author.Needs.{needs}
 use lib.Ieee.{ofBits}
 use Rattle.binary32.specs.Arithmetic.{constant}
-use Rattle.segments.specs.Constants.{onM}
-use Rattle.segments.specs.Cost.{ahead}
-use Rattle.segments.proofs.ahead.Statement.{statement}
-use Rattle.segments.proofs.ahead.Tie as tie
+use Rattle.costs.specs.Constants.{onM}
+use Rattle.costs.specs.Cost.{ahead}
+use Rattle.costs.proofs.ahead.Statement.{statement}
+use Rattle.costs.proofs.ahead.Tie as tie
 
 against-requires : tie.Need-against-requires
 against-requires c κs = search needs

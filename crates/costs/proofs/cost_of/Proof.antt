@@ -1,8 +1,8 @@
--- `segments::cost_of` meets its contract: each ranking has its own cost. Assumes nothing.
+-- `costs::cost_of` meets its contract: each ranking has its own cost. Assumes nothing.
 use borrow.Author.Needs.{needs}
-use Rattle.segments.specs.Cost.{costOf}
-use Rattle.segments.proofs.cost_of.Statement.{statement}
-use Rattle.segments.proofs.cost_of.Tie as tie
+use Rattle.costs.specs.Cost.{costOf}
+use Rattle.costs.proofs.cost_of.Statement.{statement}
+use Rattle.costs.proofs.cost_of.Tie as tie
 
 enum-told : tie.Need-enum-told
 enum-told c = search needs

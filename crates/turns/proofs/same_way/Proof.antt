@@ -1,10 +1,10 @@
--- `segments::same_way` meets its contract: the tests are the rule's. Assumes nothing.
+-- `turns::same_way` meets its contract: the tests are the rule's. Assumes nothing.
 use borrow.Author.Tests.{le-leb, lt-leb}
 use borrow.Author.Needs.{needs}
-use Rattle.segments.specs.Turn.{sameWay}
-use Rattle.segments.proofs.Testing.{ltb-not}
-use Rattle.segments.proofs.same_way.Statement.{statement}
-use Rattle.segments.proofs.same_way.Tie as tie
+use Rattle.turns.specs.Turn.{sameWay}
+use Rattle.turns.proofs.Testing.{ltb-not}
+use Rattle.turns.proofs.same_way.Statement.{statement}
+use Rattle.turns.proofs.same_way.Tie as tie
 
 turned-from-requires : tie.Need-turned-from-requires
 turned-from-requires c κs = search needs

@@ -1,11 +1,11 @@
--- `segments::contrary` meets its contract: the test is the rule's. Assumes nothing.
+-- `costs::contrary` meets its contract: the test is the rule's. Assumes nothing.
 use borrow.Author.Needs.{needs}
 use lib.Ieee.{ofBits}
 use Rattle.binary32.specs.Arithmetic.{constant}
-use Rattle.segments.specs.Constants.{againstM}
-use Rattle.segments.specs.Cost.{contrary}
-use Rattle.segments.proofs.contrary.Statement.{statement}
-use Rattle.segments.proofs.contrary.Tie as tie
+use Rattle.costs.specs.Constants.{againstM}
+use Rattle.costs.specs.Cost.{contrary}
+use Rattle.costs.proofs.contrary.Statement.{statement}
+use Rattle.costs.proofs.contrary.Tie as tie
 
 against-requires : tie.Need-against-requires
 against-requires c κs = search needs

@@ -1,11 +1,11 @@
--- `segments::on` meets its contract: each operation is the rule's. Assumes nothing.
+-- `costs::on` meets its contract: each operation is the rule's. Assumes nothing.
 use borrow.Author.Needs.{needs}
 use lib.Ieee.{ofBits}
 use Rattle.binary32.specs.Arithmetic.{constant}
-use Rattle.segments.specs.Constants.{onM, slipM}
-use Rattle.segments.specs.Cost.{on, back}
-use Rattle.segments.proofs.on.Statement.{statement}
-use Rattle.segments.proofs.on.Tie as tie
+use Rattle.costs.specs.Constants.{onM, slipM}
+use Rattle.costs.specs.Cost.{on, back}
+use Rattle.costs.proofs.on.Statement.{statement}
+use Rattle.costs.proofs.on.Tie as tie
 
 max-zero-requires : tie.Need-max-zero-requires
 max-zero-requires c κs = search needs

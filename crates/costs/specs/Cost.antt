@@ -5,13 +5,13 @@ use Rattle.binary32.specs.Arithmetic.{_⊕_, _⊖_}
 use Rattle.binary32.specs.Limits.{plusZero, maxZero}
 use Rattle.plane.specs.declared.Heading.{Heading}
 use Rattle.crumbs.specs.declared.Crumb.{Crumb}
-use Rattle.segments.specs.declared.Nearest.{Nearest}
-use Rattle.segments.specs.declared.Cost.{Cost}
-use Rattle.segments.specs.declared.Cost.the-variants.{Out, Metres}
-use Rattle.segments.specs.declared.Ranking.{Ranking}
-use Rattle.segments.specs.declared.Ranking.the-variants.{Plain, On, Ahead}
-use Rattle.segments.specs.Constants.{onM, slipM, againstM}
-use Rattle.segments.specs.Turn.{against}
+use Rattle.turns.specs.Turn.{against}
+use Rattle.costs.specs.declared.Nearest.{Nearest}
+use Rattle.costs.specs.declared.Cost.{Cost}
+use Rattle.costs.specs.declared.Cost.the-variants.{Out, Metres}
+use Rattle.costs.specs.declared.Ranking.{Ranking}
+use Rattle.costs.specs.declared.Ranking.the-variants.{Plain, On, Ahead}
+use Rattle.costs.specs.Constants.{onM, slipM, againstM}
 
 -- how far off it is
 unfoldable pub plain : Nearest → Cost
