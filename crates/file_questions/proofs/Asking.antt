@@ -19,13 +19,13 @@ use mir.ValLaws.{toZ-ofZ}
 use Rattle.state.specs.declared.Place.{Place}
 use Rattle.state.specs.declared.Place.the-variants as place
 use Rattle.calls.specs.Questions.{asksFix, _orElse_}
 use Rattle.log.specs.declared.Utc.the-variants as utc
 use Rattle.log.specs.declared.Sample.{Sample}
 use Rattle.log.specs.declared.Entry.{Entry}
 use Rattle.log.specs.Entry.{nextOf, recordCount, walk, chain, used, kindNumber, entryAt}
 use Rattle.calls.specs.Calls.{asksPlace}
-use Rattle.log.specs.Questions.{question6, question7, question8, asksSamples, asksEntry, asksRecord, asksRecords, asksChain, asksFile}
-use Rattle.log.proofs.Chain.{and-left, and-right, ends, steps-are}
+use Rattle.file_questions.specs.Questions.{question6, question7, question8, asksSamples, asksEntry, asksRecord, asksRecords, asksChain, asksFile}
+use Rattle.file_questions.proofs.Chain.{and-left, and-right, ends, steps-are}
 
 -- ---- the count of steps
 ends-out : (n count : ℕ) (f : List ℕ) (r : ℕ) → r ≢ 0 → count ≤ r → ends n count f r ≡ false

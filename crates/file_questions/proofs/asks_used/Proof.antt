@@ -1,12 +1,12 @@
--- `log::asks_used` meets its contract: the samples up to the count are asked in their order. Assumes nothing.
+-- `file_questions::asks_used` meets its contract: the samples up to the count are asked in their order. Assumes nothing.
 use Prim.Native.Nat.{_-_}
 use mathlib.Core.Path.{_≡_}
 use lib.ListN.{length, length-map}
 use native.Mathlib.Omega.{arith}
-use Rattle.log.proofs.Asking.{Using, using-start, using-no, using-next, using-end}
+use Rattle.file_questions.proofs.Asking.{Using, using-start, using-no, using-next, using-end}
 use borrow.Author.Needs.{needs}
-use Rattle.log.proofs.asks_used.Statement.{statement}
-use Rattle.log.proofs.asks_used.Tie as tie
+use Rattle.file_questions.proofs.asks_used.Statement.{statement}
+use Rattle.file_questions.proofs.asks_used.Tie as tie
 
 abbrev Inv-loop : tie.InvT-loop
 Inv-loop e n i₀ i = Using e i

@@ -9,12 +9,12 @@ use borrow.Author.Tests.{eqb-true, eq-eqb, ltb-true, not-true}
 use lib.Dec.{leb, ltb, eqb, eqb·suc-zero}
 use lib.ListN.{length}
 use Rattle.calls.specs.Questions.{latitudeFits, longitudeFits, asksFix, _orElse_, unless}
 use Rattle.log.specs.Entry.{byteAt, u32At, u64At, i32At, signed, recordCount, nextOf, rideOf, kindNumber, countOf, sampleStart, kindOf, located, timed, placeAt, utcAt, sampleAt, sampleIf, sampleOf, samplesOf, entryAt, recovered, walk, chain, entries, used}
 use Rattle.calls.specs.Calls.{asksPlace}
-use Rattle.log.specs.Questions.{question6, question7, question8, below, stands, twice, asksSamples, asksEntry, asksRecord, asksRecords, asksChain, asksFile}
-use Rattle.log.specs.Theorems.{Accepted, EveryAccepted, Same, SameSample, SameRecord, SameRead, Alike, OnlyRead, example, Example}
-use Rattle.log.proofs.Chain.{by, and-left, and-right, ended, steps-are}
-use Rattle.log.proofs.Asking.{Counted, counted}
+use Rattle.file_questions.specs.Questions.{question6, question7, question8, below, stands, twice, asksSamples, asksEntry, asksRecord, asksRecords, asksChain, asksFile}
+use Rattle.file_questions.specs.Theorems.{Accepted, EveryAccepted, Same, SameSample, SameRecord, SameRead, Alike, OnlyRead, example, Example}
+use Rattle.file_questions.proofs.Chain.{by, and-left, and-right, ended, steps-are}
+use Rattle.file_questions.proofs.Asking.{Counted, counted}
 
 -- ---- what a file that no question refuses gives
 pub first-yes : (a b : ℕ) → (a orElse b) ≡ 0 → a ≡ 0

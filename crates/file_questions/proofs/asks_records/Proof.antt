@@ -1,8 +1,8 @@
--- `log::asks_records` meets its contract: the records along the chain are asked in its order. Assumes nothing.
+-- `file_questions::asks_records` meets its contract: the records along the chain are asked in its order. Assumes nothing.
 use native.Mathlib.Omega.{arith}
-use Rattle.log.proofs.Asking.{Walking, walking-start, walking-next, walking-no, walking-over, walking-none}
-use Rattle.log.proofs.asks_records.Statement.{statement}
-use Rattle.log.proofs.asks_records.Tie as tie
+use Rattle.file_questions.proofs.Asking.{Walking, walking-start, walking-next, walking-no, walking-over, walking-none}
+use Rattle.file_questions.proofs.asks_records.Statement.{statement}
+use Rattle.file_questions.proofs.asks_records.Tie as tie
 
 abbrev Inv-loop : tie.InvT-loop
 Inv-loop file count index₀ left₀ index left = Walking file count index left

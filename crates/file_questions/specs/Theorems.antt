@@ -6,11 +6,11 @@ use mathlib.Core.List.{List, [], _∷_, _++_}
 use lib.IntN.{pos}
 use lib.ListN.{length, replicate}
 use Rattle.state.specs.declared.Place.the-variants as place
 use Rattle.log.specs.declared.Kind.the-variants.{Samples}
 use Rattle.log.specs.declared.Utc.the-variants as utc
 use Rattle.log.specs.declared.Sample.{Sample}
 use Rattle.log.specs.Entry.{byteAt, recordCount, nextOf, countOf, sampleStart, located, timed, noSample, recovered, chain, entries}
-use Rattle.log.specs.Questions.{below, stands, twice, asksRecord, asksFile}
+use Rattle.file_questions.specs.Questions.{below, stands, twice, asksRecord, asksFile}
 
 -- ---- what a file that no question refuses gives
 -- a chain that ends: from a next of r on, the records l are reached, and then the next is 0

@@ -1,8 +1,8 @@
--- `log::question7` meets its contract: a chain of as many records as there are has reached one of them twice. Assumes nothing.
+-- `file_questions::question7` meets its contract: a chain of as many records as there are has reached one of them twice. Assumes nothing.
 use native.Mathlib.Omega.{arith}
-use Rattle.log.proofs.Asking.{Stepping, stepping-start, stepping-next, stepping-over, stepping-out, stepping-none}
-use Rattle.log.proofs.question7.Statement.{statement}
-use Rattle.log.proofs.question7.Tie as tie
+use Rattle.file_questions.proofs.Asking.{Stepping, stepping-start, stepping-next, stepping-over, stepping-out, stepping-none}
+use Rattle.file_questions.proofs.question7.Statement.{statement}
+use Rattle.file_questions.proofs.question7.Tie as tie
 
 abbrev Inv-loop : tie.InvT-loop
 Inv-loop file count index₀ left₀ index left = Stepping file count index left

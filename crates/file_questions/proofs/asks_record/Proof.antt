@@ -1,8 +1,8 @@
--- `log::asks_record` meets its contract. Assumes nothing.
-use Rattle.log.proofs.Asking.{record-kind, record-entry}
+-- `file_questions::asks_record` meets its contract. Assumes nothing.
+use Rattle.file_questions.proofs.Asking.{record-kind, record-entry}
 use borrow.Author.Needs.{needs}
-use Rattle.log.proofs.asks_record.Statement.{statement}
-use Rattle.log.proofs.asks_record.Tie as tie
+use Rattle.file_questions.proofs.asks_record.Statement.{statement}
+use Rattle.file_questions.proofs.asks_record.Tie as tie
 
 kind-number-requires : tie.Need-kind-number-requires
 kind-number-requires c κs = search needs

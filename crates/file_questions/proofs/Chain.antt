@@ -10,9 +10,9 @@ use native.Mathlib.Omega.{arith}
 use borrow.Author.Tests.{ltb-true, lt-ltb, eqb-true, eqb-false, ne-eqb}
 use lib.Dec.{ltb, eqb}
 use lib.ListN.{length}
 use Rattle.log.specs.Entry.{nextOf, walk, recordCount, chain}
-use Rattle.log.specs.Questions.{below, stands, twice, question7}
-use Rattle.log.specs.Theorems.{Ends, over, on}
+use Rattle.file_questions.specs.Questions.{below, stands, twice, question7}
+use Rattle.file_questions.specs.Theorems.{Ends, over, on}
 
 -- ---- tests
 pub by : {P : Type 0} (b : Bool) → (b ≡ true → P) → (b ≡ false → P) → P

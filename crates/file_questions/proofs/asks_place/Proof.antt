@@ -1,10 +1,10 @@
--- `log::asks_place` meets its contract. Assumes nothing.
+-- `file_questions::asks_place` meets its contract. Assumes nothing.
 use mathlib.Core.Path.{sym, ap}
 use Rattle.calls.specs.Calls.{asksPlace}
-use Rattle.log.proofs.Asking.{place-asked}
+use Rattle.file_questions.proofs.Asking.{place-asked}
 use borrow.Author.Needs.{needs}
-use Rattle.log.proofs.asks_place.Statement.{statement}
-use Rattle.log.proofs.asks_place.Tie as tie
+use Rattle.file_questions.proofs.asks_place.Statement.{statement}
+use Rattle.file_questions.proofs.asks_place.Tie as tie
 
 enum-known-place : tie.Need-enum-known-place
 enum-known-place c = search needs

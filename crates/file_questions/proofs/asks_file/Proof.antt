@@ -1,11 +1,11 @@
--- `log::asks_file` meets its contract: the size, the chain whole, then its records. Assumes nothing.
+-- `file_questions::asks_file` meets its contract: the size, the chain whole, then its records. Assumes nothing.
 use mathlib.Core.Path.{refl}
 use native.Mathlib.Omega.{arith}
 use Rattle.log.specs.Entry.{recordCount}
-use Rattle.log.proofs.Asking.{counted, file-size, file-chain, file-records}
+use Rattle.file_questions.proofs.Asking.{counted, file-size, file-chain, file-records}
 use borrow.Author.Needs.{needs}
-use Rattle.log.proofs.asks_file.Statement.{statement}
-use Rattle.log.proofs.asks_file.Tie as tie
+use Rattle.file_questions.proofs.asks_file.Statement.{statement}
+use Rattle.file_questions.proofs.asks_file.Tie as tie
 
 question6-requires : tie.Need-question6-requires
 question6-requires c κs = search needs

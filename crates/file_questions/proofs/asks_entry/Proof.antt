@@ -1,9 +1,9 @@
--- `log::asks_entry` meets its contract. Assumes nothing.
+-- `file_questions::asks_entry` meets its contract. Assumes nothing.
 use borrow.Author.Tests.{le-leb, lt-leb}
-use Rattle.log.specs.Questions.{asksEntry}
+use Rattle.file_questions.specs.Questions.{asksEntry}
 use borrow.Author.Needs.{needs}
-use Rattle.log.proofs.asks_entry.Statement.{statement}
-use Rattle.log.proofs.asks_entry.Tie as tie
+use Rattle.file_questions.proofs.asks_entry.Statement.{statement}
+use Rattle.file_questions.proofs.asks_entry.Tie as tie
 
 returns : tie.Need-returns
 unfolding asksEntry

@@ -10,11 +10,11 @@ use borrow.Author.Tests.{eq-eqb}
 use lib.Dec.{eqb}
 use lib.ListN.{drop, getElem?}
 use Rattle.calls.specs.Questions.{unless}
 use Rattle.log.specs.Entry.{nextOf, kindNumber, entryAt, chain, entries, slot}
-use Rattle.log.specs.Questions.{stands, question8, asksEntry, asksRecord}
-use Rattle.log.specs.Theorems.{Ends, Accepted}
-use Rattle.log.proofs.Chain.{ends-over, ends-on}
-use Rattle.log.proofs.Theorems.{first-yes, then-yes, said-yes}
+use Rattle.file_questions.specs.Questions.{stands, question8, asksEntry, asksRecord}
+use Rattle.file_questions.specs.Theorems.{Ends, Accepted}
+use Rattle.file_questions.proofs.Chain.{ends-over, ends-on}
+use Rattle.file_questions.proofs.Theorems.{first-yes, then-yes, said-yes}
 
 -- ---- a list from place k on
 module _ {A : Type 0} (g : ℕ → A) where
