@@ -24,7 +24,7 @@ use Rattle.crumbs.specs.Crumb.{capacity, point}
 use Rattle.crumbs.specs.Choice.{Choice, end, leave, strike, last}
 use Rattle.motion.specs.Heading.{elapsed}
 use Rattle.thin.proofs.Theorems.{thins-any}
-use Rattle.segments.specs.declared.Nearest.{Nearest}
+use Rattle.costs.specs.declared.Nearest.{Nearest}
 use Rattle.segments.specs.declared.Best.{Best}
 use Rattle.segments.specs.declared.Best.the-variants.{Nothing, Found}
 use Rattle.search.specs.declared.Join.{Join}

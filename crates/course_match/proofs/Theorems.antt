@@ -4,11 +4,11 @@ use mathlib.Core.Bool.{Bool, true, false}
 use mathlib.Core.List.{List}
 use Rattle.plane.specs.declared.Point.{Point}
 use Rattle.crumbs.specs.declared.Crumb.{Crumb}
-use Rattle.segments.specs.declared.Nearest.{Nearest}
+use Rattle.costs.specs.declared.Nearest.{Nearest}
+use Rattle.costs.specs.declared.Ranking.{Ranking}
+use Rattle.costs.specs.declared.Ranking.the-variants.{Plain, Ahead}
 use Rattle.segments.specs.declared.Best.{Best}
 use Rattle.segments.specs.declared.Best.the-variants.{Nothing, Found}
-use Rattle.segments.specs.declared.Ranking.{Ranking}
-use Rattle.segments.specs.declared.Ranking.the-variants.{Plain, Ahead}
 use Rattle.search.specs.declared.Range.{Range}
 use Rattle.course_match.specs.declared.Progress.{Progress}
 use Rattle.course_match.specs.Course.{inReach, afterGap, slidesBack, orElse, settled, onNear, matched, nearestOnCourse}

@@ -9,17 +9,18 @@ use Rattle.plane.specs.declared.Spot.{Spot}
 use Rattle.plane.specs.declared.Spot.the-variants.{At, Nowhere}
 use Rattle.plane.specs.Plane.{distance}
 use Rattle.crumbs.specs.declared.Crumb.{Crumb}
-use Rattle.segments.specs.declared.Nearest.{Nearest}
+use Rattle.costs.specs.declared.Nearest.{Nearest}
+use Rattle.costs.specs.declared.Ranking.{Ranking}
+use Rattle.costs.specs.declared.Ranking.the-variants.{Plain, On, Ahead}
 use Rattle.segments.specs.declared.Best.{Best}
 use Rattle.segments.specs.declared.Best.the-variants.{Nothing, Found}
-use Rattle.segments.specs.declared.Ranking.{Ranking}
-use Rattle.segments.specs.declared.Ranking.the-variants.{Plain, On, Ahead}
 use Rattle.search.specs.declared.Range.{Range}
 use Rattle.segments.specs.declared.Stretch.{Stretch}
 use Rattle.course_match.specs.declared.Progress.{Progress}
-use Rattle.segments.specs.Constants.{jumpM, backM, nearM, slipM, hopM}
+use Rattle.turns.specs.Turn.{against}
+use Rattle.costs.specs.Constants.{slipM}
+use Rattle.segments.specs.Constants.{jumpM, backM, nearM, hopM}
 use Rattle.segments.specs.Line.{at}
-use Rattle.segments.specs.Turn.{against}
 use Rattle.search.specs.Search.{nearestWithin}
 
 -- ---- the course while it is followed

@@ -1,18 +1,18 @@
 // The segment of the followed course that the rider is on.
 
+use costs::Nearest;
+use costs::Ranking;
 use plane::Heading;
 use plane::Point;
 use plane::Spot;
 use search::Range;
 use segments::Best;
-use segments::Nearest;
-use segments::Ranking;
 use segments::Stretch;
 ghost use mathlib.Core.Path.{_≡_};
 ghost use Prim.Native.Nat.{_≤_, _<_};
 ghost use lib.ListN.{length};
 ghost use Rattle.crumbs.specs.Crumb.{capacity, crumbs};
-ghost use Rattle.segments.specs.Cost.{on};
+ghost use Rattle.costs.specs.Cost.{on};
 ghost use Rattle.course_match.specs.Course.{afterGap, around, inReach, onNear, slidesBack, orElse, settled, nearestOnCourse};
 ghost use Rattle.search.specs.Along.{ends};
 
@@ -71,10 +71,10 @@ fn slides_back(line: &[f32], len: usize, was: Progress, near: Nearest) -> bool
     requires { ⌜ (1 ≤ near .end) × (near .end < len) × (len ≤ capacity (length (now line))) ⌝ }
     ensures { λ r. ⌜ r ≡ slidesBack (crumbs len (now (line .entry))) was near ⌝ }
 {
-    if near.along > was.reached + segments::SLIP_M {
+    if near.along > was.reached + costs::SLIP_M {
         let end = near.end;
         let heading = was.heading;
-        return segments::against(
+        return turns::against(
             heading,
             segments::crumb(line, len, end - 1),
             segments::crumb(line, len, end),

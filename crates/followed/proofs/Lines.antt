@@ -10,7 +10,7 @@ use Rattle.plane.specs.declared.Point.{Point}
 use Rattle.crumbs.specs.declared.Crumb.{Crumb}
 use Rattle.crumbs.specs.Crumb.{crumbs}
 use Rattle.crumbs.proofs.Crumbs.{length-crumbs}
-use Rattle.segments.specs.declared.Nearest.{Nearest}
+use Rattle.costs.specs.declared.Nearest.{Nearest}
 use Rattle.segments.specs.declared.Best.{Best}
 use Rattle.segments.specs.declared.Best.the-variants.{Nothing, Found}
 use Rattle.search.specs.declared.Range.{Range}

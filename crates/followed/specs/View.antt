@@ -1,7 +1,7 @@
 -- What a state's two lent buffers have room for, and where on the followed line a match lies.
 use Prim.Native.Nat.{ℕ, _≤_, _<_}
 use Rattle.crumbs.specs.Crumb.{capacity}
-use Rattle.segments.specs.declared.Nearest.{Nearest}
+use Rattle.costs.specs.declared.Nearest.{Nearest}
 use Rattle.state.specs.declared.Line.{Line}
 use Rattle.state.specs.declared.Line.the-variants as line
 use Rattle.state.specs.declared.Homing.{Homing}

@@ -1,10 +1,10 @@
 // The followed line: how long it is, its segment nearest the rider, and the way on along it.
 
+use costs::Nearest;
 use course_match::Progress;
 use plane::Point;
 use search::Range;
 use segments::Best;
-use segments::Nearest;
 use state::Homing;
 use state::Line;
 use state::Mode;

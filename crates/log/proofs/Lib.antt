@@ -1,6 +1,2 @@
 pub mod Numbers
-pub mod Samples
-pub mod Chain
-pub mod Asking
-pub mod Theorems
-pub mod Slots
+mod Samples

@@ -1,9 +1,9 @@
 // What a match on the followed line says: on it or off it, whether it is reminded of, and where the next is looked for.
 
+use costs::Nearest;
 use plane::Point;
 use plane::Spot;
 use segments::Best;
-use segments::Nearest;
 use state::Course;
 use state::Event;
 use state::Follow;
@@ -14,7 +14,7 @@ ghost use Prim.Native.Nat.{_+_, _-_, _<_, min, max};
 ghost use lib.Ieee.{lt};
 ghost use Rattle.matching.specs.Match.{onCourse, onLine, searchBack, searchAhead, nearer, offM, offNow, smaller, stillOff, offEvent, due, remindedAt, followMatched, courseMatched};
 
-// Off the line beyond this, back on within `segments::ON_M`.
+// Off the line beyond this, back on within `costs::ON_M`.
 const OFF_M: f32 = 50.0;
 
 // Segments behind and ahead of the last match searched first.
@@ -49,12 +49,12 @@ pub fn on_line(line: Line) -> bool
 
 // ---- the match
 
-// Off sets above `OFF_M`, and clears within `segments::ON_M`.
+// Off sets above `OFF_M`, and clears within `costs::ON_M`.
 pub fn off_now(was: bool, off: f32) -> bool
     ensures { λ r. ⌜ r ≡ offNow was off ⌝ }
 {
     if was {
-        return off > segments::ON_M;
+        return off > costs::ON_M;
     }
     off > OFF_M
 }

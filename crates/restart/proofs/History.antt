@@ -34,9 +34,9 @@ use Rattle.log.specs.declared.Utc.{Utc}
 use Rattle.log.specs.declared.Sample.{Sample}
 use Rattle.log.specs.declared.Entry.{Entry}
 use Rattle.log.specs.Entry.{entryAt, slot, used}
-use Rattle.log.specs.Questions.{asksSamples, asksEntry, asksFile}
-use Rattle.log.proofs.Theorems.{every-accepted, first-yes, then-yes}
-use Rattle.log.proofs.Slots.{Before, slot-none, slot-here, slot-asked, record-entry}
+use Rattle.file_questions.specs.Questions.{asksSamples, asksEntry, asksFile}
+use Rattle.file_questions.proofs.Theorems.{every-accepted, first-yes, then-yes}
+use Rattle.file_questions.proofs.Slots.{Before, slot-none, slot-here, slot-asked, record-entry}
 use Rattle.rebuild.specs.declared.Stage.{Stage}
 use Rattle.rebuild.specs.declared.Stage.the-variants as stage
 use Rattle.rebuild.specs.declared.Rebuild.{Rebuild}

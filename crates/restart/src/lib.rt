@@ -16,7 +16,7 @@ ghost use lib.ListN.{length};
 ghost use Rattle.trail.specs.View as trail;
 ghost use Rattle.state.specs.State.{stateOf};
 ghost use Rattle.log.specs.Entry.{slot as slotOf};
-ghost use Rattle.log.specs.Questions.{asksFile};
+ghost use Rattle.file_questions.specs.Questions.{asksFile};
 ghost use Rattle.rebuild.specs.Rebuild as rule;
 ghost use Rattle.rebuild.specs.View.{Makes};
 ghost use mathlib.Core.Option.{some};
@@ -168,7 +168,7 @@ fn asks_step(h: Homing, crumbs: &[f32], file: &[u8]) -> u8
     if number != 0 {
         return number;
     }
-    log::asks_file(file)
+    file_questions::asks_file(file)
 }
 
 // Read up to `budget` more slots below `upper` of the file into the breadcrumb; yes once every slot is

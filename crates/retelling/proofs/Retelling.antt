@@ -27,7 +27,7 @@ use Rattle.answers.specs.Answers.{saysVerdict}
 use Rattle.taken.specs.Taken.{start}
 use Rattle.taken.proofs.Taken.{taken}
 use Rattle.log.specs.Entry.{recovered, slot}
-use Rattle.log.specs.Questions.{asksFile}
+use Rattle.file_questions.specs.Questions.{asksFile}
 use Rattle.rebuild.specs.declared.Rebuild.{Rebuild}
 use Rattle.rebuild.specs.declared.Visited.{Visited}
 use Rattle.rebuild.specs.Made.{effect}

@@ -12,9 +12,9 @@ use lib.Dec.{eqb, leb}
 use lib.ListN.{length, take, getElem?, length-take}
 use lib.Seq.{take-all}
 use Rattle.log.specs.Entry.{nextOf, recordCount, walk, chain, entryAt, entries, slot}
-use Rattle.log.specs.Questions.{question6, asksChain, asksRecords, asksFile}
-use Rattle.log.specs.Theorems.{Accepted}
-use Rattle.log.proofs.Theorems.{accepted}
+use Rattle.file_questions.specs.Questions.{question6, asksChain, asksRecords, asksFile}
+use Rattle.file_questions.specs.Theorems.{Accepted}
+use Rattle.file_questions.proofs.Theorems.{accepted}
 use Rattle.rebuild.specs.Rebuild.{step}
 use Rattle.rebuild.proofs.Theorems.{caught-up}
 use Rattle.retelling.specs.Text.{refusedText}

@@ -10,7 +10,7 @@ use lib.ListN.{length, take, drop}
 use Rattle.crumbs.specs.declared.Crumb.{Crumb}
 use Rattle.calls.specs.Line as guide
 use Rattle.log.specs.Entry.{recovered, slot}
-use Rattle.log.specs.Questions.{asksFile}
+use Rattle.file_questions.specs.Questions.{asksFile}
 use Rattle.rebuild.specs.Made.{Made, effect}
 use Rattle.rebuild.specs.Rebuild.{new, step, isDecided, caughtUp}
 use Rattle.retelling.specs.Text.{rebuiltText, refusedText}

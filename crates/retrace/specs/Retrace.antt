@@ -11,10 +11,10 @@ use Rattle.plane.specs.declared.Heading.{Heading}
 use Rattle.plane.specs.declared.Heading.the-variants.{Known, Unknown}
 use Rattle.plane.specs.Plane.{turn}
 use Rattle.crumbs.specs.declared.Crumb.{Crumb}
+use Rattle.turns.specs.Turn.{turnedFrom}
 use Rattle.segments.specs.declared.Best.{Best}
 use Rattle.segments.specs.declared.Best.the-variants.{Nothing, Found}
 use Rattle.segments.specs.Line.{at}
-use Rattle.segments.specs.Turn.{turnedFrom}
 use Rattle.search.specs.Search.{nearestOnBreadcrumb}
 use Rattle.search.specs.Along.{ends}
 use Rattle.trail.specs.Trail.{Track}

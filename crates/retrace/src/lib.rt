@@ -24,7 +24,7 @@ const RETRACE_SKIP_M: f32 = 300.0;
 fn backwards(heading: u16, a: Crumb, b: Crumb) -> bool
     ensures { λ r. ⌜ r ≡ backwards heading a b ⌝ }
 {
-    let turn = segments::turned_from(heading, a, b);
+    let turn = turns::turned_from(heading, a, b);
     if plane::TURN * 3 / 8 < turn {
         return turn < plane::TURN * 5 / 8;
     }

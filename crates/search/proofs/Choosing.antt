@@ -9,10 +9,10 @@ use native.Mathlib.Decide.{ℕ-discrete}
 use lib.Ieee.{Float, lt, le}
 use Rattle.plane.specs.declared.Point.{Point}
 use Rattle.crumbs.specs.declared.Crumb.{Crumb}
-use Rattle.segments.specs.declared.Nearest.{Nearest}
+use Rattle.costs.specs.declared.Nearest.{Nearest}
+use Rattle.costs.specs.declared.Cost.{Cost}
+use Rattle.costs.specs.declared.Cost.the-variants.{Out, Metres}
 use Rattle.segments.specs.declared.Best.the-variants.{Found}
-use Rattle.segments.specs.declared.Cost.{Cost}
-use Rattle.segments.specs.declared.Cost.the-variants.{Out, Metres}
 use Rattle.segments.specs.declared.SoFar.{SoFar}
 use Rattle.segments.specs.declared.SoFar.the-variants.{Empty, Least}
 use Rattle.search.specs.declared.Range.{Range}

@@ -4,11 +4,11 @@ use mathlib.Core.List.{List}
 use lib.ListN.{length}
 use Rattle.plane.specs.declared.Point.{Point}
 use Rattle.crumbs.specs.declared.Crumb.{Crumb}
+use Rattle.costs.specs.declared.Ranking.{Ranking}
+use Rattle.costs.specs.declared.Ranking.the-variants.{Plain}
 use Rattle.segments.specs.declared.Best.{Best}
 use Rattle.segments.specs.declared.SoFar.{SoFar}
 use Rattle.segments.specs.declared.SoFar.the-variants.{Empty}
-use Rattle.segments.specs.declared.Ranking.{Ranking}
-use Rattle.segments.specs.declared.Ranking.the-variants.{Plain}
 use Rattle.search.specs.declared.Range.{Range}
 use Rattle.segments.specs.declared.Stretch.{Stretch}
 use Rattle.segments.specs.Constants.{largest, lowest}

@@ -6,11 +6,11 @@ use mathlib.Core.List.{List}
 use lib.Ieee.{Float, lt, le}
 use Rattle.plane.specs.declared.Point.{Point}
 use Rattle.crumbs.specs.declared.Crumb.{Crumb}
-use Rattle.segments.specs.declared.Nearest.{Nearest}
+use Rattle.costs.specs.declared.Nearest.{Nearest}
+use Rattle.costs.specs.declared.Cost.{Cost}
+use Rattle.costs.specs.declared.Cost.the-variants.{Metres}
 use Rattle.segments.specs.declared.Best.{Best}
 use Rattle.segments.specs.declared.Best.the-variants.{Found}
-use Rattle.segments.specs.declared.Cost.{Cost}
-use Rattle.segments.specs.declared.Cost.the-variants.{Metres}
 use Rattle.search.specs.declared.Range.{Range}
 use Rattle.segments.specs.Segment.{nearestOn}
 

@@ -1,9 +1,9 @@
 // Searches on a whole line of crumbs: the segment nearest a position, the place a way along.
 
+use costs::Ranking;
 use crumbs::Crumb;
 use plane::Point;
 use segments::Best;
-use segments::Ranking;
 use segments::SoFar;
 use segments::Stretch;
 ghost use mathlib.Core.Path.{_≡_};
@@ -75,7 +75,7 @@ pub fn course_near(line: &[f32], len: usize, p: Point) -> Best
     while end > 1 {
         end -= 1;
         let near = segments::nearest_on(line, len, p, end);
-        best = segments::cheaper(best, near, segments::plain(near));
+        best = segments::cheaper(best, near, costs::plain(near));
     }
     closer(segments::DROP_M, segments::found(best))
 }
@@ -97,8 +97,8 @@ fn closer(most: f32, best: Best) -> Best
 fn joins(p: Point, heading: u16, a: Crumb, b: Crumb) -> bool
     ensures { λ r. ⌜ r ≡ joins p heading a b ⌝ }
 {
-    if plane::off_segment(p, crumbs::point(a), crumbs::point(b)) < segments::ON_M {
-        return segments::same_way(heading, a, b);
+    if plane::off_segment(p, crumbs::point(a), crumbs::point(b)) < costs::ON_M {
+        return turns::same_way(heading, a, b);
     }
     false
 }

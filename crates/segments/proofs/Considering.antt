@@ -6,14 +6,14 @@ use mathlib.Core.List.{List}
 use lib.Ieee.{lt}
 use Rattle.plane.specs.declared.Point.{Point}
 use Rattle.crumbs.specs.declared.Crumb.{Crumb}
-use Rattle.segments.specs.declared.Nearest.{Nearest}
-use Rattle.segments.specs.declared.Cost.{Cost}
-use Rattle.segments.specs.declared.Cost.the-variants.{Out}
+use Rattle.costs.specs.declared.Nearest.{Nearest}
+use Rattle.costs.specs.declared.Cost.{Cost}
+use Rattle.costs.specs.declared.Cost.the-variants.{Out}
+use Rattle.costs.specs.declared.Ranking.{Ranking}
+use Rattle.costs.specs.Cost.{costOf}
 use Rattle.segments.specs.declared.SoFar.{SoFar}
-use Rattle.segments.specs.declared.Ranking.{Ranking}
 use Rattle.segments.specs.declared.Stretch.{Stretch}
 use Rattle.segments.specs.Line.{at}
-use Rattle.segments.specs.Cost.{costOf}
 use Rattle.segments.specs.Segment.{meets, nearestOn, cheaper, costWithin, considered}
 
 module _ (line : List Crumb) (p : Point) (within : Stretch) (by : Ranking) (end : ℕ) (best : SoFar) where

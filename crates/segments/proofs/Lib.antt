@@ -1,4 +1,3 @@
 -- Facts that the functions' proofs share.
-pub mod Considering
-pub mod Line
-pub mod Testing
+mod Considering
+mod Line

@@ -4,12 +4,9 @@ use mathlib.Core.Bool.{true, false}
 use lib.IntN.{pos}
 use lib.Ieee.{Float, fin}
 use Rattle.binary32.specs.Arithmetic.{constant}
+use Rattle.costs.specs.Constants.{onM}
 
--- Document 01, "Guide and event": "clears at 25 m or less", "Course end: off ≤ 25"
-unfoldable pub onM : Float
-onM = constant 25 1
-
--- "Dropped above 500 m."
+-- Document 01, "Guide and event": "Dropped above 500 m."
 unfoldable pub dropM : Float
 dropM = constant 500 1
 
@@ -23,14 +20,6 @@ backM = onM
 -- how far on the stretch reaches that is matched first
 unfoldable pub nearM : Float
 nearM = constant 100 1
-
--- how far behind the furthest place reached costs nothing
-unfoldable pub slipM : Float
-slipM = constant 10 1
-
--- what a stretch against the rider's way costs
-unfoldable pub againstM : Float
-againstM = constant 5 1
 
 -- a fix further than this from the one last matched follows a gap
 unfoldable pub hopM : Float

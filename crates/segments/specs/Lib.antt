@@ -1,5 +1,3 @@
 pub mod Constants
-pub mod Cost
 pub mod Line
 pub mod Segment
-pub mod Turn

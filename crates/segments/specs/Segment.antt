@@ -7,17 +7,17 @@ use Rattle.plane.specs.declared.Point.{Point}
 use Rattle.plane.specs.Plane.{distance, project, between}
 use Rattle.crumbs.specs.declared.Crumb.{Crumb}
 use Rattle.crumbs.specs.Crumb.{point}
-use Rattle.segments.specs.declared.Nearest.{Nearest}
+use Rattle.costs.specs.declared.Nearest.{Nearest}
+use Rattle.costs.specs.declared.Cost.{Cost}
+use Rattle.costs.specs.declared.Cost.the-variants.{Out, Metres}
+use Rattle.costs.specs.declared.Ranking.{Ranking}
+use Rattle.costs.specs.Cost.{costOf}
 use Rattle.segments.specs.declared.Best.{Best}
 use Rattle.segments.specs.declared.Best.the-variants.{Nothing, Found}
-use Rattle.segments.specs.declared.Cost.{Cost}
-use Rattle.segments.specs.declared.Cost.the-variants.{Out, Metres}
 use Rattle.segments.specs.declared.SoFar.{SoFar}
 use Rattle.segments.specs.declared.SoFar.the-variants.{Empty, Least}
-use Rattle.segments.specs.declared.Ranking.{Ranking}
 use Rattle.segments.specs.declared.Stretch.{Stretch}
 use Rattle.segments.specs.Line.{at}
-use Rattle.segments.specs.Cost.{costOf}
 
 -- where p meets the segment from a to b, whose far end is `end`
 unfoldable pub meets : Crumb → Crumb → Point → ℕ → Nearest

@@ -20,7 +20,7 @@ use Rattle.thin.specs.Questions.{question9}
 use Rattle.thin.specs.Promises.{answer}
 use Rattle.lap.specs.Pass.{passArmM, passM, passEndM, fromStage, stepOf}
 use Rattle.state.specs.Guide.{arrow, arrowFrom}
-use Rattle.segments.specs.Constants.{onM}
+use Rattle.costs.specs.Constants.{onM}
 use Rattle.matching.specs.Match.{offM, offNow}
 use Rattle.rebuild.proofs.Starred as rebuild
 use Rattle.starred.specs.Table.{Table}

@@ -13,7 +13,7 @@ use Rattle.plane.specs.declared.Spot.the-variants as spot
 use Rattle.plane.specs.Place.{Place}
 use Rattle.crumbs.specs.declared.Crumb.{Crumb}
 use Rattle.motion.specs.Heading.{elapsed}
-use Rattle.segments.specs.declared.Nearest.{Nearest}
+use Rattle.costs.specs.declared.Nearest.{Nearest}
 use Rattle.segments.specs.declared.Best.{Best}
 use Rattle.segments.specs.declared.Best.the-variants as best
 use Rattle.search.proofs.Theorems.{course-near-met}

@@ -13,7 +13,7 @@ use Rattle.plane.specs.Plane.{turn, distance, bearing}
 use Rattle.plane.specs.Place.{Place}
 use Rattle.plane.proofs.Theorems.{bearing-below}
 use Rattle.crumbs.specs.declared.Crumb.{Crumb}
-use Rattle.segments.specs.declared.Nearest.{Nearest}
+use Rattle.costs.specs.declared.Nearest.{Nearest}
 use Rattle.segments.specs.declared.Best.{Best}
 use Rattle.segments.specs.declared.Best.the-variants.{Nothing, Found}
 use Rattle.search.specs.declared.Range.{Range}

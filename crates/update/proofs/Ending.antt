@@ -9,8 +9,8 @@ use Rattle.plane.specs.declared.Point.{Point}
 use Rattle.plane.specs.declared.Spot.{Spot}
 use Rattle.plane.specs.declared.Spot.the-variants.{At, Nowhere}
 use Rattle.crumbs.specs.Crumb.{capacity, crumbs, behind}
-use Rattle.segments.specs.declared.Nearest.{Nearest}
-use Rattle.segments.specs.Constants.{onM}
+use Rattle.costs.specs.declared.Nearest.{Nearest}
+use Rattle.costs.specs.Constants.{onM}
 use Rattle.trail.specs.declared.Trail.{Trail}
 use Rattle.trail.specs.View as trail
 use Rattle.state.specs.declared.Line.{Line}

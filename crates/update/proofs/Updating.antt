@@ -8,7 +8,7 @@ use lib.ListN.{length}
 use lib.Ieee.{Float, lt}
 use borrow.Author.Tests.{leb-true}
 use Rattle.plane.specs.declared.Point.{Point}
-use Rattle.segments.specs.declared.Nearest.{Nearest}
+use Rattle.costs.specs.declared.Nearest.{Nearest}
 use Rattle.segments.specs.Constants.{dropM}
 use Rattle.crumbs.specs.declared.Crumb.{Crumb}
 use Rattle.crumbs.specs.Crumb.{capacity, crumbs, behind}

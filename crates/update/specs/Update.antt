@@ -8,10 +8,11 @@ use lib.Ieee.{lt, le}
 use Rattle.plane.specs.declared.Point.{Point}
 use Rattle.crumbs.specs.declared.Crumb.{Crumb}
 use Rattle.lap.specs.Lap.{stepPass}
-use Rattle.segments.specs.declared.Nearest.{Nearest}
+use Rattle.costs.specs.declared.Nearest.{Nearest}
+use Rattle.costs.specs.Constants.{onM}
 use Rattle.segments.specs.declared.Best.{Best}
 use Rattle.segments.specs.declared.Best.the-variants.{Nothing, Found}
-use Rattle.segments.specs.Constants.{onM, dropM}
+use Rattle.segments.specs.Constants.{dropM}
 use Rattle.state.specs.declared.Event.{Event}
 use Rattle.state.specs.declared.Event.the-variants as event
 use Rattle.state.specs.State.{State, withFollow, withCourse, withLap, withUpdatedMs}

@@ -1,10 +1,10 @@
 // The guide after a fix.
 
+use costs::Nearest;
 use guide::Told;
 use plane::Point;
 use search::Range;
 use segments::Best;
-use segments::Nearest;
 use state::Event;
 use state::Homing;
 ghost use mathlib.Core.Path.{_≡_};
@@ -71,7 +71,7 @@ fn at_course_end(h: Homing, near: Nearest) -> bool
     let f = h.follow;
     let on = f.line;
     if matching::on_course(on) {
-        if near.off <= segments::ON_M {
+        if near.off <= costs::ON_M {
             return near.along < guide::ARRIVE_M;
         }
     }

@@ -12,7 +12,7 @@ use Rattle.plane.specs.declared.Spot.the-variants.{At, Nowhere}
 use Rattle.crumbs.specs.declared.Crumb.{Crumb}
 use Rattle.crumbs.specs.Crumb.{capacity, crumbs, behind}
 use Rattle.crumbs.proofs.Crumbs.{length-crumbs, behind-more}
-use Rattle.segments.specs.declared.Nearest.{Nearest}
+use Rattle.costs.specs.declared.Nearest.{Nearest}
 use Rattle.segments.specs.declared.Best.the-variants.{Found}
 use Rattle.trail.specs.declared.Trail.{Trail}
 use Rattle.trail.specs.View as trail

@@ -10,7 +10,7 @@ use Rattle.plane.specs.declared.Point.{Point}
 use Rattle.plane.specs.declared.Spot.{Spot}
 use Rattle.plane.specs.declared.Spot.the-variants.{At, Nowhere}
 use Rattle.crumbs.specs.declared.Crumb.{Crumb}
-use Rattle.segments.specs.declared.Nearest.{Nearest}
+use Rattle.costs.specs.declared.Nearest.{Nearest}
 use Rattle.segments.specs.declared.Best.{Best}
 use Rattle.segments.specs.declared.Best.the-variants.{Nothing, Found}
 use Rattle.segments.specs.Constants.{dropM}

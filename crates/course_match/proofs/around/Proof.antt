@@ -2,7 +2,8 @@
 use mathlib.Core.Path.{refl}
 use lib.Ieee.{ofBits}
 use Rattle.binary32.specs.Arithmetic.{constant}
-use Rattle.segments.specs.Constants.{backM, onM}
+use Rattle.costs.specs.Constants.{onM}
+use Rattle.segments.specs.Constants.{backM}
 use Rattle.course_match.specs.Course.{around}
 use Rattle.course_match.proofs.around.Statement.{statement}
 use Rattle.course_match.proofs.around.Tie as tie

@@ -2,7 +2,7 @@
 use borrow.Author.Needs.{needs}
 use lib.Ieee.{ofBits}
 use Rattle.binary32.specs.Arithmetic.{constant}
-use Rattle.segments.specs.Constants.{slipM}
+use Rattle.costs.specs.Constants.{slipM}
 use Rattle.course_match.specs.Course.{slidesBack}
 use Rattle.course_match.proofs.slides_back.Statement.{statement}
 use Rattle.course_match.proofs.slides_back.Tie as tie

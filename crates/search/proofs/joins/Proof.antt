@@ -2,7 +2,7 @@
 use borrow.Author.Needs.{needs}
 use lib.Ieee.{ofBits}
 use Rattle.binary32.specs.Arithmetic.{constant}
-use Rattle.segments.specs.Constants.{onM}
+use Rattle.costs.specs.Constants.{onM}
 use Rattle.search.specs.Course.{joins}
 use Rattle.search.proofs.joins.Statement.{statement}
 use Rattle.search.proofs.joins.Tie as tie

@@ -1,0 +1,15 @@
+-- The distances of homing.rs that a match's cost goes by, in metres.
+use lib.Ieee.{Float}
+use Rattle.binary32.specs.Arithmetic.{constant}
+
+-- Document 01, "Guide and event": "clears at 25 m or less", "Course end: off ≤ 25"
+unfoldable pub onM : Float
+onM = constant 25 1
+
+-- how far behind the furthest place reached costs nothing
+unfoldable pub slipM : Float
+slipM = constant 10 1
+
+-- what a stretch against the rider's way costs
+unfoldable pub againstM : Float
+againstM = constant 5 1

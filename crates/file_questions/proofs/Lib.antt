@@ -1,0 +1,4 @@
+pub mod Chain
+mod Asking
+pub mod Theorems
+pub mod Slots

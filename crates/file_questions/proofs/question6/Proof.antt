@@ -1,0 +1,12 @@
+-- `file_questions::question6` meets its contract. Assumes nothing.
+use mathlib.Core.Path.{refl}
+use Rattle.file_questions.specs.Questions.{question6}
+use Rattle.file_questions.proofs.question6.Statement.{statement}
+use Rattle.file_questions.proofs.question6.Tie as tie
+
+returns : tie.Need-returns
+unfolding question6
+returns c = refl
+
+pub question6-spec : {M : Type 1} → statement M
+question6-spec = tie.close (tie.spec returns)
