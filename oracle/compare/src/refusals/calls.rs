@@ -18,6 +18,8 @@ pub enum Part {
     RebuildRoom,
     Rebuild,
     File,
+    /// A line to thin, and how.
+    Thinning,
 }
 
 pub struct Call {
@@ -26,9 +28,11 @@ pub struct Call {
     pub make: fn(&mut Given) -> u8,
 }
 
-use Part::{Crumbs, File, Guide, Line, Place, Points, Rebuild, RebuildRoom, Room, State, Written};
+use Part::{
+    Crumbs, File, Guide, Line, Place, Points, Rebuild, RebuildRoom, Room, State, Thinning, Written,
+};
 
-pub const CALLS: [Call; 26] = [
+pub const CALLS: [Call; 27] = [
     Call {
         name: "new",
         parts: &[Room, Crumbs],
@@ -169,5 +173,17 @@ pub const CALLS: [Call; 26] = [
         name: "rebuild_settle",
         parts: &[Room, State, RebuildRoom, Rebuild],
         make: |g| door::rebuild_settle(&mut g.rebuild, &mut g.words, &mut g.numbers, 1, 1_000),
+    },
+    Call {
+        name: "thin",
+        parts: &[Thinning],
+        make: |g| {
+            let (mut tolerance, mut refused) = (f32::from_bits(g.tolerance), 0);
+            let left =
+                door::thin(&mut g.thinned, g.held, &mut tolerance, &mut g.told.size, &mut refused);
+            g.tolerance = tolerance.to_bits();
+            g.held = if refused == 0 { left } else { g.held };
+            refused
+        },
     },
 ];

@@ -57,6 +57,7 @@ pub fn faults() -> Vec<Fault> {
     all.extend(places());
     all.extend(guides());
     all.extend(rebuilds());
+    all.extend(thinnings());
     all
 }
 
@@ -294,8 +295,35 @@ fn rebuilds() -> Vec<Fault> {
     ]
 }
 
+fn thinnings() -> Vec<Fault> {
+    let size = |size: usize, held: usize| {
+        let name = format!("{held} crumbs to thin in {size} numbers");
+        fault(9, Part::Thinning, name, move |g| {
+            g.thinned.resize(size, -6.5);
+            g.held = held;
+        })
+    };
+    let tolerance = |to: f32| {
+        let name = format!("a tolerance of {to:e}");
+        fault(9, Part::Thinning, name, move |g| g.tolerance = to.to_bits())
+    };
+    vec![
+        size(0, 0),
+        size(49, 16),
+        size(50, 16),
+        size(6, 2),
+        size(3 * 4_097, 16),
+        size(48, 17),
+        size(48, usize::MAX),
+        tolerance(-1e-45),
+        tolerance(f32::NEG_INFINITY),
+        tolerance(f32::NAN),
+    ]
+}
+
 /// What is just allowed.
 pub fn limits() -> Vec<Fault> {
+    let thinning = |name: &str, spoil: fn(&mut Given)| fault(0, Part::Thinning, name, spoil);
     let state = |name: &str, spoil: fn(&mut Given)| fault(0, Part::State, name, spoil);
     vec![
         state("here 100,000,000", |g| {
@@ -339,5 +367,13 @@ pub fn limits() -> Vec<Fault> {
             g.lons.resize(8, 0);
         }),
         fault(0, Part::File, "an unread sample beyond the globe", |g| g.record(1, 40, &[255; 12])),
+        thinning("room for 3 crumbs", |g| {
+            g.thinned.truncate(9);
+            g.held = 3;
+        }),
+        thinning("room for 4,096 crumbs", |g| g.thinned.resize(3 * 4_096, -6.5)),
+        thinning("no crumbs to thin", |g| g.held = 0),
+        thinning("tolerance -0", |g| g.tolerance = (-0_f32).to_bits()),
+        thinning("tolerance infinity", |g| g.tolerance = f32::INFINITY.to_bits()),
     ]
 }

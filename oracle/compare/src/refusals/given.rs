@@ -21,6 +21,10 @@ pub struct Given {
     pub written: Vec<u32>,
     pub rebuild: Vec<u64>,
     pub file: Vec<u8>,
+    /// A line to thin, how many crumbs it holds, and the tolerance's pattern.
+    pub thinned: Vec<f32>,
+    pub held: usize,
+    pub tolerance: u32,
     pub told: Told,
 }
 
@@ -60,6 +64,9 @@ impl Given {
             written: vec![99; GUIDE + 1],
             rebuild: vec![0xABCD; REBUILD_WORDS + 1],
             file: file(),
+            thinned: (0..STRIDE * 16).map(|k| (k % 7) as f32).collect(),
+            held: 16,
+            tolerance: 6_f32.to_bits(),
             told: NOBODY,
         };
         given.ride();
@@ -89,6 +96,7 @@ impl Given {
             (self.words.clone(), patterns(&self.numbers), patterns(&self.crumbs)),
             (patterns(&self.line), self.lats.clone(), self.lons.clone(), self.file.clone()),
             (self.guide.clone(), self.written.clone(), self.rebuild.clone()),
+            (patterns(&self.thinned), self.held, self.tolerance),
             (byte, short, size),
             (ahead.known, ahead.count, ahead.matched, ahead.east.to_bits(), ahead.north.to_bits()),
             (back.known, back.direct, back.track),

@@ -8,7 +8,7 @@ use faults::Fault;
 use given::Given;
 
 /// "First no wins": the order of the questions.
-const ORDER: [u8; 9] = [1, 10, 4, 6, 7, 8, 5, 2, 3];
+const ORDER: [u8; 10] = [1, 10, 9, 4, 6, 7, 8, 5, 2, 3];
 
 /// Behind all of them what no question refuses, 0.
 fn rank(question: u8) -> usize {
