@@ -1,5 +1,2 @@
-pub mod Writing
-pub mod Numbers
-pub mod Lengths
-pub mod Theorems
-pub mod Retelling
+mod Theorems
+mod Retelling

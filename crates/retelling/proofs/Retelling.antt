@@ -35,10 +35,11 @@ use Rattle.rebuild.specs.Rebuild.{new, step, isDecided}
 use Rattle.rebuild.specs.View.{Makes}
 use Rattle.restart.specs.declared.Stepped.{Stepped}
 use Rattle.restart.specs.Promises.{asksStep, Steps}
-use Rattle.retelling.specs.Text.{rebuiltText, refusedText}
+use Rattle.lines.specs.Text.{rebuiltText, refusedText}
+use Rattle.lines.specs.Writing.{Tells}
+use Rattle.lines.proofs.Numbers.{picked}
 use Rattle.retelling.specs.Retold.{slots, rebuilt, heldAfter, retold, Retells}
-use Rattle.retelling.specs.Told.{told, Tells, Rebuilds}
-use Rattle.retelling.proofs.Numbers.{picked}
+use Rattle.retelling.specs.Told.{told, Rebuilds}
 use Rattle.retelling.proofs.Theorems.{retold-refused}
 
 -- ---- a new guide

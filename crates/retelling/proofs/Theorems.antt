@@ -17,9 +17,9 @@ use Rattle.file_questions.specs.Theorems.{Accepted}
 use Rattle.file_questions.proofs.Theorems.{accepted}
 use Rattle.rebuild.specs.Rebuild.{step}
 use Rattle.rebuild.proofs.Theorems.{caught-up}
-use Rattle.retelling.specs.Text.{refusedText}
+use Rattle.lines.specs.Text.{refusedText}
+use Rattle.lines.proofs.Numbers.{picked, passed-by}
 use Rattle.retelling.specs.Retold.{slots, rebuilt, retold, Whole, EveryWhole, readMost, EveryCut}
-use Rattle.retelling.proofs.Numbers.{picked, passed-by}
 
 -- ---- "On refusal it prints only `refused N`."
 pub retold-refused : (file : List ℕ) → asksFile file ≢ 0 → retold file ≡ refusedText (asksFile file)

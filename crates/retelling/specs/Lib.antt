@@ -1,4 +1,2 @@
-pub mod Text
-pub mod Writing
 pub mod Retold
 pub mod Told

@@ -13,7 +13,8 @@ use Rattle.log.specs.Entry.{recovered, slot}
 use Rattle.file_questions.specs.Questions.{asksFile}
 use Rattle.rebuild.specs.Made.{Made, effect}
 use Rattle.rebuild.specs.Rebuild.{new, step, isDecided, caughtUp}
-use Rattle.retelling.specs.Text.{rebuiltText, refusedText}
+use Rattle.lines.specs.Text.{rebuiltText, refusedText}
+use Rattle.lines.specs.Writing.{textMost}
 
 -- "with 512 crumbs"
 abbrev pub room : ℕ
@@ -40,10 +41,6 @@ retold file =
     ]
 
 -- ---- what `retell` promises
--- a text of so many bytes has room for all that is printed
-abbrev pub textMost : ℕ
-textMost = 16384
-
 -- `retell` writes to the front of a lent text, and r is how many bytes it wrote.
 pub record Retells (file entry exit : List ℕ) (r : ℕ) : Type 0 where
   pub whole : textMost ≤ length entry → take r exit ≡ retold file

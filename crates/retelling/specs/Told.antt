@@ -11,19 +11,13 @@ use Rattle.answers.specs.declared.Verdict.the-variants as verdict
 use Rattle.rebuild.specs.declared.Rebuild.{Rebuild}
 use Rattle.rebuild.specs.Rebuild.{isDecided}
 use Rattle.restart.specs.declared.Stepped.{Stepped}
-use Rattle.retelling.specs.Text.{rebuiltText, refusedText}
-use Rattle.retelling.specs.Writing.{Writes}
-use Rattle.retelling.specs.Retold.{retold, textMost}
+use Rattle.lines.specs.Text.{rebuiltText, refusedText}
+use Rattle.retelling.specs.Retold.{retold}
 
 -- the rebuild and the crumbs held after it, or "only `refused N`"
 unfoldable pub told : Verdict → Rebuild → List Crumb → List ℕ
 told (verdict.Is done) r held = rebuiltText held (r .«clock_ms») (isDecided (r .stage))
 told (verdict.Refused number) r held = refusedText number
-
--- The bytes `l` are written to the front of a text, and `textMost` have room for them.
-pub record Tells (l entry exit : List ℕ) (r : ℕ) : Type 0 where
-  pub writes : Writes l entry 0 exit r
-  pub short : length l ≤ textMost
 
 -- A new guide's step of the whole chain of the file gave v, and left the crumb buffer b.
 pub record Rebuilds (file : List ℕ) (v : Stepped) (b : List Float) : Type 0 where

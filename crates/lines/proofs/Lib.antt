@@ -1,0 +1,3 @@
+mod Writing
+pub mod Numbers
+mod Lengths
