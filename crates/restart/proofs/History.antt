@@ -27,9 +27,9 @@ use Rattle.asked.proofs.Measured.{Measured, turn-measured}
 use Rattle.asked.proofs.Asked.{journal-measured, state-asked, replay-turn, reset-turn}
 use Rattle.homing.specs.declared.Changed.{Changed}
 use Rattle.homing.specs.Promises.{MakesNew}
-use Rattle.ride.specs.History.{Holds, Ran}
-use Rattle.ride.specs.History as ride
-use Rattle.ride.proofs.History.{holds-same}
+use Rattle.history.specs.History.{Holds, Ran}
+use Rattle.history.specs.History as history
+use Rattle.history.proofs.History.{holds-same}
 use Rattle.log.specs.declared.Utc.{Utc}
 use Rattle.log.specs.declared.Sample.{Sample}
 use Rattle.log.specs.declared.Entry.{Entry}
@@ -128,8 +128,8 @@ made {b = b} size m = new size (m .fresh b)
 
 -- one without a call of a rebuild
 pub ran-only : {C : ℕ} {cs : List Call} {h : Homing} {b : List Float} → Ran C cs h b → RanOn C cs h b
-ran-only (ride.new size e) = new size e
-ran-only (ride.called c run did) = called c (ran-only run) did
+ran-only (history.new size e) = new size e
+ran-only (history.called c run did) = called c (ran-only run) did
 
 pub long : {C : ℕ} {cs : List Call} {h : Homing} {b : List Float} → RanOn C cs h b → length b ≡ stride * C
 long (new size e) = size

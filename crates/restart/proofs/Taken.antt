@@ -21,7 +21,7 @@ use Rattle.taken.proofs.Taken.{taken}
 use Rattle.journal.specs.Journal.{run}
 use Rattle.homing.specs.declared.Changed.{Changed}
 use Rattle.homing.specs.Promises.{MakesNew}
-use Rattle.ride.specs.History.{Holds}
+use Rattle.history.specs.History.{Holds}
 use Rattle.log.specs.Entry.{slot}
 use Rattle.file_questions.specs.Questions.{asksFile}
 use Rattle.file_questions.proofs.Chain.{by}

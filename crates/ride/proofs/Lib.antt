@@ -3,8 +3,6 @@ pub mod Entries
 pub mod Points
 pub mod Answering
 pub mod Stepping
-pub mod History
 pub mod Performing
 pub mod Riding
 pub mod Covers
-pub mod Taken

@@ -23,7 +23,7 @@ use Rattle.homing.specs.Answers.{saysReply}
 use Rattle.homing.specs.Promises.{MakesNew}
 use Rattle.ride.specs.Promises.{Performs, Rides}
 use Rattle.ride.proofs.Tests.{both, never}
-use Rattle.ride.proofs.History.{holds-same}
+use Rattle.history.proofs.History.{holds-same}
 
 -- ---- question 1
 pub record Room (size : ℕ) : Type 0 where

@@ -1,4 +1,2 @@
 pub mod Script
-pub mod History
-pub mod Taken
 pub mod Promises

@@ -14,7 +14,7 @@ use Rattle.calls.specs.Promises.{answer}
 use Rattle.journal.specs.Journal.{run}
 use Rattle.homing.specs.declared.Changed.{Changed}
 use Rattle.homing.specs.Answers.{saysReply}
-use Rattle.ride.specs.History.{Holds}
+use Rattle.history.specs.History.{Holds}
 
 -- The calls cs, one after the other, take the state h and its crumb buffer to the state r and its crumb buffer.
 pub record Performs (cs : List Call) (h : Homing) (entry : List Float) (r : Homing) (exit : List Float) : Type 0 where

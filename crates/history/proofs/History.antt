@@ -17,7 +17,7 @@ use Rattle.journal.proofs.History.{holds}
 use Rattle.journal.proofs.Programs.{history-of, run-last}
 use Rattle.homing.specs.declared.Changed.{Changed}
 use Rattle.homing.specs.Promises.{MakesNew}
-use Rattle.ride.specs.History.{front, held, Holds, Ran, new, called}
+use Rattle.history.specs.History.{front, held, Holds, Ran, new, called}
 
 -- the places of the front part are those of the crumbs held
 held-crumbs : (h : Homing) (b : List Float) → h .trail .len ≤ capacity (length b) → held h b ≡ map point (stateOf h b .track .crumbs)

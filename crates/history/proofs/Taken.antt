@@ -11,7 +11,7 @@ use Rattle.calls.specs.Questions.{question1}
 use Rattle.calls.specs.Calls.{Call, asks}
 use Rattle.taken.specs.Taken.{InRange, Lent, Own, start, called as own-called}
 use Rattle.taken.proofs.Taken.{taken}
-use Rattle.ride.specs.Taken.{Went, new, called}
+use Rattle.history.specs.Taken.{Went, new, called}
 
 fits : {h : Homing} {b line : List Float} → Went h b line → question1 (length b) ≡ true
 fits (new one four e) = one
