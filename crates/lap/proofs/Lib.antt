@@ -1,3 +1,2 @@
 -- Document 01's starred line on `StartPass`, and facts that the functions share.
-mod Starred
 mod Laps

@@ -5,4 +5,3 @@ pub mod Asked
 pub mod Theorems
 pub mod Thinning
 pub mod Answers
-pub mod Starred
