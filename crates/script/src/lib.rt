@@ -19,9 +19,8 @@ pub enum Question {
     Dump,
 }
 
-pub enum Call {
-    // A script begins: room for so many crumbs, and for a line of so many.
-    New(usize, usize),
+// A call that may change the guide.
+pub enum Change {
     Reset,
     // Latitude, longitude and the clock.
     Observe(i32, i32, u64),
@@ -31,6 +30,12 @@ pub enum Call {
     SetCourse,
     SetAutoFollow(bool),
     SetFollowing(bool, u64),
+}
+
+pub enum Call {
+    // A script begins: room for so many crumbs, and for a line of so many.
+    New(usize, usize),
+    Change(Change),
     Ask(Question),
     Unreadable,
 }
@@ -108,6 +113,25 @@ pub fn next(text: &[u8], from: usize) -> usize
     at
 }
 
+fn is_answers(line: &[u8]) -> bool {
+    is(line, b"answers")
+}
+
+// Where the line `answers` begins, behind which the answers to the script stand; where there is none, the
+// text's end.
+pub fn answers_at(text: &[u8]) -> usize
+    ensures { λ r. ⌜ r ≤ length (now (text .entry)) ⌝ }
+{
+    let mut at = 0;
+    while at < text.len() {
+        if is_answers(line_at(text, at)) {
+            return at;
+        }
+        at = behind(text, at);
+    }
+    at
+}
+
 // The word of a line, which is empty in a blank one.
 pub fn word(line: &[u8]) -> &[u8] {
     let from = blanks(line, 0);
@@ -159,6 +183,12 @@ enum Point {
 
 enum Flag {
     Is(bool, usize),
+    Nothing,
+}
+
+// A place and the clock, which end the line.
+enum Fix {
+    At(i32, i32, u64),
     Nothing,
 }
 
@@ -257,6 +287,19 @@ fn flag_at(text: &[u8], from: usize) -> Flag {
     }
 }
 
+fn fix_of(text: &[u8]) -> Fix {
+    let Point::At(lat, lon, next) = point_at(text, 0) else {
+        return Fix::Nothing;
+    };
+    let Size::Is(clock_ms, at) = size_at(text, next) else {
+        return Fix::Nothing;
+    };
+    if ended(text, at) {
+        return Fix::At(lat, lon, clock_ms);
+    }
+    Fix::Nothing
+}
+
 // ---- the numbers behind a word
 
 fn new(text: &[u8]) -> Call {
@@ -273,16 +316,10 @@ fn new(text: &[u8]) -> Call {
 }
 
 fn observe(text: &[u8]) -> Call {
-    let Point::At(lat, lon, next) = point_at(text, 0) else {
+    let Fix::At(lat, lon, now_ms) = fix_of(text) else {
         return Call::Unreadable;
     };
-    let Size::Is(now_ms, at) = size_at(text, next) else {
-        return Call::Unreadable;
-    };
-    if ended(text, at) {
-        return Call::Observe(lat, lon, now_ms);
-    }
-    Call::Unreadable
+    Call::Change(Change::Observe(lat, lon, now_ms))
 }
 
 fn missing(text: &[u8]) -> Call {
@@ -290,16 +327,16 @@ fn missing(text: &[u8]) -> Call {
         return Call::Unreadable;
     };
     if ended(text, at) {
-        return Call::Missing(now_ms);
+        return Call::Change(Change::Missing(now_ms));
     }
     Call::Unreadable
 }
 
 fn replay(text: &[u8]) -> Call {
-    match observe(text) {
-        Call::Observe(lat, lon, at_ms) => Call::Replay(lat, lon, at_ms),
-        _ => Call::Unreadable,
-    }
+    let Fix::At(lat, lon, at_ms) = fix_of(text) else {
+        return Call::Unreadable;
+    };
+    Call::Change(Change::Replay(lat, lon, at_ms))
 }
 
 fn set_auto_follow(text: &[u8]) -> Call {
@@ -307,7 +344,7 @@ fn set_auto_follow(text: &[u8]) -> Call {
         return Call::Unreadable;
     };
     if ended(text, at) {
-        return Call::SetAutoFollow(on);
+        return Call::Change(Change::SetAutoFollow(on));
     }
     Call::Unreadable
 }
@@ -320,7 +357,7 @@ fn set_following(text: &[u8]) -> Call {
         return Call::Unreadable;
     };
     if ended(text, at) {
-        return Call::SetFollowing(follow, now_ms);
+        return Call::Change(Change::SetFollowing(follow, now_ms));
     }
     Call::Unreadable
 }
@@ -343,7 +380,7 @@ fn set_course(text: &[u8], lats: &mut [i32; POINTS], lons: &mut [i32; POINTS]) -
         at = next;
     }
     Line {
-        call: Call::SetCourse,
+        call: Call::Change(Change::SetCourse),
         points,
     }
 }
@@ -393,10 +430,10 @@ fn asked(word: &[u8]) -> Call {
 // A word with no numbers behind it.
 fn bare(word: &[u8]) -> Call {
     if is(word, b"reset") {
-        return Call::Reset;
+        return Call::Change(Change::Reset);
     }
     if is(word, b"end_replay") {
-        return Call::EndReplay;
+        return Call::Change(Change::EndReplay);
     }
     if is(word, b"dump") {
         return Call::Ask(Question::Dump);

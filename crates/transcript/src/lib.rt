@@ -1,5 +1,6 @@
 // What a guide answers, as text. Numbers are decimal, an f32 is its pattern in eight hexadecimal capitals,
-// a flag is 0 or 1, and `-` stands for none.
+// a flag is 0 or 1, and `-` stands for none. Each function puts its text into a lent buffer, from a place
+// on, and answers the place behind it; what has no room is cut off, and that place is the buffer's end.
 use answers::Ahead;
 use answers::Angle;
 use answers::Back;
@@ -8,7 +9,6 @@ use answers::Riding;
 use answers::Showing;
 use answers::Verdict;
 use crumbs::Crumb;
-use libc::STDOUT_FILENO;
 use plane::Heading;
 use plane::Point;
 use plane::Spot;
@@ -19,36 +19,55 @@ use state::Homing;
 use state::Mode;
 ghost use Prim.Native.Nat.{_<_};
 
+// What a call that may change something answers.
+pub enum Answer {
+    Nothing,
+    Event(Event),
+    Is(bool),
+    Refused(u8),
+}
+
 // ---- values
 
-pub fn print(text: &[u8]) {
-    io::write_all(STDOUT_FILENO, text);
-}
-
-pub fn print_number(n: u64) {
-    io::print_decimal(STDOUT_FILENO, n);
-}
-
-fn print_metres(m: u32) {
-    print_number(m as u64);
-}
-
-fn print_angle(way: u16) {
-    print_number(way as u64);
-}
-
-fn print_flag(flag: bool) {
-    if flag {
-        print(b"1");
-    } else {
-        print(b"0");
+pub fn put(out: &mut [u8], at: usize, text: &[u8]) -> usize {
+    let mut to = at;
+    let mut i = 0;
+    while i < text.len() {
+        if to >= out.len() {
+            return to;
+        }
+        out[to] = text[i];
+        to += 1;
+        i += 1;
     }
+    to
+}
+
+pub fn put_number(out: &mut [u8], at: usize, n: u64) -> usize {
+    let mut text = [0u8; 20];
+    let k = io::decimal(n, &mut text);
+    put(out, at, &text[..k])
+}
+
+fn put_metres(out: &mut [u8], at: usize, m: u32) -> usize {
+    put_number(out, at, m as u64)
+}
+
+fn put_angle(out: &mut [u8], at: usize, way: u16) -> usize {
+    put_number(out, at, way as u64)
+}
+
+fn put_flag(out: &mut [u8], at: usize, flag: bool) -> usize {
+    if flag {
+        return put(out, at, b"1");
+    }
+    put(out, at, b"0")
 }
 
 // The refusal by the question with this number.
-pub fn print_refused(number: u8) {
-    print(b"refused ");
-    print_number(number as u64);
+fn put_refused(out: &mut [u8], at: usize, number: u8) -> usize {
+    let at = put(out, at, b"refused ");
+    put_number(out, at, number as u64)
 }
 
 fn capital(digit: u32) -> u8
@@ -60,273 +79,312 @@ fn capital(digit: u32) -> u8
     55 + digit as u8
 }
 
-fn print_pattern(x: f32) {
+fn put_pattern(out: &mut [u8], at: usize, x: f32) -> usize {
     let mut rest = binary32::pattern(x);
     let mut text = [b'0'; 8];
     for i in 0..8usize {
         text[7 - i] = capital(rest % 16);
         rest /= 16;
     }
-    print(&text);
+    put(out, at, &text)
 }
 
-fn print_point(p: Point) {
-    print_pattern(p.east);
-    print(b" ");
-    print_pattern(p.north);
+fn put_point(out: &mut [u8], at: usize, p: Point) -> usize {
+    let at = put_pattern(out, at, p.east);
+    let at = put(out, at, b" ");
+    put_pattern(out, at, p.north)
 }
 
-fn print_crumb(c: Crumb) {
-    print(b"\n");
-    print_point(crumbs::point(c));
-    print(b" ");
-    print_pattern(c.along);
+fn put_crumb(out: &mut [u8], at: usize, c: Crumb) -> usize {
+    let at = put(out, at, b"\n");
+    let at = put_point(out, at, crumbs::point(c));
+    let at = put(out, at, b" ");
+    put_pattern(out, at, c.along)
 }
 
-fn print_spot(spot: Spot) {
+fn put_spot(out: &mut [u8], at: usize, spot: Spot) -> usize {
     match spot {
-        Spot::At(p) => print_point(p),
-        Spot::Nowhere => print(b"-"),
+        Spot::At(p) => put_point(out, at, p),
+        Spot::Nowhere => put(out, at, b"-"),
     }
 }
 
-fn print_heading(heading: Heading) {
+fn put_heading(out: &mut [u8], at: usize, heading: Heading) -> usize {
     match heading {
-        Heading::Known(way) => print_angle(way),
-        Heading::Unknown => print(b"-"),
+        Heading::Known(way) => put_angle(out, at, way),
+        Heading::Unknown => put(out, at, b"-"),
     }
 }
 
-pub fn print_event(event: Event) {
+fn put_event(out: &mut [u8], at: usize, event: Event) -> usize {
     match event {
-        Event::Nothing => print(b"-"),
-        Event::Following => print(b"following"),
-        Event::OffTrack => print(b"off_track"),
-        Event::OnTrack => print(b"on_track"),
-        Event::Dropped => print(b"dropped"),
-        Event::Arrived => print(b"arrived"),
-        Event::CourseEnd => print(b"course_end"),
+        Event::Nothing => put(out, at, b"-"),
+        Event::Following => put(out, at, b"following"),
+        Event::OffTrack => put(out, at, b"off_track"),
+        Event::OnTrack => put(out, at, b"on_track"),
+        Event::Dropped => put(out, at, b"dropped"),
+        Event::Arrived => put(out, at, b"arrived"),
+        Event::CourseEnd => put(out, at, b"course_end"),
     }
 }
 
-fn print_mode(mode: Mode) {
+fn put_mode(out: &mut [u8], at: usize, mode: Mode) -> usize {
     match mode {
-        Mode::Direct => print(b"direct"),
-        Mode::Track => print(b"track"),
-        Mode::OffTrack => print(b"off_track"),
-        Mode::Arrived => print(b"arrived"),
+        Mode::Direct => put(out, at, b"direct"),
+        Mode::Track => put(out, at, b"track"),
+        Mode::OffTrack => put(out, at, b"off_track"),
+        Mode::Arrived => put(out, at, b"arrived"),
     }
 }
 
 // ---- answers
 
-pub fn print_verdict(verdict: Verdict) {
+fn put_verdict(out: &mut [u8], at: usize, verdict: Verdict) -> usize {
     match verdict {
-        Verdict::Is(yes) => print_flag(yes),
-        Verdict::Refused(number) => print_refused(number),
+        Verdict::Is(yes) => put_flag(out, at, yes),
+        Verdict::Refused(number) => put_refused(out, at, number),
     }
 }
 
-fn print_ahead(ahead: Ahead) {
+// What stands behind the word of a call: nothing, or a space and the answer.
+pub fn put_answer(out: &mut [u8], at: usize, answer: Answer) -> usize {
+    if let Answer::Nothing = answer {
+        return at;
+    }
+    let at = put(out, at, b" ");
+    match answer {
+        Answer::Nothing => at,
+        Answer::Event(event) => put_event(out, at, event),
+        Answer::Is(yes) => put_flag(out, at, yes),
+        Answer::Refused(number) => put_refused(out, at, number),
+    }
+}
+
+fn put_ahead(out: &mut [u8], at: usize, ahead: Ahead) -> usize {
     match ahead {
         Ahead::Along(end, matched) => {
-            print_number(end as u64);
-            print(b" ");
-            print_spot(matched);
+            let at = put_number(out, at, end as u64);
+            let at = put(out, at, b" ");
+            put_spot(out, at, matched)
         }
-        Ahead::Nothing => print(b"-"),
-        Ahead::Refused(number) => print_refused(number),
+        Ahead::Nothing => put(out, at, b"-"),
+        Ahead::Refused(number) => put_refused(out, at, number),
     }
 }
 
-fn print_arrow(g: Guide) {
+fn put_arrow(out: &mut [u8], at: usize, g: Guide) -> usize {
     match answers::arrow(g) {
-        Angle::Is(way) => print_angle(way),
-        Angle::Refused(number) => print_refused(number),
+        Angle::Is(way) => put_angle(out, at, way),
+        Angle::Refused(number) => put_refused(out, at, number),
     }
 }
 
-fn print_flags(g: Guide) {
-    print(b" following ");
-    print_flag(g.following);
-    print(b" course ");
-    print_flag(g.course);
-    print(b" near ");
-    print_flag(g.course_near);
+fn put_flags(out: &mut [u8], at: usize, g: Guide) -> usize {
+    let at = put(out, at, b" following ");
+    let at = put_flag(out, at, g.following);
+    let at = put(out, at, b" course ");
+    let at = put_flag(out, at, g.course);
+    let at = put(out, at, b" near ");
+    put_flag(out, at, g.course_near)
 }
 
-fn print_distances(g: Guide) {
-    print(b" direct ");
-    print_metres(g.direct_m);
-    print(b" track ");
-    print_metres(g.track_m);
-    print(b" off ");
-    print_metres(g.off_m);
+fn put_distances(out: &mut [u8], at: usize, g: Guide) -> usize {
+    let at = put(out, at, b" direct ");
+    let at = put_metres(out, at, g.direct_m);
+    let at = put(out, at, b" track ");
+    let at = put_metres(out, at, g.track_m);
+    let at = put(out, at, b" off ");
+    put_metres(out, at, g.off_m)
 }
 
-fn print_guide(g: Guide) {
-    let mode = g.mode;
+fn put_angles(out: &mut [u8], at: usize, g: Guide) -> usize {
     let heading = g.heading;
-    print_mode(mode);
-    print_flags(g);
-    print_distances(g);
-    print(b" bearing ");
-    print_angle(g.bearing);
-    print(b" heading ");
-    print_heading(heading);
-    print(b" arrow ");
-    print_arrow(g);
+    let at = put(out, at, b" bearing ");
+    let at = put_angle(out, at, g.bearing);
+    let at = put(out, at, b" heading ");
+    let at = put_heading(out, at, heading);
+    let at = put(out, at, b" arrow ");
+    put_arrow(out, at, g)
+}
+
+fn put_guide(out: &mut [u8], at: usize, g: Guide) -> usize {
+    let mode = g.mode;
+    let at = put_mode(out, at, mode);
+    let at = put_flags(out, at, g);
+    let at = put_distances(out, at, g);
+    put_angles(out, at, g)
 }
 
 // How many crumbs a part of a buffer holds, and a line for each.
-fn print_crumbs(held: &[f32]) {
+fn put_crumbs(out: &mut [u8], at: usize, held: &[f32]) -> usize {
     let len = crumbs::capacity(held.len());
-    print_number(len as u64);
+    let mut to = put_number(out, at, len as u64);
     for i in 0..len {
-        print_crumb(crumbs::crumb_at(held, i));
+        to = put_crumb(out, to, crumbs::crumb_at(held, i));
     }
+    to
 }
 
 // ---- the questions: the word and the answer
 
-fn tell_len(h: Homing) {
-    print(b"len ");
+fn tell_len(out: &mut [u8], at: usize, h: Homing) -> usize {
+    let at = put(out, at, b"len ");
     match answers::len(h) {
-        Count::Is(len) => print_number(len as u64),
-        Count::Refused(number) => print_refused(number),
+        Count::Is(len) => put_number(out, at, len as u64),
+        Count::Refused(number) => put_refused(out, at, number),
     }
 }
 
-fn tell_following(h: Homing) {
-    print(b"following ");
-    print_verdict(answers::following(h));
+fn tell_following(out: &mut [u8], at: usize, h: Homing) -> usize {
+    let at = put(out, at, b"following ");
+    put_verdict(out, at, answers::following(h))
 }
 
-fn tell_following_course(h: Homing) {
-    print(b"following_course ");
-    print_verdict(answers::following_course(h));
+fn tell_following_course(out: &mut [u8], at: usize, h: Homing) -> usize {
+    let at = put(out, at, b"following_course ");
+    put_verdict(out, at, answers::following_course(h))
 }
 
-fn tell_course_ahead(h: Homing) {
-    print(b"course_ahead ");
-    print_ahead(answers::course_ahead(h));
+fn tell_course_ahead(out: &mut [u8], at: usize, h: Homing) -> usize {
+    let at = put(out, at, b"course_ahead ");
+    put_ahead(out, at, answers::course_ahead(h))
 }
 
-fn tell_route_home(h: Homing) {
-    print(b"route_home ");
-    print_ahead(answers::route_home(h));
+fn tell_route_home(out: &mut [u8], at: usize, h: Homing) -> usize {
+    let at = put(out, at, b"route_home ");
+    put_ahead(out, at, answers::route_home(h))
 }
 
-fn tell_heading(h: Homing) {
-    print(b"heading ");
+fn tell_heading(out: &mut [u8], at: usize, h: Homing) -> usize {
+    let at = put(out, at, b"heading ");
     match answers::heading(h) {
-        Riding::Heading(heading) => print_heading(heading),
-        Riding::Refused(number) => print_refused(number),
+        Riding::Heading(heading) => put_heading(out, at, heading),
+        Riding::Refused(number) => put_refused(out, at, number),
     }
 }
 
-fn tell_guide(h: Homing) {
-    print(b"guide ");
+fn tell_guide(out: &mut [u8], at: usize, h: Homing) -> usize {
+    let at = put(out, at, b"guide ");
     match answers::guide(h) {
-        Showing::Guide(g) => print_guide(g),
-        Showing::Nothing => print(b"-"),
-        Showing::Refused(number) => print_refused(number),
+        Showing::Guide(g) => put_guide(out, at, g),
+        Showing::Nothing => put(out, at, b"-"),
+        Showing::Refused(number) => put_refused(out, at, number),
     }
 }
 
-fn tell_way_back(h: Homing, crumbs: &[f32]) {
-    print(b"way_back ");
-    match answers::way_back(h, crumbs) {
+fn put_back(out: &mut [u8], at: usize, back: Back) -> usize {
+    match back {
         Back::Metres(direct, track) => {
-            print_metres(direct);
-            print(b" ");
-            print_metres(track);
+            let at = put_metres(out, at, direct);
+            let at = put(out, at, b" ");
+            put_metres(out, at, track)
         }
-        Back::Nothing => print(b"-"),
-        Back::Refused(number) => print_refused(number),
+        Back::Nothing => put(out, at, b"-"),
+        Back::Refused(number) => put_refused(out, at, number),
     }
 }
 
-fn tell_crumbs(h: Homing, crumbs: &[f32]) {
+fn tell_way_back(out: &mut [u8], at: usize, h: Homing, crumbs: &[f32]) -> usize {
+    let at = put(out, at, b"way_back ");
+    put_back(out, at, answers::way_back(h, crumbs))
+}
+
+// The crumbs of a part of a buffer, or the refusal by the question with this number, if it is not 0.
+fn put_part(out: &mut [u8], at: usize, held: &[f32], refused: u8) -> usize {
+    if refused != 0 {
+        return put_refused(out, at, refused);
+    }
+    put_crumbs(out, at, held)
+}
+
+fn tell_crumbs(out: &mut [u8], at: usize, h: Homing, crumbs: &[f32]) -> usize {
     let mut refused = 0u8;
     let held = answers::crumbs(h, crumbs, &mut refused);
-    print(b"crumbs ");
-    if refused != 0 {
-        print_refused(refused);
-        return;
-    }
-    print_crumbs(held);
+    let at = put(out, at, b"crumbs ");
+    put_part(out, at, held, refused)
 }
 
-fn tell_course(h: Homing, line: &[f32]) {
+fn tell_course(out: &mut [u8], at: usize, h: Homing, line: &[f32]) -> usize {
     let mut refused = 0u8;
     let held = answers::course(h, line, &mut refused);
-    print(b"course ");
-    if refused != 0 {
-        print_refused(refused);
-        return;
-    }
-    print_crumbs(held);
+    let at = put(out, at, b"course ");
+    put_part(out, at, held, refused)
 }
 
-fn tell_both(h: Homing, crumbs: &[f32], line: &[f32]) {
-    tell_crumbs(h, crumbs);
-    print(b"\n");
-    tell_course(h, line);
+fn tell_both(out: &mut [u8], at: usize, h: Homing, crumbs: &[f32], line: &[f32]) -> usize {
+    let at = tell_crumbs(out, at, h, crumbs);
+    let at = put(out, at, b"\n");
+    tell_course(out, at, h, line)
 }
 
-pub fn tell(question: Question, h: Homing, crumbs: &[f32], line: &[f32]) {
+pub fn tell(
+    out: &mut [u8],
+    at: usize,
+    question: Question,
+    h: Homing,
+    crumbs: &[f32],
+    line: &[f32],
+) -> usize {
     match question {
-        Question::Len => tell_len(h),
-        Question::Following => tell_following(h),
-        Question::FollowingCourse => tell_following_course(h),
-        Question::Course => tell_course(h, line),
-        Question::CourseAhead => tell_course_ahead(h),
-        Question::Crumbs => tell_crumbs(h, crumbs),
-        Question::WayBack => tell_way_back(h, crumbs),
-        Question::Heading => tell_heading(h),
-        Question::RouteHome => tell_route_home(h),
-        Question::Guide => tell_guide(h),
+        Question::Len => tell_len(out, at, h),
+        Question::Following => tell_following(out, at, h),
+        Question::FollowingCourse => tell_following_course(out, at, h),
+        Question::Course => tell_course(out, at, h, line),
+        Question::CourseAhead => tell_course_ahead(out, at, h),
+        Question::Crumbs => tell_crumbs(out, at, h, crumbs),
+        Question::WayBack => tell_way_back(out, at, h, crumbs),
+        Question::Heading => tell_heading(out, at, h),
+        Question::RouteHome => tell_route_home(out, at, h),
+        Question::Guide => tell_guide(out, at, h),
         Question::Dump => {
-            print(b"dump\n");
-            tell_both(h, crumbs, line);
+            let at = put(out, at, b"dump\n");
+            tell_both(out, at, h, crumbs, line)
         }
     }
 }
 
 // ---- the lines behind a call
 
-// A call's number and word.
-pub fn print_call(number: u64, word: &[u8]) {
-    print_number(number);
-    print(b" ");
-    print(word);
+// The beginning of a call's text: its number, and its word.
+pub fn put_call(out: &mut [u8], number: u64, word: &[u8]) -> usize {
+    let at = put_number(out, 0, number);
+    let at = put(out, at, b" ");
+    put(out, at, word)
 }
 
-// The rest of a call's line, and the two lines behind each call that may change something.
-pub fn tell_state(h: Homing, crumbs: &[f32]) {
-    print(b"\n");
-    tell_guide(h);
-    print(b"\n");
-    tell_following(h);
-    print(b" ");
-    tell_following_course(h);
-    print(b" ");
-    tell_course_ahead(h);
-    print(b" ");
-    tell_route_home(h);
-    print(b" ");
-    tell_heading(h);
-    print(b" ");
-    tell_way_back(h, crumbs);
-    print(b" ");
-    tell_len(h);
-    print(b"\n");
+// Which line is followed, and the way on along it.
+fn tell_followed(out: &mut [u8], at: usize, h: Homing) -> usize {
+    let at = tell_following(out, at, h);
+    let at = put(out, at, b" ");
+    let at = tell_following_course(out, at, h);
+    let at = put(out, at, b" ");
+    let at = tell_course_ahead(out, at, h);
+    let at = put(out, at, b" ");
+    tell_route_home(out, at, h)
+}
+
+// The heading and the way that was ridden.
+fn tell_ridden(out: &mut [u8], at: usize, h: Homing, crumbs: &[f32]) -> usize {
+    let at = tell_heading(out, at, h);
+    let at = put(out, at, b" ");
+    let at = tell_way_back(out, at, h, crumbs);
+    let at = put(out, at, b" ");
+    tell_len(out, at, h)
+}
+
+// The two lines behind each call that may change something.
+pub fn tell_state(out: &mut [u8], at: usize, h: Homing, crumbs: &[f32]) -> usize {
+    let at = tell_guide(out, at, h);
+    let at = put(out, at, b"\n");
+    let at = tell_followed(out, at, h);
+    let at = put(out, at, b" ");
+    let at = tell_ridden(out, at, h, crumbs);
+    put(out, at, b"\n")
 }
 
 // The lines behind a script.
-pub fn tell_end(h: Homing, crumbs: &[f32], line: &[f32]) {
-    print(b"end\n");
-    tell_both(h, crumbs, line);
-    print(b"\n");
+pub fn tell_end(out: &mut [u8], at: usize, h: Homing, crumbs: &[f32], line: &[f32]) -> usize {
+    let at = put(out, at, b"end\n");
+    let at = tell_both(out, at, h, crumbs, line);
+    put(out, at, b"\n")
 }

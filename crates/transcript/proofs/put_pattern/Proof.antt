@@ -1,16 +1,16 @@
--- `transcript::print_pattern` is safe and ends. Assumes nothing.
+-- `transcript::put_pattern` is safe and ends. Assumes nothing.
 use Prim.Native.Nat.{_≤_, _-_}
 use mathlib.Core.Path.{_≡_}
 use lib.ListN.{length}
 use borrow.Author.Needs.{needs}
-use Rattle.transcript.proofs.print_pattern.Statement.{statement}
-use Rattle.transcript.proofs.print_pattern.Tie as tie
+use Rattle.transcript.proofs.put_pattern.Statement.{statement}
+use Rattle.transcript.proofs.put_pattern.Tie as tie
 
 abbrev Inv-loop : tie.InvT-loop
-Inv-loop x rest₀ text₀ i₀ rest text i = (i ≤ 8) × (length text ≡ 8)
+Inv-loop out at x rest₀ text₀ i₀ rest text i = (i ≤ 8) × (length text ≡ 8)
 
 abbrev μ-loop : tie.MeasureT-loop
-μ-loop x rest₀ text₀ i₀ rest text i = 8 - i
+μ-loop out at x rest₀ text₀ i₀ rest text i = 8 - i
 
 pattern-requires : tie.Need-pattern-requires Inv-loop μ-loop
 pattern-requires c κs = search needs
@@ -36,17 +36,20 @@ loop-less c = search needs
 loop-again : tie.Need-loop-again Inv-loop μ-loop
 loop-again c = search needs
 
-slice-aggregate-print : tie.Need-slice-aggregate-print Inv-loop μ-loop
-slice-aggregate-print c = search needs
+slice-aggregate-put : tie.Need-slice-aggregate-put Inv-loop μ-loop
+slice-aggregate-put c = search needs
 
-print-requires : tie.Need-print-requires Inv-loop μ-loop
-print-requires c κs = search needs
+put-requires : tie.Need-put-requires Inv-loop μ-loop
+put-requires c κs = search needs
+
+same-length : tie.Need-same-length Inv-loop μ-loop
+same-length c = search needs
 
 returns : tie.Need-returns Inv-loop μ-loop
 returns c = search needs
 
-pub print-pattern-spec : {M : Type 1} → statement M
-print-pattern-spec =
+pub put-pattern-spec : {M : Type 1} → statement M
+put-pattern-spec =
     tie.close
     (tie.spec
     Inv-loop
@@ -59,6 +62,7 @@ print-pattern-spec =
     add-i
     loop-less
     loop-again
-    slice-aggregate-print
-    print-requires
+    slice-aggregate-put
+    put-requires
+    same-length
     returns)

@@ -1,20 +1,22 @@
--- `transcript::print_crumbs` is safe and ends. Assumes nothing.
+-- `transcript::put_crumbs` is safe and ends. Assumes nothing.
 use Prim.Native.Nat.{_-_}
+use mathlib.Core.Path.{_≡_}
+use lib.ListN.{length}
 use borrow.Author.Needs.{needs}
-use Rattle.transcript.proofs.print_crumbs.Statement.{statement}
-use Rattle.transcript.proofs.print_crumbs.Tie as tie
+use Rattle.transcript.proofs.put_crumbs.Statement.{statement}
+use Rattle.transcript.proofs.put_crumbs.Tie as tie
 
 abbrev Inv-loop : tie.InvT-loop
-Inv-loop held len i₀ i = Unit
+Inv-loop out₀ at held len to₀ i₀ out to i = length out ≡ length out₀
 
 abbrev μ-loop : tie.MeasureT-loop
-μ-loop held len i₀ i = len - i
+μ-loop out₀ at held len to₀ i₀ out to i = len - i
 
 capacity-requires : tie.Need-capacity-requires Inv-loop μ-loop
 capacity-requires c κs = search needs
 
-print-number-requires : tie.Need-print-number-requires Inv-loop μ-loop
-print-number-requires c κs = search needs
+put-number-requires : tie.Need-put-number-requires Inv-loop μ-loop
+put-number-requires c κs = search needs
 
 loop-holds : tie.Need-loop-holds Inv-loop μ-loop
 loop-holds c = search needs
@@ -22,8 +24,8 @@ loop-holds c = search needs
 crumb-at-requires : tie.Need-crumb-at-requires Inv-loop μ-loop
 crumb-at-requires c κs = search needs
 
-print-crumb-requires : tie.Need-print-crumb-requires Inv-loop μ-loop
-print-crumb-requires c κs = search needs
+put-crumb-requires : tie.Need-put-crumb-requires Inv-loop μ-loop
+put-crumb-requires c κs = search needs
 
 add-i : tie.Need-add-i Inv-loop μ-loop
 add-i c = search needs
@@ -34,21 +36,25 @@ loop-less c = search needs
 loop-again : tie.Need-loop-again Inv-loop μ-loop
 loop-again c = search needs
 
+same-length : tie.Need-same-length Inv-loop μ-loop
+same-length c = search needs
+
 returns : tie.Need-returns Inv-loop μ-loop
 returns c = search needs
 
-pub print-crumbs-spec : {M : Type 1} → statement M
-print-crumbs-spec =
+pub put-crumbs-spec : {M : Type 1} → statement M
+put-crumbs-spec =
     tie.close
     (tie.spec
     Inv-loop
     μ-loop
     capacity-requires
-    print-number-requires
+    put-number-requires
     loop-holds
     crumb-at-requires
-    print-crumb-requires
+    put-crumb-requires
     add-i
     loop-less
     loop-again
+    same-length
     returns)

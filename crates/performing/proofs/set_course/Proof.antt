@@ -1,10 +1,10 @@
--- `recorded::set_course` is safe and ends. Assumes nothing.
+-- `performing::set_course` is safe and ends. Assumes nothing.
 use mathlib.Core.Path.{sym}
-use native.Mathlib.Omega.{arith}
 use lib.Seq.{length-take-le}
+use native.Mathlib.Omega.{arith}
 use borrow.Author.Needs.{needs}
-use Rattle.recorded.proofs.set_course.Statement.{statement}
-use Rattle.recorded.proofs.set_course.Tie as tie
+use Rattle.performing.proofs.set_course.Statement.{statement}
+use Rattle.performing.proofs.set_course.Tie as tie
 
 slice-aggregate-set-course : tie.Need-slice-aggregate-set-course
 slice-aggregate-set-course c = sym (length-take-le _ _ (omega arith))
@@ -14,6 +14,9 @@ slice-aggregate-set-course-2 c = sym (length-take-le _ _ (omega arith))
 
 set-course-requires : tie.Need-set-course-requires
 set-course-requires c κs = search needs
+
+changed-requires : tie.Need-changed-requires
+changed-requires c κs = search needs
 
 same-length : tie.Need-same-length
 same-length c = search needs
@@ -28,5 +31,6 @@ set-course-spec =
     slice-aggregate-set-course
     slice-aggregate-set-course-2
     set-course-requires
+    changed-requires
     same-length
     returns)
