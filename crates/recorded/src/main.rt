@@ -7,15 +7,21 @@
 use course::POINTS;
 use libc::STDIN_FILENO;
 use libc::STDOUT_FILENO;
-use performing::Acted;
+use playing::Own;
+use playing::Ride;
+use preparing::FILE;
 use script::Call;
-use script::Question;
-use state::Homing;
 ghost use Prim.Native.Nat.{_<_, _≤_};
 ghost use lib.ListN.{length};
 
 // The most crumbs of a breadcrumb.
 const CRUMBS: usize = 4096;
+
+// The most numbers lent for crumbs, and for a line: a spoiled buffer is one number longer, or has room for one
+// place more.
+const CRUMBS_LENT: usize = crumbs::STRIDE * CRUMBS + 1;
+
+const LINE_LENT: usize = crumbs::STRIDE * (POINTS + 1);
 
 // The input, and the text of each call, are shorter than this.
 const TEXT: usize = 262144;
@@ -109,79 +115,20 @@ fn compare_call(answers: &[u8], place: usize, number: u64, text: &[u8], end: usi
     Compared::Same(behind)
 }
 
-// ---- a call
-
-// The guide after a line, and how its text compares. A line that cannot be read differs.
-struct Step {
-    homing: Homing,
-    compared: Compared,
-}
-
-// The text of a call that may change something, and its end.
-fn tell_acted(out: &mut [u8], number: u64, word: &[u8], a: Acted, crumbs: &[f32]) -> usize {
-    let homing = a.homing;
-    let answer = a.answer;
-    let at = transcript::put_call(out, number, word);
-    let at = transcript::put_answer(out, at, answer);
-    let at = transcript::put(out, at, b"\n");
-    transcript::tell_state(out, at, homing, crumbs)
-}
-
-// The text of a question, and its end.
-fn tell_asked(
-    out: &mut [u8],
-    number: u64,
-    question: Question,
-    h: Homing,
-    crumbs: &[f32],
-    line: &[f32],
-) -> usize {
-    let at = transcript::put_call(out, number, b"");
-    let at = transcript::tell(out, at, question, h, crumbs, line);
-    transcript::put(out, at, b"\n")
-}
-
-// Performs the call of a script's line, and compares its text with the stored answers from `place` on.
-fn perform_line(
-    out: &mut [u8],
-    row: &[u8],
-    number: u64,
+// As `compare_call`, for the text of a line, of which there is none where the line cannot be read.
+fn compare_line(
     answers: &[u8],
     place: usize,
-    h: Homing,
-    crumbs: &mut [f32],
-    line: &mut [f32],
-    lats: &mut [i32; POINTS],
-    lons: &mut [i32; POINTS],
-) -> Step {
-    let read = script::read(row, lats, lons);
-    let call = read.call;
-    let points = read.points;
-    match call {
-        Call::Change(change) => {
-            let a = performing::perform(change, h, crumbs, line, lats, lons, points);
-            let end = tell_acted(out, number, script::word(row), a, crumbs);
-            let homing = a.homing;
-            Step {
-                homing,
-                compared: compare_call(answers, place, number, out, end),
-            }
-        }
-        Call::Ask(question) => {
-            let end = tell_asked(out, number, question, h, crumbs, line);
-            Step {
-                homing: h,
-                compared: compare_call(answers, place, number, out, end),
-            }
-        }
-        _ => {
-            unreadable(row);
-            Step {
-                homing: h,
-                compared: Compared::Differs,
-            }
-        }
+    number: u64,
+    row: &[u8],
+    text: &[u8],
+    end: usize,
+) -> Compared {
+    if end == 0 {
+        unreadable(row);
+        return Compared::Differs;
     }
+    compare_call(answers, place, number, text, end)
 }
 
 // ---- a script
@@ -192,11 +139,12 @@ fn compare_end(
     number: u64,
     answers: &[u8],
     place: usize,
-    h: Homing,
+    ride: Ride,
+    own: Own,
     crumbs: &[f32],
     line: &[f32],
 ) {
-    let end = transcript::tell_end(out, 0, h, crumbs, line);
+    let end = playing::tell_end(out, ride, own, crumbs, line);
     print_agree(number);
     let Compared::Same(behind) = compare(answers, place, out, end) else {
         print(b", the end does not:\n");
@@ -209,15 +157,16 @@ fn compare_end(
     print(b"\n");
 }
 
-// Performs a script's calls from the line at `from` on, and compares them with the stored answers from
-// `begin` on, up to a line that cannot be read or a call that differs.
-fn perform_calls(
+// Performs a script's lines from the one at `from` on, and compares them with the stored answers from
+// `begin` on, up to a line that cannot be read or differs.
+fn perform_lines(
     out: &mut [u8],
     script: &[u8],
     from: usize,
     answers: &[u8],
     begin: usize,
-    fresh: Homing,
+    fresh: Ride,
+    own: Own,
     crumbs: &mut [f32],
     line: &mut [f32],
 )
@@ -225,81 +174,88 @@ fn perform_calls(
 {
     let mut lats = [0i32; POINTS];
     let mut lons = [0i32; POINTS];
+    let mut file = [0u8; FILE];
     let mut number = 1u64;
     let mut place = begin;
-    let mut homing = fresh;
-    let mut at = script::next(script, from);
+    let mut ride = fresh;
+    let mut at = reading::next(script, from);
     while at < script.len() {
-        let row = script::line_at(script, at);
+        let row = reading::line_at(script, at);
         number += 1;
-        let done = perform_line(
+        let done = playing::play(
             out,
             row,
             number,
-            answers,
-            place,
-            homing,
+            ride,
+            own,
             crumbs,
             line,
             &mut lats,
             &mut lons,
+            &mut file,
         );
-        let compared = done.compared;
-        let Compared::Same(behind) = compared else {
+        let Compared::Same(behind) = compare_line(answers, place, number, row, out, done.end) else {
             return;
         };
         place = behind;
-        homing = done.homing;
-        at = script::next(script, script::behind(script, at));
+        ride = done.ride;
+        at = reading::next(script, reading::behind(script, at));
     }
-    compare_end(out, number, answers, place, homing, crumbs, line);
+    compare_end(out, number, answers, place, ride, own, crumbs, line);
 }
 
-// As `perform_calls`, with the guide's making before them, whose line ends at `from`.
+// As `perform_lines`, with the guide's making before them, whose line ends at `from`.
 fn perform_script(
     out: &mut [u8],
     script: &[u8],
     from: usize,
     answers: &[u8],
+    own: Own,
     crumbs: &mut [f32],
     line: &mut [f32],
 )
     requires { ⌜ (0 < from) × (from ≤ length (now script)) ⌝ }
 {
-    let made = performing::begin(crumbs);
-    let end = tell_acted(out, 1, b"new", made, crumbs);
-    let Compared::Same(behind) = compare_call(answers, 0, 1, out, end) else {
+    let made = playing::begin(out, own, crumbs);
+    let Compared::Same(behind) = compare_call(answers, 0, 1, out, made.end) else {
         return;
     };
-    let fresh = made.homing;
-    perform_calls(out, script, from, answers, behind, fresh, crumbs, line);
+    perform_lines(
+        out,
+        script,
+        from,
+        answers,
+        behind,
+        made.ride,
+        own,
+        crumbs,
+        line,
+    );
 }
 
 // As `perform_script`, with room for so many crumbs, and for a course of so many points.
 fn perform_new(script: &[u8], from: usize, answers: &[u8], capacity: usize, room: usize)
-    requires { ⌜ (0 < from) × (from ≤ length (now script)) × (capacity ≤ 4096) × (room ≤ 2048) ⌝ }
+    requires { ⌜ (0 < from) × (from ≤ length (now script)) ⌝ }
 {
     let mut out = [0u8; TEXT];
-    let mut crumbs = [0.0; crumbs::STRIDE * CRUMBS];
-    let mut line = [0.0; crumbs::STRIDE * POINTS];
-    perform_script(
-        &mut out,
-        script,
-        from,
-        answers,
-        &mut crumbs[..crumbs::STRIDE * capacity],
-        &mut line[..crumbs::STRIDE * room],
-    );
+    let mut crumbs = [0.0; CRUMBS_LENT];
+    let mut line = [0.0; LINE_LENT];
+    let own = Own {
+        crumbs: capacity,
+        line: room,
+    };
+    perform_script(&mut out, script, from, answers, own, &mut crumbs, &mut line);
 }
 
 fn compare_script(script: &[u8], answers: &[u8]) {
-    let at = script::next(script, 0);
+    let at = reading::next(script, 0);
     if at == script.len() {
         print(b"error: there is no script\n");
         return;
     }
-    let row = script::line_at(script, at);
-    let Call::New(capacity, room) = script::call_of(script::word(row), script::numbers(row)) else {
+    let row = reading::line_at(script, at);
+    let Call::New(capacity, room) = script::call_of(reading::word(row), reading::numbers(row))
+    else {
         unreadable(row);
         return;
     };
@@ -307,16 +263,16 @@ fn compare_script(script: &[u8], answers: &[u8]) {
         unreadable(row);
         return;
     }
-    perform_new(script, script::behind(script, at), answers, capacity, room);
+    perform_new(script, reading::behind(script, at), answers, capacity, room);
 }
 
 fn compare_text(text: &[u8]) {
-    let at = script::answers_at(text);
+    let at = reading::answers_at(text);
     if at == text.len() {
         print(b"error: there is no line `answers`\n");
         return;
     }
-    let answers = script::behind(text, at);
+    let answers = reading::behind(text, at);
     compare_script(&text[..at], &text[answers..]);
 }
 

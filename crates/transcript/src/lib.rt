@@ -1,300 +1,103 @@
-// What a guide answers, as text. Numbers are decimal, an f32 is its pattern in eight hexadecimal capitals,
-// a flag is 0 or 1, and `-` stands for none. Each function puts its text into a lent buffer, from a place
-// on, and answers the place behind it; what has no room is cut off, and that place is the buffer's end.
+// The text of a script's lines, put to the front of a lent buffer: each call's number and word, its answer,
+// and the state behind it.
 use answers::Ahead;
-use answers::Angle;
 use answers::Back;
 use answers::Count;
 use answers::Riding;
 use answers::Showing;
 use answers::Verdict;
-use crumbs::Crumb;
-use plane::Heading;
-use plane::Point;
-use plane::Spot;
+use rebuild::Rebuild;
 use script::Question;
-use state::Event;
-use state::Guide;
 use state::Homing;
-use state::Mode;
-ghost use Prim.Native.Nat.{_<_};
+use thin::Thinned;
+use wording::Answer;
+use wording::put;
+use wording::put_ahead;
+use wording::put_answer;
+use wording::put_back;
+use wording::put_count;
+use wording::put_lines;
+use wording::put_number;
+use wording::put_part;
+use wording::put_riding;
+use wording::put_showing;
+use wording::put_stage;
+use wording::put_thinned;
+use wording::put_verdict;
 
-// What a call that may change something answers.
-pub enum Answer {
-    Nothing,
-    Event(Event),
-    Is(bool),
-    Refused(u8),
-}
-
-// ---- values
-
-pub fn put(out: &mut [u8], at: usize, text: &[u8]) -> usize {
-    let mut to = at;
-    let mut i = 0;
-    while i < text.len() {
-        if to >= out.len() {
-            return to;
-        }
-        out[to] = text[i];
-        to += 1;
-        i += 1;
-    }
-    to
-}
-
-pub fn put_number(out: &mut [u8], at: usize, n: u64) -> usize {
-    let mut text = [0u8; 20];
-    let k = io::decimal(n, &mut text);
-    put(out, at, &text[..k])
-}
-
-fn put_metres(out: &mut [u8], at: usize, m: u32) -> usize {
-    put_number(out, at, m as u64)
-}
-
-fn put_angle(out: &mut [u8], at: usize, way: u16) -> usize {
-    put_number(out, at, way as u64)
-}
-
-fn put_flag(out: &mut [u8], at: usize, flag: bool) -> usize {
-    if flag {
-        return put(out, at, b"1");
-    }
-    put(out, at, b"0")
-}
-
-// The refusal by the question with this number.
-fn put_refused(out: &mut [u8], at: usize, number: u8) -> usize {
-    let at = put(out, at, b"refused ");
-    put_number(out, at, number as u64)
-}
-
-fn capital(digit: u32) -> u8
-    requires { ⌜ digit < 16 ⌝ }
-{
-    if digit < 10 {
-        return 48 + digit as u8;
-    }
-    55 + digit as u8
-}
-
-fn put_pattern(out: &mut [u8], at: usize, x: f32) -> usize {
-    let mut rest = binary32::pattern(x);
-    let mut text = [b'0'; 8];
-    for i in 0..8usize {
-        text[7 - i] = capital(rest % 16);
-        rest /= 16;
-    }
-    put(out, at, &text)
-}
-
-fn put_point(out: &mut [u8], at: usize, p: Point) -> usize {
-    let at = put_pattern(out, at, p.east);
-    let at = put(out, at, b" ");
-    put_pattern(out, at, p.north)
-}
-
-fn put_crumb(out: &mut [u8], at: usize, c: Crumb) -> usize {
-    let at = put(out, at, b"\n");
-    let at = put_point(out, at, crumbs::point(c));
-    let at = put(out, at, b" ");
-    put_pattern(out, at, c.along)
-}
-
-fn put_spot(out: &mut [u8], at: usize, spot: Spot) -> usize {
-    match spot {
-        Spot::At(p) => put_point(out, at, p),
-        Spot::Nowhere => put(out, at, b"-"),
-    }
-}
-
-fn put_heading(out: &mut [u8], at: usize, heading: Heading) -> usize {
-    match heading {
-        Heading::Known(way) => put_angle(out, at, way),
-        Heading::Unknown => put(out, at, b"-"),
-    }
-}
-
-fn put_event(out: &mut [u8], at: usize, event: Event) -> usize {
-    match event {
-        Event::Nothing => put(out, at, b"-"),
-        Event::Following => put(out, at, b"following"),
-        Event::OffTrack => put(out, at, b"off_track"),
-        Event::OnTrack => put(out, at, b"on_track"),
-        Event::Dropped => put(out, at, b"dropped"),
-        Event::Arrived => put(out, at, b"arrived"),
-        Event::CourseEnd => put(out, at, b"course_end"),
-    }
-}
-
-fn put_mode(out: &mut [u8], at: usize, mode: Mode) -> usize {
-    match mode {
-        Mode::Direct => put(out, at, b"direct"),
-        Mode::Track => put(out, at, b"track"),
-        Mode::OffTrack => put(out, at, b"off_track"),
-        Mode::Arrived => put(out, at, b"arrived"),
-    }
-}
-
-// ---- answers
-
-fn put_verdict(out: &mut [u8], at: usize, verdict: Verdict) -> usize {
-    match verdict {
-        Verdict::Is(yes) => put_flag(out, at, yes),
-        Verdict::Refused(number) => put_refused(out, at, number),
-    }
-}
-
-// What stands behind the word of a call: nothing, or a space and the answer.
-pub fn put_answer(out: &mut [u8], at: usize, answer: Answer) -> usize {
-    if let Answer::Nothing = answer {
-        return at;
-    }
-    let at = put(out, at, b" ");
-    match answer {
-        Answer::Nothing => at,
-        Answer::Event(event) => put_event(out, at, event),
-        Answer::Is(yes) => put_flag(out, at, yes),
-        Answer::Refused(number) => put_refused(out, at, number),
-    }
-}
-
-fn put_ahead(out: &mut [u8], at: usize, ahead: Ahead) -> usize {
-    match ahead {
-        Ahead::Along(end, matched) => {
-            let at = put_number(out, at, end as u64);
-            let at = put(out, at, b" ");
-            put_spot(out, at, matched)
-        }
-        Ahead::Nothing => put(out, at, b"-"),
-        Ahead::Refused(number) => put_refused(out, at, number),
-    }
-}
-
-fn put_arrow(out: &mut [u8], at: usize, g: Guide) -> usize {
-    match answers::arrow(g) {
-        Angle::Is(way) => put_angle(out, at, way),
-        Angle::Refused(number) => put_refused(out, at, number),
-    }
-}
-
-fn put_flags(out: &mut [u8], at: usize, g: Guide) -> usize {
-    let at = put(out, at, b" following ");
-    let at = put_flag(out, at, g.following);
-    let at = put(out, at, b" course ");
-    let at = put_flag(out, at, g.course);
-    let at = put(out, at, b" near ");
-    put_flag(out, at, g.course_near)
-}
-
-fn put_distances(out: &mut [u8], at: usize, g: Guide) -> usize {
-    let at = put(out, at, b" direct ");
-    let at = put_metres(out, at, g.direct_m);
-    let at = put(out, at, b" track ");
-    let at = put_metres(out, at, g.track_m);
-    let at = put(out, at, b" off ");
-    put_metres(out, at, g.off_m)
-}
-
-fn put_angles(out: &mut [u8], at: usize, g: Guide) -> usize {
-    let heading = g.heading;
-    let at = put(out, at, b" bearing ");
-    let at = put_angle(out, at, g.bearing);
-    let at = put(out, at, b" heading ");
-    let at = put_heading(out, at, heading);
-    let at = put(out, at, b" arrow ");
-    put_arrow(out, at, g)
-}
-
-fn put_guide(out: &mut [u8], at: usize, g: Guide) -> usize {
-    let mode = g.mode;
-    let at = put_mode(out, at, mode);
-    let at = put_flags(out, at, g);
-    let at = put_distances(out, at, g);
-    put_angles(out, at, g)
-}
-
-// How many crumbs a part of a buffer holds, and a line for each.
-fn put_crumbs(out: &mut [u8], at: usize, held: &[f32]) -> usize {
-    let len = crumbs::capacity(held.len());
-    let mut to = put_number(out, at, len as u64);
-    for i in 0..len {
-        to = put_crumb(out, to, crumbs::crumb_at(held, i));
-    }
-    to
+// What a guide answers to the questions that return no part of a buffer.
+pub struct Said {
+    len: Count,
+    following: Verdict,
+    following_course: Verdict,
+    course_ahead: Ahead,
+    route_home: Ahead,
+    heading: Riding,
+    guide: Showing,
+    way_back: Back,
 }
 
 // ---- the questions: the word and the answer
 
-fn tell_len(out: &mut [u8], at: usize, h: Homing) -> usize {
+pub fn ask(h: Homing, crumbs: &[f32]) -> Said {
+    Said {
+        len: answers::len(h),
+        following: answers::following(h),
+        following_course: answers::following_course(h),
+        course_ahead: answers::course_ahead(h),
+        route_home: answers::route_home(h),
+        heading: answers::heading(h),
+        guide: answers::guide(h),
+        way_back: answers::way_back(h, crumbs),
+    }
+}
+
+fn tell_len(out: &mut [u8], at: usize, said: Said) -> usize {
+    let len = said.len;
     let at = put(out, at, b"len ");
-    match answers::len(h) {
-        Count::Is(len) => put_number(out, at, len as u64),
-        Count::Refused(number) => put_refused(out, at, number),
-    }
+    put_count(out, at, len)
 }
 
-fn tell_following(out: &mut [u8], at: usize, h: Homing) -> usize {
+fn tell_following(out: &mut [u8], at: usize, said: Said) -> usize {
+    let following = said.following;
     let at = put(out, at, b"following ");
-    put_verdict(out, at, answers::following(h))
+    put_verdict(out, at, following)
 }
 
-fn tell_following_course(out: &mut [u8], at: usize, h: Homing) -> usize {
+fn tell_following_course(out: &mut [u8], at: usize, said: Said) -> usize {
+    let following = said.following_course;
     let at = put(out, at, b"following_course ");
-    put_verdict(out, at, answers::following_course(h))
+    put_verdict(out, at, following)
 }
 
-fn tell_course_ahead(out: &mut [u8], at: usize, h: Homing) -> usize {
+fn tell_course_ahead(out: &mut [u8], at: usize, said: Said) -> usize {
+    let ahead = said.course_ahead;
     let at = put(out, at, b"course_ahead ");
-    put_ahead(out, at, answers::course_ahead(h))
+    put_ahead(out, at, ahead)
 }
 
-fn tell_route_home(out: &mut [u8], at: usize, h: Homing) -> usize {
+fn tell_route_home(out: &mut [u8], at: usize, said: Said) -> usize {
+    let route = said.route_home;
     let at = put(out, at, b"route_home ");
-    put_ahead(out, at, answers::route_home(h))
+    put_ahead(out, at, route)
 }
 
-fn tell_heading(out: &mut [u8], at: usize, h: Homing) -> usize {
+fn tell_heading(out: &mut [u8], at: usize, said: Said) -> usize {
+    let heading = said.heading;
     let at = put(out, at, b"heading ");
-    match answers::heading(h) {
-        Riding::Heading(heading) => put_heading(out, at, heading),
-        Riding::Refused(number) => put_refused(out, at, number),
-    }
+    put_riding(out, at, heading)
 }
 
-fn tell_guide(out: &mut [u8], at: usize, h: Homing) -> usize {
+fn tell_guide(out: &mut [u8], at: usize, said: Said) -> usize {
+    let guide = said.guide;
     let at = put(out, at, b"guide ");
-    match answers::guide(h) {
-        Showing::Guide(g) => put_guide(out, at, g),
-        Showing::Nothing => put(out, at, b"-"),
-        Showing::Refused(number) => put_refused(out, at, number),
-    }
+    put_showing(out, at, guide)
 }
 
-fn put_back(out: &mut [u8], at: usize, back: Back) -> usize {
-    match back {
-        Back::Metres(direct, track) => {
-            let at = put_metres(out, at, direct);
-            let at = put(out, at, b" ");
-            put_metres(out, at, track)
-        }
-        Back::Nothing => put(out, at, b"-"),
-        Back::Refused(number) => put_refused(out, at, number),
-    }
-}
-
-fn tell_way_back(out: &mut [u8], at: usize, h: Homing, crumbs: &[f32]) -> usize {
+fn tell_way_back(out: &mut [u8], at: usize, said: Said) -> usize {
+    let back = said.way_back;
     let at = put(out, at, b"way_back ");
-    put_back(out, at, answers::way_back(h, crumbs))
-}
-
-// The crumbs of a part of a buffer, or the refusal by the question with this number, if it is not 0.
-fn put_part(out: &mut [u8], at: usize, held: &[f32], refused: u8) -> usize {
-    if refused != 0 {
-        return put_refused(out, at, refused);
-    }
-    put_crumbs(out, at, held)
+    put_back(out, at, back)
 }
 
 fn tell_crumbs(out: &mut [u8], at: usize, h: Homing, crumbs: &[f32]) -> usize {
@@ -314,10 +117,26 @@ fn tell_course(out: &mut [u8], at: usize, h: Homing, line: &[f32]) -> usize {
 fn tell_both(out: &mut [u8], at: usize, h: Homing, crumbs: &[f32], line: &[f32]) -> usize {
     let at = tell_crumbs(out, at, h, crumbs);
     let at = put(out, at, b"\n");
-    tell_course(out, at, h, line)
+    let at = tell_course(out, at, h, line);
+    put(out, at, b"\n")
 }
 
-pub fn tell(
+// What was said to a question; nothing to one that returns a part of a buffer.
+fn tell_said(out: &mut [u8], at: usize, question: Question, said: Said) -> usize {
+    match question {
+        Question::Len => tell_len(out, at, said),
+        Question::Following => tell_following(out, at, said),
+        Question::FollowingCourse => tell_following_course(out, at, said),
+        Question::CourseAhead => tell_course_ahead(out, at, said),
+        Question::WayBack => tell_way_back(out, at, said),
+        Question::Heading => tell_heading(out, at, said),
+        Question::RouteHome => tell_route_home(out, at, said),
+        Question::Guide => tell_guide(out, at, said),
+        _ => at,
+    }
+}
+
+fn tell_question(
     out: &mut [u8],
     at: usize,
     question: Question,
@@ -326,65 +145,115 @@ pub fn tell(
     line: &[f32],
 ) -> usize {
     match question {
-        Question::Len => tell_len(out, at, h),
-        Question::Following => tell_following(out, at, h),
-        Question::FollowingCourse => tell_following_course(out, at, h),
-        Question::Course => tell_course(out, at, h, line),
-        Question::CourseAhead => tell_course_ahead(out, at, h),
         Question::Crumbs => tell_crumbs(out, at, h, crumbs),
-        Question::WayBack => tell_way_back(out, at, h, crumbs),
-        Question::Heading => tell_heading(out, at, h),
-        Question::RouteHome => tell_route_home(out, at, h),
-        Question::Guide => tell_guide(out, at, h),
-        Question::Dump => {
-            let at = put(out, at, b"dump\n");
-            tell_both(out, at, h, crumbs, line)
-        }
+        Question::Course => tell_course(out, at, h, line),
+        _ => tell_said(out, at, question, ask(h, crumbs)),
     }
 }
 
-// ---- the lines behind a call
+// ---- the state
 
-// The beginning of a call's text: its number, and its word.
-pub fn put_call(out: &mut [u8], number: u64, word: &[u8]) -> usize {
+// Which line is followed, and the way on along it.
+fn tell_followed(out: &mut [u8], at: usize, said: Said) -> usize {
+    let at = tell_following(out, at, said);
+    let at = put(out, at, b" ");
+    let at = tell_following_course(out, at, said);
+    let at = put(out, at, b" ");
+    let at = tell_course_ahead(out, at, said);
+    let at = put(out, at, b" ");
+    tell_route_home(out, at, said)
+}
+
+// The heading and the way that was ridden.
+fn tell_ridden(out: &mut [u8], at: usize, said: Said) -> usize {
+    let at = tell_heading(out, at, said);
+    let at = put(out, at, b" ");
+    let at = tell_way_back(out, at, said);
+    let at = put(out, at, b" ");
+    tell_len(out, at, said)
+}
+
+// The two lines behind each call that may change something.
+fn tell_state(out: &mut [u8], at: usize, said: Said) -> usize {
+    let at = tell_guide(out, at, said);
+    let at = put(out, at, b"\n");
+    let at = tell_followed(out, at, said);
+    let at = put(out, at, b" ");
+    let at = tell_ridden(out, at, said);
+    put(out, at, b"\n")
+}
+
+// The line of a rebuild behind those two.
+pub fn tell_rebuild(out: &mut [u8], at: usize, r: Rebuild) -> usize {
+    let stage = r.stage;
+    let at = put(out, at, b"rebuild slot ");
+    let at = put_number(out, at, r.walk.slot as u64);
+    let at = put(out, at, b" clock ");
+    let at = put_number(out, at, r.clock_ms);
+    let at = put(out, at, b" ");
+    let at = put_stage(out, at, stage);
+    put(out, at, b"\n")
+}
+
+// ---- the text of a call, from the buffer's front on
+
+// The call's number and word.
+fn put_call(out: &mut [u8], number: u64, word: &[u8]) -> usize {
     let at = put_number(out, 0, number);
     let at = put(out, at, b" ");
     put(out, at, word)
 }
 
-// Which line is followed, and the way on along it.
-fn tell_followed(out: &mut [u8], at: usize, h: Homing) -> usize {
-    let at = tell_following(out, at, h);
-    let at = put(out, at, b" ");
-    let at = tell_following_course(out, at, h);
-    let at = put(out, at, b" ");
-    let at = tell_course_ahead(out, at, h);
-    let at = put(out, at, b" ");
-    tell_route_home(out, at, h)
-}
-
-// The heading and the way that was ridden.
-fn tell_ridden(out: &mut [u8], at: usize, h: Homing, crumbs: &[f32]) -> usize {
-    let at = tell_heading(out, at, h);
-    let at = put(out, at, b" ");
-    let at = tell_way_back(out, at, h, crumbs);
-    let at = put(out, at, b" ");
-    tell_len(out, at, h)
-}
-
-// The two lines behind each call that may change something.
-pub fn tell_state(out: &mut [u8], at: usize, h: Homing, crumbs: &[f32]) -> usize {
-    let at = tell_guide(out, at, h);
-    let at = put(out, at, b"\n");
-    let at = tell_followed(out, at, h);
-    let at = put(out, at, b" ");
-    let at = tell_ridden(out, at, h, crumbs);
+// A call whose text is one line.
+pub fn tell_answer(out: &mut [u8], number: u64, word: &[u8], answer: Answer) -> usize {
+    let at = put_call(out, number, word);
+    let at = put_answer(out, at, answer);
     put(out, at, b"\n")
+}
+
+// A call that may change something.
+pub fn tell_call(out: &mut [u8], number: u64, word: &[u8], answer: Answer, said: Said) -> usize {
+    let at = tell_answer(out, number, word, answer);
+    tell_state(out, at, said)
+}
+
+pub fn tell_asked(
+    out: &mut [u8],
+    number: u64,
+    question: Question,
+    h: Homing,
+    crumbs: &[f32],
+    line: &[f32],
+) -> usize {
+    let at = put_call(out, number, b"");
+    let at = tell_question(out, at, question, h, crumbs, line);
+    put(out, at, b"\n")
+}
+
+pub fn tell_dump(out: &mut [u8], number: u64, h: Homing, crumbs: &[f32], line: &[f32]) -> usize {
+    let at = put_call(out, number, b"dump\n");
+    tell_both(out, at, h, crumbs, line)
+}
+
+// The first crumbs of the buffer are those that are left.
+pub fn tell_thinned(out: &mut [u8], number: u64, thinned: Thinned, numbers: &[f32]) -> usize {
+    match thinned {
+        Thinned::Left {
+            len,
+            tolerance,
+            passes,
+        } => {
+            let at = put_call(out, number, b"thin ");
+            let at = put_thinned(out, at, len, tolerance, passes);
+            let at = put_lines(out, at, crumbs::front(numbers, len));
+            put(out, at, b"\n")
+        }
+        Thinned::Refused(question) => tell_answer(out, number, b"thin", Answer::Refused(question)),
+    }
 }
 
 // The lines behind a script.
-pub fn tell_end(out: &mut [u8], at: usize, h: Homing, crumbs: &[f32], line: &[f32]) -> usize {
-    let at = put(out, at, b"end\n");
-    let at = tell_both(out, at, h, crumbs, line);
-    put(out, at, b"\n")
+pub fn tell_end(out: &mut [u8], h: Homing, crumbs: &[f32], line: &[f32]) -> usize {
+    let at = put(out, 0, b"end\n");
+    tell_both(out, at, h, crumbs, line)
 }
