@@ -1,9 +1,37 @@
-// A script is text, a call a line: a word, and decimal integers behind it, each after a space. Blank lines
-// and what follows a `#` are left out.
+// A script is text, a line a call or what prepares one: a word, and decimal integers behind it, each after a
+// space. Blank lines and what follows a `#` are left out.
 use course::POINTS;
-ghost use Prim.Native.Nat.{_≤_, _<_, max};
-ghost use lib.ListN.{length};
+use reading::Flag;
+use reading::Point;
+use reading::Size;
+use reading::U8;
+use reading::U32;
+ghost use Prim.Native.Nat.{_≤_};
 
+// A call that may change the guide.
+pub enum Change {
+    Reset,
+    // Latitude, longitude and the clock.
+    Observe(i32, i32, u64),
+    Missing(u64),
+    Replay(i32, i32, u64),
+    EndReplay,
+    SetCourse,
+    SetAutoFollow(bool),
+    SetFollowing(bool, u64),
+}
+
+// A call of a rebuild that may change it or the guide.
+pub enum Restart {
+    // The recovered ride, and the upper slot.
+    Rebuild(u32, usize),
+    // The upper slot, and the budget.
+    Step(usize, usize),
+    // Whether the time is known, and the time.
+    Settle(bool, u64),
+}
+
+// A call that only answers.
 pub enum Question {
     Len,
     Following,
@@ -15,23 +43,35 @@ pub enum Question {
     Heading,
     RouteHome,
     Guide,
+}
+
+// A call that is given nothing that a line before it could spoil.
+pub enum Aside {
     // Crumbs and course.
     Dump,
+    // The numbers of a buffer, the crumbs in it, and the tolerance's pattern.
+    Thin(usize, usize, u32),
+    CaughtUp(usize),
+}
+
+// What a line that is no call prepares.
+pub enum Preparation {
+    // The question, and which of the things that it refuses.
+    Spoil(u8, u8),
+    // A record behind the chain file.
+    Record,
+    // The chain file's length.
+    Bytes(usize),
 }
 
 pub enum Call {
     // A script begins: room for so many crumbs, and for a line of so many.
     New(usize, usize),
-    Reset,
-    // Latitude, longitude and the clock.
-    Observe(i32, i32, u64),
-    Missing(u64),
-    Replay(i32, i32, u64),
-    EndReplay,
-    SetCourse,
-    SetAutoFollow(bool),
-    SetFollowing(bool, u64),
+    Change(Change),
+    Restart(Restart),
     Ask(Question),
+    Aside(Aside),
+    Prepare(Preparation),
     Unreadable,
 }
 
@@ -41,288 +81,122 @@ pub struct Line {
     pub points: usize,
 }
 
-// ---- places in a text
+// ---- the numbers that end a line
 
-// Where the first such byte stands, from `from` on; where there is none, the text's end.
-fn find(text: &[u8], from: usize, byte: u8) -> usize
-    ensures { λ r. ⌜ (from ≤ r) × (r ≤ max from (length (now (text .entry)))) ⌝ }
-{
-    let mut at = from;
-    while at < text.len() {
-        if text[at] == byte {
-            return at;
-        }
-        at += 1;
-    }
-    at
-}
-
-// Where the first byte that is no space stands, from `from` on; where there is none, the text's end.
-fn blanks(text: &[u8], from: usize) -> usize
-    ensures { λ r. ⌜ (from ≤ r) × (r ≤ max from (length (now (text .entry)))) ⌝ }
-{
-    let mut at = from;
-    while at < text.len() {
-        if text[at] != b' ' {
-            return at;
-        }
-        at += 1;
-    }
-    at
-}
-
-// The line that begins at `at`, without its remark.
-pub fn line_at(text: &[u8], at: usize) -> &[u8]
-    requires { ⌜ at ≤ length (now text) ⌝ }
-{
-    let end = find(text, at, b'\n');
-    let whole = &text[at..end];
-    let remark = find(whole, 0, b'#');
-    &whole[..remark]
-}
-
-// Where the next line begins.
-pub fn behind(text: &[u8], at: usize) -> usize
-    requires { ⌜ at < length (now text) ⌝ }
-    ensures { λ r. ⌜ (at < r) × (r ≤ length (now (text .entry))) ⌝ }
-{
-    let end = find(text, at, b'\n');
-    if end < text.len() {
-        return end + 1;
-    }
-    end
-}
-
-// Where a line with a call begins, from the line at `from` on; where there is none, the text's end.
-pub fn next(text: &[u8], from: usize) -> usize
-    requires { ⌜ from ≤ length (now text) ⌝ }
-    ensures { λ r. ⌜ (from ≤ r) × (r ≤ length (now (text .entry))) ⌝ }
-{
-    let mut at = from;
-    while at < text.len() {
-        if word(line_at(text, at)).len() != 0 {
-            return at;
-        }
-        at = behind(text, at);
-    }
-    at
-}
-
-// The word of a line, which is empty in a blank one.
-pub fn word(line: &[u8]) -> &[u8] {
-    let from = blanks(line, 0);
-    let end = find(line, from, b' ');
-    &line[from..end]
-}
-
-// What stands behind the word.
-pub fn numbers(line: &[u8]) -> &[u8] {
-    let from = blanks(line, 0);
-    let end = find(line, from, b' ');
-    &line[end..]
-}
-
-fn ended(text: &[u8], at: usize) -> bool {
-    blanks(text, at) == text.len()
-}
-
-fn is(word: &[u8], name: &[u8]) -> bool {
-    if word.len() != name.len() {
-        return false;
-    }
-    for i in 0..word.len() {
-        if word[i] != name[i] {
-            return false;
-        }
-    }
-    true
-}
-
-// ---- numbers: each with the place behind it
-
-enum Size {
-    Is(u64, usize),
+// A place and the clock.
+enum Fix {
+    At(i32, i32, u64),
     Nothing,
 }
 
-// A latitude or a longitude, in 1e-7 degree.
-enum Degrees {
-    Is(i32, usize),
+enum One {
+    Is(u64),
     Nothing,
 }
 
-// A latitude and a longitude.
-enum Point {
-    At(i32, i32, usize),
+enum Two {
+    Are(u64, u64),
     Nothing,
 }
 
-enum Flag {
-    Is(bool, usize),
+// A flag and a number.
+enum Choice {
+    Is(bool, u64),
     Nothing,
 }
 
-// What a digit stands for; 10 where the byte is none.
-fn digit(b: u8) -> u64
-    ensures { λ r. ⌜ r ≤ 10 ⌝ }
-{
-    match b {
-        48..=57 => (b - 48) as u64,
-        _ => 10,
-    }
-}
-
-// The number whose digits stand from `from` to `at`, if there are any.
-fn sized(value: u64, from: usize, at: usize) -> Size {
-    if at == from {
-        return Size::Nothing;
-    }
-    Size::Is(value, at)
-}
-
-// The number whose digits begin at `from`.
-fn digits(text: &[u8], from: usize) -> Size {
-    let mut value = 0u64;
-    let mut at = from;
-    while at < text.len() {
-        let d = digit(text[at]);
-        if d == 10 {
-            return sized(value, from, at);
-        }
-        if value > (0xffff_ffff_ffff_ffff - d) / 10 {
-            return Size::Nothing;
-        }
-        value = value * 10 + d;
-        at += 1;
-    }
-    sized(value, from, at)
-}
-
-// The number behind the spaces at `from`; there is at least one space.
-fn size_at(text: &[u8], from: usize) -> Size {
-    let at = blanks(text, from);
-    if at == from {
-        return Size::Nothing;
-    }
-    digits(text, at)
-}
-
-// The number with its sign, at most 2^31 - 1 in size.
-fn signed(size: Size, negative: bool) -> Degrees {
-    let Size::Is(value, at) = size else {
-        return Degrees::Nothing;
+fn fix_of(text: &[u8]) -> Fix {
+    let Point::At(lat, lon, next) = reading::point_at(text, 0) else {
+        return Fix::Nothing;
     };
-    if value > 0x7fff_ffff {
-        return Degrees::Nothing;
+    let Size::Is(clock_ms, at) = reading::size_at(text, next) else {
+        return Fix::Nothing;
+    };
+    if reading::ended(text, at) {
+        return Fix::At(lat, lon, clock_ms);
     }
-    let degrees = value as i32;
-    if negative {
-        return Degrees::Is(-degrees, at);
-    }
-    Degrees::Is(degrees, at)
+    Fix::Nothing
 }
 
-// As `size_at`, with a sign that may stand in front.
-fn degrees_at(text: &[u8], from: usize) -> Degrees {
-    let at = blanks(text, from);
-    if at == from {
-        return Degrees::Nothing;
+fn one_from(text: &[u8], from: usize) -> One {
+    let Size::Is(value, at) = reading::size_at(text, from) else {
+        return One::Nothing;
+    };
+    if reading::ended(text, at) {
+        return One::Is(value);
     }
-    if at < text.len() {
-        if text[at] == b'-' {
-            return signed(digits(text, at + 1), true);
-        }
-    }
-    signed(digits(text, at), false)
+    One::Nothing
 }
 
-fn point_at(text: &[u8], from: usize) -> Point {
-    let Degrees::Is(lat, next) = degrees_at(text, from) else {
-        return Point::Nothing;
-    };
-    let Degrees::Is(lon, at) = degrees_at(text, next) else {
-        return Point::Nothing;
-    };
-    Point::At(lat, lon, at)
+fn one_of(text: &[u8]) -> One {
+    one_from(text, 0)
 }
 
-fn flag_at(text: &[u8], from: usize) -> Flag {
-    let Size::Is(value, at) = size_at(text, from) else {
-        return Flag::Nothing;
+fn two_of(text: &[u8]) -> Two {
+    let Size::Is(first, at) = reading::size_at(text, 0) else {
+        return Two::Nothing;
     };
-    match value {
-        0 => Flag::Is(false, at),
-        1 => Flag::Is(true, at),
-        _ => Flag::Nothing,
-    }
+    let One::Is(second) = one_from(text, at) else {
+        return Two::Nothing;
+    };
+    Two::Are(first, second)
+}
+
+fn choice_of(text: &[u8]) -> Choice {
+    let Flag::Is(yes, at) = reading::flag_at(text, 0) else {
+        return Choice::Nothing;
+    };
+    let One::Is(value) = one_from(text, at) else {
+        return Choice::Nothing;
+    };
+    Choice::Is(yes, value)
 }
 
 // ---- the numbers behind a word
 
 fn new(text: &[u8]) -> Call {
-    let Size::Is(capacity, next) = size_at(text, 0) else {
+    let Two::Are(capacity, room) = two_of(text) else {
         return Call::Unreadable;
     };
-    let Size::Is(room, at) = size_at(text, next) else {
-        return Call::Unreadable;
-    };
-    if ended(text, at) {
-        return Call::New(capacity as usize, room as usize);
-    }
-    Call::Unreadable
+    Call::New(capacity as usize, room as usize)
 }
 
 fn observe(text: &[u8]) -> Call {
-    let Point::At(lat, lon, next) = point_at(text, 0) else {
+    let Fix::At(lat, lon, now_ms) = fix_of(text) else {
         return Call::Unreadable;
     };
-    let Size::Is(now_ms, at) = size_at(text, next) else {
-        return Call::Unreadable;
-    };
-    if ended(text, at) {
-        return Call::Observe(lat, lon, now_ms);
-    }
-    Call::Unreadable
+    Call::Change(Change::Observe(lat, lon, now_ms))
 }
 
 fn missing(text: &[u8]) -> Call {
-    let Size::Is(now_ms, at) = size_at(text, 0) else {
+    let One::Is(now_ms) = one_of(text) else {
         return Call::Unreadable;
     };
-    if ended(text, at) {
-        return Call::Missing(now_ms);
-    }
-    Call::Unreadable
+    Call::Change(Change::Missing(now_ms))
 }
 
 fn replay(text: &[u8]) -> Call {
-    match observe(text) {
-        Call::Observe(lat, lon, at_ms) => Call::Replay(lat, lon, at_ms),
-        _ => Call::Unreadable,
-    }
+    let Fix::At(lat, lon, at_ms) = fix_of(text) else {
+        return Call::Unreadable;
+    };
+    Call::Change(Change::Replay(lat, lon, at_ms))
 }
 
 fn set_auto_follow(text: &[u8]) -> Call {
-    let Flag::Is(on, at) = flag_at(text, 0) else {
+    let Flag::Is(on, at) = reading::flag_at(text, 0) else {
         return Call::Unreadable;
     };
-    if ended(text, at) {
-        return Call::SetAutoFollow(on);
+    if reading::ended(text, at) {
+        return Call::Change(Change::SetAutoFollow(on));
     }
     Call::Unreadable
 }
 
 fn set_following(text: &[u8]) -> Call {
-    let Flag::Is(follow, next) = flag_at(text, 0) else {
+    let Choice::Is(follow, now_ms) = choice_of(text) else {
         return Call::Unreadable;
     };
-    let Size::Is(now_ms, at) = size_at(text, next) else {
-        return Call::Unreadable;
-    };
-    if ended(text, at) {
-        return Call::SetFollowing(follow, now_ms);
-    }
-    Call::Unreadable
+    Call::Change(Change::SetFollowing(follow, now_ms))
 }
 
 fn set_course(text: &[u8], lats: &mut [i32; POINTS], lons: &mut [i32; POINTS]) -> Line
@@ -330,11 +204,11 @@ fn set_course(text: &[u8], lats: &mut [i32; POINTS], lons: &mut [i32; POINTS]) -
 {
     let mut at = 0;
     let mut points = 0;
-    while !ended(text, at) {
+    while !reading::ended(text, at) {
         if points == POINTS {
             return without_course(Call::Unreadable);
         }
-        let Point::At(lat, lon, next) = point_at(text, at) else {
+        let Point::At(lat, lon, next) = reading::point_at(text, at) else {
             return without_course(Call::Unreadable);
         };
         lats[points] = lat;
@@ -343,9 +217,76 @@ fn set_course(text: &[u8], lats: &mut [i32; POINTS], lons: &mut [i32; POINTS]) -
         at = next;
     }
     Line {
-        call: Call::SetCourse,
+        call: Call::Change(Change::SetCourse),
         points,
     }
+}
+
+fn rebuild(text: &[u8]) -> Call {
+    let U32::Is(recovered, at) = reading::u32_at(text, 0) else {
+        return Call::Unreadable;
+    };
+    let One::Is(upper) = one_from(text, at) else {
+        return Call::Unreadable;
+    };
+    Call::Restart(Restart::Rebuild(recovered, upper as usize))
+}
+
+fn step(text: &[u8]) -> Call {
+    let Two::Are(upper, budget) = two_of(text) else {
+        return Call::Unreadable;
+    };
+    Call::Restart(Restart::Step(upper as usize, budget as usize))
+}
+
+fn settle(text: &[u8]) -> Call {
+    let Choice::Is(known, utc_ms) = choice_of(text) else {
+        return Call::Unreadable;
+    };
+    Call::Restart(Restart::Settle(known, utc_ms))
+}
+
+fn caught_up(text: &[u8]) -> Call {
+    let One::Is(upper) = one_of(text) else {
+        return Call::Unreadable;
+    };
+    Call::Aside(Aside::CaughtUp(upper as usize))
+}
+
+fn thin(text: &[u8]) -> Call {
+    let Size::Is(size, next) = reading::size_at(text, 0) else {
+        return Call::Unreadable;
+    };
+    let Size::Is(len, at) = reading::size_at(text, next) else {
+        return Call::Unreadable;
+    };
+    let U32::Is(pattern, end) = reading::u32_at(text, at) else {
+        return Call::Unreadable;
+    };
+    if reading::ended(text, end) {
+        return Call::Aside(Aside::Thin(size as usize, len as usize, pattern));
+    }
+    Call::Unreadable
+}
+
+fn spoil(text: &[u8]) -> Call {
+    let U8::Is(question, at) = reading::u8_at(text, 0) else {
+        return Call::Unreadable;
+    };
+    let U8::Is(which, end) = reading::u8_at(text, at) else {
+        return Call::Unreadable;
+    };
+    if reading::ended(text, end) {
+        return Call::Prepare(Preparation::Spoil(question, which));
+    }
+    Call::Unreadable
+}
+
+fn bytes(text: &[u8]) -> Call {
+    let One::Is(len) = one_of(text) else {
+        return Call::Unreadable;
+    };
+    Call::Prepare(Preparation::Bytes(len as usize))
 }
 
 // ---- a line's call
@@ -357,34 +298,34 @@ fn without_course(call: Call) -> Line
 }
 
 fn asked(word: &[u8]) -> Call {
-    if is(word, b"len") {
+    if reading::is(word, b"len") {
         return Call::Ask(Question::Len);
     }
-    if is(word, b"following") {
+    if reading::is(word, b"following") {
         return Call::Ask(Question::Following);
     }
-    if is(word, b"following_course") {
+    if reading::is(word, b"following_course") {
         return Call::Ask(Question::FollowingCourse);
     }
-    if is(word, b"course") {
+    if reading::is(word, b"course") {
         return Call::Ask(Question::Course);
     }
-    if is(word, b"course_ahead") {
+    if reading::is(word, b"course_ahead") {
         return Call::Ask(Question::CourseAhead);
     }
-    if is(word, b"crumbs") {
+    if reading::is(word, b"crumbs") {
         return Call::Ask(Question::Crumbs);
     }
-    if is(word, b"way_back") {
+    if reading::is(word, b"way_back") {
         return Call::Ask(Question::WayBack);
     }
-    if is(word, b"heading") {
+    if reading::is(word, b"heading") {
         return Call::Ask(Question::Heading);
     }
-    if is(word, b"route_home") {
+    if reading::is(word, b"route_home") {
         return Call::Ask(Question::RouteHome);
     }
-    if is(word, b"guide") {
+    if reading::is(word, b"guide") {
         return Call::Ask(Question::Guide);
     }
     Call::Unreadable
@@ -392,50 +333,79 @@ fn asked(word: &[u8]) -> Call {
 
 // A word with no numbers behind it.
 fn bare(word: &[u8]) -> Call {
-    if is(word, b"reset") {
-        return Call::Reset;
+    if reading::is(word, b"reset") {
+        return Call::Change(Change::Reset);
     }
-    if is(word, b"end_replay") {
-        return Call::EndReplay;
+    if reading::is(word, b"end_replay") {
+        return Call::Change(Change::EndReplay);
     }
-    if is(word, b"dump") {
-        return Call::Ask(Question::Dump);
+    if reading::is(word, b"dump") {
+        return Call::Aside(Aside::Dump);
     }
     asked(word)
 }
 
-pub fn call_of(word: &[u8], numbers: &[u8]) -> Call {
-    if is(word, b"new") {
-        return new(numbers);
+// A word that is not one of the guide's calls with numbers.
+fn other(word: &[u8], numbers: &[u8]) -> Call {
+    if reading::is(word, b"rebuild") {
+        return rebuild(numbers);
     }
-    if is(word, b"observe") {
-        return observe(numbers);
+    if reading::is(word, b"step") {
+        return step(numbers);
     }
-    if is(word, b"missing") {
-        return missing(numbers);
+    if reading::is(word, b"settle") {
+        return settle(numbers);
     }
-    if is(word, b"replay") {
-        return replay(numbers);
+    if reading::is(word, b"caught_up") {
+        return caught_up(numbers);
     }
-    if is(word, b"set_auto_follow") {
-        return set_auto_follow(numbers);
+    if reading::is(word, b"thin") {
+        return thin(numbers);
     }
-    if is(word, b"set_following") {
-        return set_following(numbers);
+    if reading::is(word, b"spoil") {
+        return spoil(numbers);
     }
-    if ended(numbers, 0) {
+    if reading::is(word, b"record") {
+        return Call::Prepare(Preparation::Record);
+    }
+    if reading::is(word, b"bytes") {
+        return bytes(numbers);
+    }
+    if reading::ended(numbers, 0) {
         return bare(word);
     }
     Call::Unreadable
+}
+
+pub fn call_of(word: &[u8], numbers: &[u8]) -> Call {
+    if reading::is(word, b"new") {
+        return new(numbers);
+    }
+    if reading::is(word, b"observe") {
+        return observe(numbers);
+    }
+    if reading::is(word, b"missing") {
+        return missing(numbers);
+    }
+    if reading::is(word, b"replay") {
+        return replay(numbers);
+    }
+    if reading::is(word, b"set_auto_follow") {
+        return set_auto_follow(numbers);
+    }
+    if reading::is(word, b"set_following") {
+        return set_following(numbers);
+    }
+    other(word, numbers)
 }
 
 // The call of a line. The points of a course are put into `lats` and `lons`.
 pub fn read(line: &[u8], lats: &mut [i32; POINTS], lons: &mut [i32; POINTS]) -> Line
     ensures { λ r. ⌜ r .points ≤ 2048 ⌝ }
 {
-    let word = word(line);
-    let numbers = numbers(line);
-    if is(word, b"set_course") {
+    let word = reading::word(line);
+    let numbers = reading::numbers(line);
+    if reading::is(word, b"set_course") {
         return set_course(numbers, lats, lons);
     }
     without_course(call_of(word, numbers))

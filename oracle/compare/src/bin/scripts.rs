@@ -1,6 +1,6 @@
 //! Compares whole guides on random scripts: `scripts [--scripts N] [--full] [--seed S] [--first K]
-//! [--program PATH]`. With `--program` the other side is a program that prints transcripts, else the proved
-//! code behind the door. A class that no call meets is a failure. With `--self-test` mistakes stand in the place of the Rust, and each has to be found.
+//! [--program PATH]`. With `--program` the other side is a program that is given the script with the Rust's
+//! answers, else the proved code behind the door. A class that no call meets is a failure. With `--self-test` mistakes stand in the place of the Rust, and each has to be found.
 use compare::compared::{self, Difference};
 use compare::coverage::Coverage;
 use compare::homing::{Lent, Rebuilt};
@@ -99,8 +99,7 @@ fn search(options: &Options, differs: Differs) -> (Option<(u64, Script)>, Covera
         let mut coverage = Coverage::default();
         for k in numbers {
             let script = riders::script(options.seed, k);
-            let long = options.program.is_some() && too_long(&script);
-            if !long && differs(&script, &mut coverage).is_some() {
+            if differs(&script, &mut coverage).is_some() {
                 found.store(true, Relaxed);
                 return (Some((k, script)), coverage);
             }
@@ -119,10 +118,6 @@ fn search(options: &Options, differs: Differs) -> (Option<(u64, Script)>, Covera
         coverage.add(&met);
         (lower.or(upper), coverage)
     })
-}
-
-fn too_long(script: &Script) -> bool {
-    by_program::dumped(script).to_string().len() > by_program::LONGEST
 }
 
 fn equal(options: &Options, differs: Differs) -> bool {

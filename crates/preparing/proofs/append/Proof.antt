@@ -1,0 +1,64 @@
+-- `preparing::append` is safe and ends. Assumes nothing.
+use Prim.Native.Nat.{_-_}
+use mathlib.Core.Path.{_≡_}
+use lib.ListN.{length}
+use borrow.Author.Needs.{needs}
+use Rattle.preparing.proofs.append.Statement.{statement}
+use Rattle.preparing.proofs.append.Tie as tie
+
+abbrev Inv-loop : tie.InvT-loop
+Inv-loop file₀ at bytes to₀ i₀ file to i = length file ≡ length file₀
+
+abbrev μ-loop : tie.MeasureT-loop
+μ-loop file₀ at bytes to₀ i₀ file to i = length bytes - i
+
+loop-holds : tie.Need-loop-holds Inv-loop μ-loop
+loop-holds c = search needs
+
+same-length : tie.Need-same-length Inv-loop μ-loop
+same-length c = search needs
+
+returns : tie.Need-returns Inv-loop μ-loop
+returns c = search needs
+
+shared-slice-read-file : tie.Need-shared-slice-read-file Inv-loop μ-loop
+shared-slice-read-file c = search needs
+
+slice-write-file : tie.Need-slice-write-file Inv-loop μ-loop
+slice-write-file c = search needs
+
+add-to : tie.Need-add-to Inv-loop μ-loop
+add-to c = search needs
+
+add-i : tie.Need-add-i Inv-loop μ-loop
+add-i c = search needs
+
+loop-less : tie.Need-loop-less Inv-loop μ-loop
+loop-less c = search needs
+
+loop-again : tie.Need-loop-again Inv-loop μ-loop
+loop-again c = search needs
+
+same-length-2 : tie.Need-same-length-2 Inv-loop μ-loop
+same-length-2 c = search needs
+
+returns-2 : tie.Need-returns-2 Inv-loop μ-loop
+returns-2 c = search needs
+
+pub append-spec : {M : Type 1} → statement M
+append-spec =
+    tie.close
+    (tie.spec
+    Inv-loop
+    μ-loop
+    loop-holds
+    same-length
+    returns
+    shared-slice-read-file
+    slice-write-file
+    add-to
+    add-i
+    loop-less
+    loop-again
+    same-length-2
+    returns-2)
