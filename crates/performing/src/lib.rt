@@ -179,12 +179,12 @@ pub fn spoiled(h: Homing, way: u8) -> Homing {
     r
 }
 
-// The guide after a call that was given a state in place of the guide's own, which a refusal leaves.
-fn own(h: Homing, after: Homing, answer: Answer) -> Homing {
-    match answer {
-        Answer::Refused(_) => h,
-        _ => after,
+// The guide after a call: its own state again, where another was given in its place.
+fn own(h: Homing, after: Homing, way: u8) -> Homing {
+    if way == preparing::OWN {
+        return after;
     }
+    h
 }
 
 // ---- the guide's calls
@@ -249,7 +249,7 @@ pub fn perform(
 {
     let a = perform_on(spoiled(h, way), change, crumbs, line, lats, lons, points);
     let answer = a.answer;
-    let homing = own(h, a.homing, answer);
+    let homing = own(h, a.homing, way);
     Acted { homing, answer }
 }
 
@@ -291,10 +291,11 @@ pub fn restart(
     crumbs: &mut [f32],
     file: &[u8],
 ) -> Restarted {
-    let a = restart_on(spoiled(h, way_of(what, way)), r, what, crumbs, file);
+    let given = way_of(what, way);
+    let a = restart_on(spoiled(h, given), r, what, crumbs, file);
     let answer = a.answer;
     let rebuild = a.rebuild;
-    let homing = own(h, a.homing, answer);
+    let homing = own(h, a.homing, given);
     Restarted {
         homing,
         rebuild,
