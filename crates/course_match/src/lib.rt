@@ -50,7 +50,7 @@ fn in_reach(line: &[f32], len: usize, p: Point, ends: Range, along: f32, by: Ran
     requires { ⌜ (1 ≤ ends .from) × (ends .to < len) × (len ≤ capacity (length (now line))) ⌝ }
     ensures { λ r. ⌜ r ≡ inReach (crumbs len (now (line .entry))) p ends along by ⌝ }
 {
-    search::nearest_within(line, len, p, ends, around(along, segments::JUMP_M), by)
+    quick::nearest_within(line, len, p, ends, around(along, segments::JUMP_M), by)
 }
 
 // The pass of the near stretch that the rider is on.
@@ -63,7 +63,7 @@ fn on_near(line: &[f32], len: usize, p: Point, ends: Range, was: Progress) -> Be
         reached: was.reached,
         heading,
     };
-    search::nearest_within(line, len, p, ends, around(was.along, segments::NEAR_M), by)
+    quick::nearest_within(line, len, p, ends, around(was.along, segments::NEAR_M), by)
 }
 
 // Whether a match slides back against the rider's way.

@@ -1,10 +1,12 @@
 // A fix that is missing, and one from before a restart, once the questions are answered.
 
+use lap::Lap;
 use motion::Motion;
 use plane::Heading;
 use plane::Point;
 use plane::Spot;
 use state::Course;
+use state::Follow;
 use state::Homing;
 use state::Place;
 use state::Shown;
@@ -15,7 +17,9 @@ ghost use lib.ListN.{length};
 ghost use Rattle.trail.specs.View as trail;
 ghost use Rattle.follow.specs.View.{Changes, Follows};
 ghost use Rattle.motion.specs.Heading.{elapsed};
-ghost use Rattle.calls.specs.Fix.{fixLostMs, isAt, cleared, missing, headed, passOnly, replay, endReplay};
+ghost use Rattle.calls.specs.Fix.{fixLostMs, isAt, cleared, missing, headed, replay, endReplay};
+ghost use Rattle.follow.specs.Record.{afterThinning};
+ghost use Rattle.fix.specs.Pass.{passing};
 
 // A fix missing for longer than this leaves the guide without a position.
 const FIX_LOST_MS: u64 = 5_000;
@@ -76,19 +80,26 @@ pub fn headed(h: Homing, p: Point, now_ms: u64) -> Homing
 // ---- a fix from before a restart
 
 // The start pass is moved on, but no lap is taken.
-fn pass_only(h: Homing, p: Point) -> Homing
-    ensures { λ r. ⌜ Changes (passOnly p) h r ⌝ }
+fn passing(l: Lap, p: Point, heading: Heading) -> Lap
+    ensures { λ r. ⌜ r ≡ passing p heading l ⌝ }
 {
-    let m = h.motion;
-    let heading = m.heading;
-    let was = h.lap;
-    let passed = was.passed;
-    let mut next = h;
-    next.lap = lap::step_pass(was, p, heading);
-    next.lap.passed = passed;
+    let passed = l.passed;
+    let mut next = lap::step_pass(l, p, heading);
+    next.passed = passed;
     next
 }
 
+// A following of the breadcrumb is over after a thinning.
+fn after_thinning(thinned: bool, f: Follow) -> Follow
+    ensures { λ r. ⌜ r ≡ afterThinning thinned f ⌝ }
+{
+    if thinned {
+        return follow_parts::left(f);
+    }
+    f
+}
+
+// Each group of the state by itself, so that the whole is copied once.
 pub fn replay(h: Homing, crumbs: &mut [f32], lat: i32, lon: i32, now_ms: u64) -> Homing
     requires { ⌜ trail.Fit (h .trail) (length (now crumbs)) ⌝ }
     ensures { λ r. ⌜ Follows (λ C. replay C (record { lat = lat; lon = lon }) «now_ms») h (now (crumbs .entry)) r (now (crumbs .exit)) ⌝ }
@@ -96,11 +107,24 @@ pub fn replay(h: Homing, crumbs: &mut [f32], lat: i32, lon: i32, now_ms: u64) ->
     let was = h.frame;
     let frame = course::located(was, lat, lon);
     let p = course::framed(frame, lat, lon);
-    let mut there = h;
-    there.frame = frame;
-    let on = headed(there, p, now_ms);
-    let grown = follow::add(on, crumbs, p);
-    pass_only(grown, p)
+    let m = h.motion;
+    let motion = motion::track_heading(m, p, now_ms);
+    let heading = motion.heading;
+    let t = h.trail;
+    let added = trail::add(t, crumbs, p);
+    let trail = added.trail;
+    let f = h.follow;
+    let follow = after_thinning(added.thinned, f);
+    let l = h.lap;
+    let lap = passing(l, p, heading);
+    Homing {
+        frame,
+        motion,
+        trail,
+        follow,
+        lap,
+        ..h
+    }
 }
 
 // The heading starts again from the next fix.

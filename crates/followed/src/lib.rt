@@ -66,8 +66,8 @@ pub fn nearest(h: Homing, crumbs: &[f32], line: &[f32], p: Point, ends: Range) -
             };
             course_match::nearest_on_course(line, c.line_len, p, ends, was)
         }
-        Line::Nothing => search::nearest_on_breadcrumb(crumbs, len, p, ends),
-        Line::Breadcrumb => search::nearest_on_breadcrumb(crumbs, len, p, ends),
+        Line::Nothing => quick::nearest_on_breadcrumb(crumbs, len, p, ends),
+        Line::Breadcrumb => quick::nearest_on_breadcrumb(crumbs, len, p, ends),
     }
 }
 

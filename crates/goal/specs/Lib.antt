@@ -1,1 +1,2 @@
 pub mod Goal
+pub mod Near

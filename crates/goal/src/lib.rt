@@ -1,17 +1,21 @@
 // Where the rider is to arrive, and what the guide shows by it.
 
 use plane::Point;
-use segments::Best;
 use state::Line;
 use state::Mode;
 ghost use mathlib.Core.Path.{_≡_};
-ghost use Prim.Native.Nat.{_≤_};
+ghost use Prim.Native.Nat.{_-_, _≤_, _<_};
 ghost use lib.ListN.{length};
 ghost use Rattle.crumbs.specs.Crumb.{capacity, crumbs as heldCrumbs};
 ghost use Rattle.goal.specs.Goal.{goalOn, longEnough, modeOf, aim, foundAny, nearCourse};
+ghost use Rattle.goal.specs.Near.{liesNear, someNear};
+ghost use Rattle.search.specs.Course.{courseNear};
 
 // A breadcrumb this long can be ridden back to its start.
 const MIN_TRACK_M: f32 = 300.0;
+
+// The least square whose root is above `segments::DROP_M`.
+const BAR: f32 = 250000.015625;
 
 // Where the rider is to arrive: the course's end while it is followed, else the start.
 pub fn goal_on(on: Line, line: &[f32], len: usize, start: Point) -> Point
@@ -60,14 +64,46 @@ pub fn aim(p: Point, goal: Point, target: Point) -> Point
     target
 }
 
-fn found_any(best: Best) -> bool
-    ensures { λ r. ⌜ r ≡ foundAny best ⌝ }
+// Whether segment `end` of the course lies within `segments::DROP_M`. A square of `BAR` or more has a root above that.
+fn lies_near(line: &[f32], len: usize, p: Point, end: usize) -> bool
+    requires { ⌜ (1 ≤ end) × (end < len) × (len ≤ capacity (length (now line))) ⌝ }
+    ensures { λ r. ⌜ r ≡ liesNear (heldCrumbs len (now (line .entry))) p end ⌝ }
 {
-    if let Best::Found(_) = best {
-        true
-    } else {
-        false
+    let square = segments::square_on(line, len, p, end);
+    if square < BAR {
+        return binary32::sqrtf(square) <= segments::DROP_M;
     }
+    false
+}
+
+// Whether some segment of the course does.
+fn some_near(line: &[f32], len: usize, p: Point) -> bool
+    requires { ⌜ len ≤ capacity (length (now line)) ⌝ }
+    ensures { λ r. ⌜ r ≡ someNear (heldCrumbs len (now (line .entry))) p (len - 1) ⌝ }
+{
+    let mut end = len;
+    while end > 1 {
+        end -= 1;
+        if lies_near(line, len, p, end) {
+            return true;
+        }
+    }
+    false
+}
+
+// Whether the course's nearest segment does: some segment, and the first tried is no NaN away.
+fn found_near(line: &[f32], len: usize, p: Point) -> bool
+    requires { ⌜ len ≤ capacity (length (now line)) ⌝ }
+    ensures { λ r. ⌜ r ≡ foundAny (courseNear (heldCrumbs len (now (line .entry))) p) ⌝ }
+{
+    if len < 2 {
+        return false;
+    }
+    let first = segments::square_on(line, len, p, len - 1);
+    if first == first {
+        return some_near(line, len, p);
+    }
+    false
 }
 
 // The course is near where nothing is followed and it lies within `segments::DROP_M`.
@@ -76,10 +112,7 @@ pub fn near_course(on: Line, line: &[f32], len: usize, p: Point) -> bool
     ensures { λ r. ⌜ r ≡ nearCourse on (heldCrumbs len (now (line .entry))) p ⌝ }
 {
     match on {
-        Line::Nothing => {
-            let best = search::course_near(line, len, p);
-            found_any(best)
-        }
+        Line::Nothing => { found_near(line, len, p) }
         Line::Breadcrumb => false,
         Line::Course => false,
     }

@@ -10,12 +10,16 @@ ghost use mathlib.Core.Path.{_≡_};
 ghost use lib.Ieee.{le};
 ghost use Rattle.binary32.specs.Limits.{plusZero};
 ghost use Rattle.calls.specs.Questions.{sized, placeFits, alongFits, factorFits, headingFits, guideFits, shownFits, spotFits, crumbFits, asksGuide};
+ghost use Rattle.limits.specs.Sure.{noneBelow, noneAbove};
 
 // A place is at most this far from the origin, east or west, north or south.
 const PLACE_MOST_M: f32 = 100000000.0;
 
 // An along is below this, the `f32` nearest to 10^16, which lies above it.
 const ALONG_END_M: f32 = 1e16;
+
+// An along up to this is surely below that.
+const ALONG_SURE_M: f32 = 1e15;
 
 // The east factor is at most this in size.
 const FACTOR_MOST: f32 = 0.02;
@@ -77,6 +81,21 @@ pub fn crumb_fits(c: Crumb) -> bool
     ensures { λ r. ⌜ r ≡ crumbFits c ⌝ }
 {
     place_fits(crumbs::point(c)) & along_fits(c.along)
+}
+
+// ---- a crumb that surely fits: none of its numbers below its bound, and none above, an along's lower than need be. The two are
+// told apart so that a scan tests twelve numbers side by side.
+
+pub fn none_below(c: Crumb) -> bool
+    ensures { λ r. ⌜ r ≡ noneBelow c ⌝ }
+{
+    (-PLACE_MOST_M <= c.east) & (-PLACE_MOST_M <= c.north) & (0.0 <= c.along)
+}
+
+pub fn none_above(c: Crumb) -> bool
+    ensures { λ r. ⌜ r ≡ noneAbove c ⌝ }
+{
+    (c.east <= PLACE_MOST_M) & (c.north <= PLACE_MOST_M) & (c.along <= ALONG_SURE_M)
 }
 
 // ---- a guide

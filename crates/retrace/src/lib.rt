@@ -40,7 +40,7 @@ fn nearest_before(crumbs: &[f32], len: usize, p: Point, n: usize) -> Best
         return Best::Nothing;
     }
     let ends = Range { from: 1, to: n - 1 };
-    search::nearest_on_breadcrumb(crumbs, len, p, ends)
+    quick::nearest_on_breadcrumb(crumbs, len, p, ends)
 }
 
 // How long the breadcrumb was before the first fix back.

@@ -59,7 +59,9 @@ pub fn nearest_within(
     let mut best = SoFar::Empty;
     let mut end = ends.to;
     while ends.from <= end {
-        best = segments::consider(line, len, p, within, by, end, best);
+        if segments::may_cost(line, len, p, within, by, end) {
+            best = segments::consider(line, len, p, within, by, end, best);
+        }
         end -= 1;
     }
     segments::found(best)
@@ -97,7 +99,12 @@ fn closer(most: f32, best: Best) -> Best
 fn joins(p: Point, heading: u16, a: Crumb, b: Crumb) -> bool
     ensures { λ r. ⌜ r ≡ joins p heading a b ⌝ }
 {
-    if plane::off_segment(p, crumbs::point(a), crumbs::point(b)) < costs::ON_M {
+    let from = crumbs::point(a);
+    let to = crumbs::point(b);
+    if !(squares::off_square(p, from, to) < segments::FAR) {
+        return false;
+    }
+    if plane::off_segment(p, from, to) < costs::ON_M {
         return turns::same_way(heading, a, b);
     }
     false

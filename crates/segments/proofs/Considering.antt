@@ -1,6 +1,6 @@
 -- The cases of a segment that is considered. Assumes nothing.
 use Prim.Native.Nat.{ℕ, _-_}
-use mathlib.Core.Path.{_≡_, sym, ap}
+use mathlib.Core.Path.{_≡_, sym, ap, _∙_}
 use mathlib.Core.Bool.{true, false}
 use mathlib.Core.List.{List}
 use lib.Ieee.{lt}
@@ -34,6 +34,15 @@ module _ (line : List Crumb) (p : Point) (within : Stretch) (by : Ranking) (end 
       pub begins-past : lt (within .ceiling) (a .along) ≡ true → best ≡ considered line p cost end best
       unfolding costWithin
       begins-past t = let low = rw B at reaches in let high = rw A at t in stays (rw (low, high, costWithin))
+
+      pub lies-far : lt (within .ceiling) (a .along) ≡ false → ((e : ℕ) → costOf by (meets a b p e) a b ≡ Out) → best ≡ considered line p cost end best
+      unfolding considered costWithin nearestOn
+      lies-far t h =
+          let low = rw B at reaches in
+          let high = rw A at t in
+          let c : cost end ≡ costOf by (nearestOn line p end) (at line (end - 1)) (at line end) = rw (low, high, costWithin) in
+          let o : costOf by (nearestOn line p end) (at line (end - 1)) (at line end) ≡ Out = rw (← A, ← B) (h end) in
+          stays (c ∙ o)
 
       pub lies-in : {near : Nearest} {own : Cost} {next : SoFar} → lt (within .ceiling) (a .along) ≡ false
           → near ≡ meets a b p end → own ≡ costOf by near a b → next ≡ cheaper best near own → next ≡ considered line p cost end best

@@ -1,3 +1,4 @@
 pub mod Constants
 pub mod Line
 pub mod Segment
+pub mod Square

@@ -12,6 +12,12 @@ ghost use lib.ListN.{length};
 ghost use Rattle.crumbs.specs.Crumb.{capacity, crumbs};
 ghost use Rattle.segments.specs.Line.{at};
 ghost use Rattle.segments.specs.Segment.{meets, nearestOn, cheaper, costWithin, considered, found};
+ghost use mathlib.Core.Bool.{true, false};
+ghost use Rattle.segments.specs.declared.SoFar.{SoFar};
+ghost use Prim.Native.Nat.{ℕ};
+ghost use Rattle.costs.specs.declared.Cost.the-variants.{Out};
+ghost use Rattle.costs.specs.Cost.{costOf};
+ghost use Rattle.segments.specs.Square.{squareOn};
 
 // Following stops this far from the line, and a course this near can be followed.
 pub const DROP_M: f32 = 500.0;
@@ -33,6 +39,9 @@ pub const LARGEST: f32 = 340282346638528859811704183484516925440.0;
 
 // Rust's `f32::MIN`.
 pub const LOWEST: f32 = -340282346638528859811704183484516925440.0;
+
+// A square whose root is above `costs::ON_M`.
+pub const FAR: f32 = 626.0;
 
 // The segment that a search puts first.
 pub enum Best {
@@ -66,6 +75,55 @@ pub fn nearest_on(line: &[f32], len: usize, p: Point, end: usize) -> Nearest
     ensures { λ r. ⌜ r ≡ nearestOn (crumbs len (now (line .entry))) p end ⌝ }
 {
     meets(crumb(line, len, end - 1), crumb(line, len, end), p, end)
+}
+
+// The square of how far `p` is off segment `end` of the line.
+pub fn square_on(line: &[f32], len: usize, p: Point, end: usize) -> f32
+    requires { ⌜ (1 ≤ end) × (end < len) × (len ≤ capacity (length (now line))) ⌝ }
+    ensures { λ r. ⌜ r ≡ squareOn (crumbs len (now (line .entry))) p end ⌝ }
+{
+    let a = crumb(line, len, end - 1);
+    let b = crumb(line, len, end);
+    squares::off_square(p, crumbs::point(a), crumbs::point(b))
+}
+
+// Whether a ranking certainly has no cost for the segment from `a` to `b`: it lies further off than `costs::ON_M`. No root
+// is taken.
+fn too_far(by: Ranking, p: Point, a: Crumb, b: Crumb) -> bool
+    ensures { λ r. ⌜ (r ≡ true → (end : ℕ) → costOf by (meets a b p end) a b ≡ Out) ⌝ }
+{
+    let square = squares::off_square(p, crumbs::point(a), crumbs::point(b));
+    match by {
+        Ranking::Plain => false,
+        Ranking::On {
+            reached: _,
+            heading: _,
+        } => !(square < FAR),
+        Ranking::Ahead { heading: _ } => !(square < FAR),
+    }
+}
+
+// Whether segment `end` may have a cost: where it certainly has none it need not be considered.
+pub fn may_cost(
+    line: &[f32],
+    len: usize,
+    p: Point,
+    within: Stretch,
+    by: Ranking,
+    end: usize,
+) -> bool
+    requires { ⌜ (1 ≤ end) × (end < len) × (len ≤ capacity (length (now line))) ⌝ }
+    ensures { λ r. ⌜ (r ≡ false → (best : SoFar) → best ≡ considered (crumbs len (now (line .entry))) p (costWithin (crumbs len (now (line .entry))) p within by) end best) ⌝ }
+{
+    let a = crumb(line, len, end - 1);
+    let b = crumb(line, len, end);
+    if b.along < within.floor {
+        return false;
+    }
+    if a.along > within.ceiling {
+        return false;
+    }
+    !too_far(by, p, a, b)
 }
 
 // Where `p` meets the segment from `a` to `b`, whose far end is `end`.

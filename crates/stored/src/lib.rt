@@ -105,8 +105,9 @@ fn within(words: &[u64]) -> bool
     if words.len() < WORDS {
         return false;
     }
+    let most = MOST;
     for i in 0..WORDS {
-        if MOST[i] < words[i] {
+        if most[i] < words[i] {
             return false;
         }
     }

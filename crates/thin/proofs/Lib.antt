@@ -5,3 +5,4 @@ pub mod Asked
 pub mod Theorems
 pub mod Thinning
 pub mod Answers
+pub mod Bounding

@@ -2,3 +2,4 @@ pub mod Crumb
 pub mod Questions
 pub mod Promises
 pub mod Theorems
+pub mod Bounds

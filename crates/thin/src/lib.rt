@@ -10,16 +10,80 @@ ghost use Rattle.crumbs.specs.Crumb.{capacity, crumbAt, crumbs};
 ghost use Rattle.thin.specs.Crumb.{reach};
 ghost use Rattle.thin.specs.Questions.{question9};
 ghost use Rattle.thin.specs.Promises.{step, Passed, ThinDone};
+ghost use mathlib.Core.Bool.{not};
+ghost use lib.Ieee.{le};
+ghost use Rattle.plane.specs.Plane.{offSegment};
+ghost use Rattle.thin.specs.Bounds.{square, Under, Over};
+use plane::Point;
 
 // A kept crumb replaces at most this many before the next.
 const SPAN: usize = 256;
 // Passes that measure, before every other crumb goes.
 const ROUNDS: usize = 17;
 
+// Bounds on squares, found once a pass: the root of `lo` is at most the tolerance, that of `hi` is above it. One that is
+// missing is a NaN, to which no comparison says yes.
+struct Bounds {
+    lo: f32,
+    hi: f32,
+}
+
+fn under(x: f32, tolerance: f32) -> f32
+    ensures { λ r. ⌜ Under tolerance r ⌝ }
+{
+    if binary32::sqrtf(x) <= tolerance {
+        return x;
+    }
+    0.0 / 0.0
+}
+
+fn over(x: f32, tolerance: f32) -> f32
+    ensures { λ r. ⌜ Over tolerance r ⌝ }
+{
+    if binary32::sqrtf(x) > tolerance {
+        return x;
+    }
+    0.0 / 0.0
+}
+
+fn found(tolerance: f32) -> Bounds
+    ensures { λ r. ⌜ (Under tolerance (r .lo)) × (Over tolerance (r .hi)) ⌝ }
+{
+    let middle = tolerance * tolerance;
+    let lo = under(middle * 0.999999, tolerance);
+    let hi = over(middle * 1.000001, tolerance);
+    Bounds { lo, hi }
+}
+
+// The square of the distance from `a` to `b`.
+fn square(a: Point, b: Point) -> f32
+    ensures { λ r. ⌜ r ≡ square a b ⌝ }
+{
+    let east = b.east - a.east;
+    let north = b.north - a.north;
+    east * east + north * north
+}
+
+// Whether `p` strays from the segment a-b; a NaN does. A root is taken only where the bounds do not say.
+fn strays(p: Point, a: Point, b: Point, tolerance: f32, lo: f32, hi: f32) -> bool
+    requires { ⌜ (Under tolerance lo) × (Over tolerance hi) ⌝ }
+    ensures { λ r. ⌜ r ≡ not (le (offSegment p a b) tolerance) ⌝ }
+{
+    let s = square(p, plane::project(p, a, b).point);
+    if s <= lo {
+        return false;
+    }
+    if hi <= s {
+        return true;
+    }
+    !(binary32::sqrtf(s) <= tolerance)
+}
+
 // The farthest crumb after `anchor`, at most `SPAN` on, whose chord from `anchor` passes within
 // `tolerance` of every crumb between.
-fn reach(buf: &[f32], len: usize, anchor: usize, tolerance: f32) -> usize
+fn reach(buf: &[f32], len: usize, anchor: usize, tolerance: f32, lo: f32, hi: f32) -> usize
     requires { ⌜ (anchor < len) × (len ≤ capacity (length (now buf))) ⌝ }
+    requires { ⌜ (Under tolerance lo) × (Over tolerance hi) ⌝ }
     ensures { λ r. ⌜ r ≡ anchor + reach tolerance (crumbAt (now (buf .entry)) anchor) (drop (suc anchor) (crumbs len (now (buf .entry)))) ⌝ }
 {
     let a = crumbs::point_at(buf, anchor);
@@ -28,8 +92,7 @@ fn reach(buf: &[f32], len: usize, anchor: usize, tolerance: f32) -> usize
         let b = crumbs::point_at(buf, end);
         for j in anchor + 1..end {
             let p = crumbs::point_at(buf, j);
-            // A NaN strays.
-            if !(plane::off_segment(p, a, b) <= tolerance) {
+            if strays(p, a, b, tolerance, lo, hi) {
                 break 'ends;
             }
         }
@@ -39,14 +102,23 @@ fn reach(buf: &[f32], len: usize, anchor: usize, tolerance: f32) -> usize
 }
 
 // Where a pass goes on from `anchor`.
-fn next(buf: &[f32], len: usize, anchor: usize, tolerance: f32, halve: bool) -> usize
+fn next(
+    buf: &[f32],
+    len: usize,
+    anchor: usize,
+    tolerance: f32,
+    lo: f32,
+    hi: f32,
+    halve: bool,
+) -> usize
     requires { ⌜ (anchor + 2 < len) × (len ≤ capacity (length (now buf))) ⌝ }
+    requires { ⌜ (Under tolerance lo) × (Over tolerance hi) ⌝ }
     ensures { λ r. ⌜ r ≡ anchor + step halve tolerance (crumbAt (now (buf .entry)) anchor) (drop (suc anchor) (crumbs len (now (buf .entry)))) ⌝ }
 {
     if halve {
         return anchor + 2;
     }
-    reach(buf, len, anchor, tolerance)
+    reach(buf, len, anchor, tolerance, lo, hi)
 }
 
 // One pass over the first `len` crumbs, compacted in place; returns how many are kept. Each kept
@@ -58,10 +130,13 @@ fn pass(buf: &mut [f32], len: usize, tolerance: f32, halve: bool) -> usize
     if len <= 2 {
         return len;
     }
+    let bound = found(tolerance);
+    let lo = bound.lo;
+    let hi = bound.hi;
     let mut kept = 1;
     let mut anchor = 0;
     while anchor + 1 < len - 1 {
-        anchor = next(buf, len, anchor, tolerance, halve);
+        anchor = next(buf, len, anchor, tolerance, lo, hi, halve);
         let c = crumbs::crumb_at(buf, anchor);
         crumbs::put(buf, kept, c);
         kept += 1;

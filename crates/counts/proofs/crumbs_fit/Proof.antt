@@ -1,18 +1,21 @@
 -- `counts::crumbs_fit` meets its contract: those passed and those to come are all. Assumes nothing.
 use Prim.Native.Nat.{_-_}
 use native.Mathlib.Omega.{arith}
-use Rattle.counts.proofs.Scans.{Passing, passing-start, passing-next, passing-end}
+use Rattle.counts.proofs.Scans.{Passing, passing-from, passing-next, passing-end}
 use Rattle.counts.proofs.crumbs_fit.Statement.{statement}
 use Rattle.counts.proofs.crumbs_fit.Tie as tie
 
 abbrev Inv-loop : tie.InvT-loop
-Inv-loop buf len ok₀ i₀ ok i = Passing len buf ok i
+Inv-loop buf len first ok₀ i₀ ok i = Passing len buf ok i
 
 abbrev μ-loop : tie.MeasureT-loop
-μ-loop buf len ok₀ i₀ ok i = len - i
+μ-loop buf len first ok₀ i₀ ok i = len - i
+
+sure-requires : tie.Need-sure-requires Inv-loop μ-loop
+sure-requires c κs = c .before .pre
 
 loop-holds : tie.Need-loop-holds Inv-loop μ-loop
-loop-holds c = passing-start _ _
+loop-holds c = passing-from (c .sure .ensures)
 
 crumb-at-requires : tie.Need-crumb-at-requires Inv-loop μ-loop
 crumb-at-requires c κs = omega arith
@@ -38,6 +41,7 @@ crumbs-fit-spec =
     (tie.spec
     Inv-loop
     μ-loop
+    sure-requires
     loop-holds
     crumb-at-requires
     crumb-fits-requires

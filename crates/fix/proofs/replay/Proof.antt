@@ -1,11 +1,8 @@
 -- `fix::replay` meets its contract. Assumes nothing.
 use denote.Ref.{now}
-use mathlib.Core.Path.{_≡_, refl, sym, ap, _∙_, subst}
-use lib.ListN.{length}
-use Rattle.trail.specs.declared.Trail.{Trail}
-use Rattle.trail.specs.View as trail
+use mathlib.Core.Path.{ap, _∙_}
 use Rattle.course.specs.Fix.{Fix, located, framed}
-use Rattle.fix.proofs.Arriving.{handed-fix, replays}
+use Rattle.fix.proofs.Arriving.{handed-fix, replays-parts}
 use borrow.Author.Needs.{needs}
 use Rattle.fix.proofs.replay.Statement.{statement}
 use Rattle.fix.proofs.replay.Tie as tie
@@ -16,31 +13,35 @@ located-requires c κs = search needs
 framed-requires : tie.Need-framed-requires
 framed-requires c κs = search needs
 
-headed-requires : tie.Need-headed-requires
-headed-requires c κs = search needs
+track-heading-requires : tie.Need-track-heading-requires
+track-heading-requires c κs = search needs
 
 add-requires : tie.Need-add-requires
-add-requires c κs = let s = c .before .before .before .before .before .before in subst (λ (t : Trail). trail.Fit t (length (now (s .args .crumbs)))) (sym (c .before .headed .ensures .trail)) (s .pre)
+add-requires c κs = search needs
 
-pass-only-requires : tie.Need-pass-only-requires
-pass-only-requires c κs = search needs
+after-thinning-requires : tie.Need-after-thinning-requires
+after-thinning-requires c κs = search needs
+
+passing-requires : tie.Need-passing-requires
+passing-requires c κs = search needs
 
 same-length : tie.Need-same-length
 same-length c = search needs
 
 returns : tie.Need-returns
 returns c =
-    let s = c .before .before .before .before .before .before .before .before .before .before in
+    let s = c .before .before .before .before .before .before .before .before .before .before .before .before .before .before .before .before .before in
     let g = s .args in
     let x : Fix = record { lat = g .lat; lon = g .lon } in
     let same = handed-fix (g .lat) (g .lon) (s .fits .lat .sfits) (s .fits .lon .sfits) in
-    let f = c .before .before .before .before .before .before .before .located .result in
-    let p = c .before .before .before .before .before .before .framed .result in
-    let k = c .before .before .before .add in
-    replays (g .h) (c .before .before .before .before .before .headed .result) (k .result) (c .pass-only .result) x (g .now-ms) f p _ (now (g .crumbs)) (k .last .1 .0)
-    (c .before .before .before .before .before .before .before .located .ensures ∙ ap (λ (y : Fix). located y (g .h .frame)) same)
-    (c .before .before .before .before .before .before .framed .ensures ∙ ap (λ (y : Fix). framed f y) same)
-    (λ b. refl) refl (c .before .before .before .before .before .headed .ensures) (k .ensures) (c .pass-only .ensures)
+    let at = c .before .before .before .before .before .before .before .before .before .before .before .before .before .before .located in
+    let by = c .before .before .before .before .before .before .before .before .before .before .before .before .before .framed in
+    let m = c .before .before .before .before .before .before .before .before .before .before .before .track-heading in
+    let k = c .before .before .before .before .before .before .before .before .add in
+    let w = c .before .before .before .after-thinning in
+    let l = c .before .passing in
+    replays-parts (g .h) x (g .now-ms) (at .result) (by .result) (m .result) (k .result) (w .result) (l .result) (now (g .crumbs)) (k .last .1 .0)
+    (at .ensures ∙ ap (λ (y : Fix). located y (g .h .frame)) same) (by .ensures ∙ ap (λ (y : Fix). framed (at .result) y) same) (m .ensures) (k .ensures) (w .ensures) (l .ensures)
 
 pub replay-spec : {M : Type 1} → statement M
 replay-spec =
@@ -48,8 +49,9 @@ replay-spec =
     (tie.spec
     located-requires
     framed-requires
-    headed-requires
+    track-heading-requires
     add-requires
-    pass-only-requires
+    after-thinning-requires
+    passing-requires
     same-length
     returns)

@@ -2,9 +2,8 @@
 use denote.Ref.{now}
 use mathlib.Core.Path.{_≡_, sym, ap, _∙_}
 use Rattle.crumbs.specs.Crumb.{crumbs}
-use Rattle.segments.specs.declared.Best.{Best}
 use Rattle.state.specs.declared.Line.{Line}
-use Rattle.goal.specs.Goal.{foundAny, nearCourse}
+use Rattle.goal.specs.Goal.{nearCourse}
 use borrow.Author.Needs.{needs}
 use Rattle.goal.proofs.near_course.Statement.{statement}
 use Rattle.goal.proofs.near_course.Tie as tie
@@ -12,11 +11,8 @@ use Rattle.goal.proofs.near_course.Tie as tie
 enum-told : tie.Need-enum-told
 enum-told c = search needs
 
-course-near-requires : tie.Need-course-near-requires
-course-near-requires c κs = search needs
-
-found-any-requires : tie.Need-found-any-requires
-found-any-requires c κs = search needs
+found-near-requires : tie.Need-found-near-requires
+found-near-requires c κs = search needs
 
 enum-told-2 : tie.Need-enum-told-2
 enum-told-2 c = search needs
@@ -27,10 +23,9 @@ enum-told-3 c = search needs
 returns : tie.Need-returns
 unfolding nearCourse
 returns c =
-    let g = c .before .before .before .before .before .args in
-    c .found-any .ensures
-    ∙ ap (λ (x : Best). foundAny x) (c .before .course-near .ensures)
-    ∙ sym (ap (λ (x : Line). nearCourse x (crumbs (g .len) (now (g .line))) (g .p)) (c .before .before .enum-told .given .1))
+    let g = c .before .before .before .before .args in
+    c .found-near .ensures
+    ∙ sym (ap (λ (x : Line). nearCourse x (crumbs (g .len) (now (g .line))) (g .p)) (c .before .enum-told .given .1))
 
 returns-2 : tie.Need-returns-2
 unfolding nearCourse
@@ -45,8 +40,7 @@ near-course-spec =
     tie.close
     (tie.spec
     enum-told
-    course-near-requires
-    found-any-requires
+    found-near-requires
     enum-told-2
     enum-told-3
     returns

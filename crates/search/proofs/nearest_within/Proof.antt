@@ -1,6 +1,7 @@
 -- `search::nearest_within` meets its contract: the ends still to be considered decide. Assumes nothing.
 use Prim.Native.Nat.{_+_, _-_}
 use mathlib.Core.Path.{ap, _∙_}
+use mathlib.Core.Logic.{inl, inr}
 use native.Mathlib.Omega.{arith}
 use borrow.Author.Needs.{needs}
 use Rattle.crumbs.specs.Crumb.{crumbs}
@@ -20,6 +21,9 @@ abbrev μ-loop : tie.MeasureT-loop
 loop-holds : tie.Need-loop-holds Inv-loop μ-loop
 loop-holds c = falls-start
 
+may-cost-requires : tie.Need-may-cost-requires Inv-loop μ-loop
+may-cost-requires c κs = omega arith
+
 consider-requires : tie.Need-consider-requires Inv-loop μ-loop
 consider-requires c κs = omega arith
 
@@ -31,7 +35,13 @@ loop-less c = omega arith
 
 loop-again : tie.Need-loop-again Inv-loop μ-loop
 loop-again c =
-    falls-on (c .before .before .before .loop .inv) (c .before .before .before .before .before .pre .0) (c .before .if1 .taken) (c .consider .ensures)
+    let l = c .before .before .before .before in
+    let first = l .before .before .pre .0 in
+    let more = c .before .before .if1 .taken in
+    elim (c .if2 .came) [
+      | inl t ↦ falls-on (l .loop .inv) first more (t .2 ∙ t .1 .ensures)
+      | inr t ↦ falls-on (l .loop .inv) first more (t .1 ∙ c .before .may-cost .ensures (t .0 .left) (l .loop .best))
+    ]
 
 found-requires : tie.Need-found-requires Inv-loop μ-loop
 found-requires c κs = search needs
@@ -47,6 +57,7 @@ nearest-within-spec =
     Inv-loop
     μ-loop
     loop-holds
+    may-cost-requires
     consider-requires
     sub-end
     loop-less

@@ -12,10 +12,10 @@ use Rattle.stored.proofs.within.Statement.{statement}
 use Rattle.stored.proofs.within.Tie as tie
 
 abbrev Inv-loop : tie.InvT-loop
-Inv-loop words i₀ i = (within (drop i mosts) (drop i words) ≡ within mosts words) × (i ≤ 45) × (45 ≤ length words)
+Inv-loop words most i₀ i = (within (drop i mosts) (drop i words) ≡ within mosts words) × (i ≤ 45) × (45 ≤ length words)
 
 abbrev μ-loop : tie.MeasureT-loop
-μ-loop words i₀ i = 45 - i
+μ-loop words most i₀ i = 45 - i
 
 returns : tie.Need-returns Inv-loop μ-loop
 unfolding mosts

@@ -7,16 +7,19 @@ use Rattle.thin.proofs.pass.Statement.{statement}
 use Rattle.thin.proofs.pass.Tie as tie
 
 abbrev Inv-loop : tie.InvT-loop
-Inv-loop buf₀ len tolerance halve kept₀ anchor₀ buf kept anchor = Kept halve tolerance len buf₀ buf kept anchor
+Inv-loop buf₀ len tolerance halve lo hi kept₀ anchor₀ buf kept anchor = Kept halve tolerance len buf₀ buf kept anchor
 
 abbrev μ-loop : tie.MeasureT-loop
-μ-loop buf₀ len tolerance halve kept₀ anchor₀ buf kept anchor = len - anchor
+μ-loop buf₀ len tolerance halve lo hi kept₀ anchor₀ buf kept anchor = len - anchor
 
 returns : tie.Need-returns Inv-loop μ-loop
 returns c = passed-few _ (omega arith)
 
+found-requires : tie.Need-found-requires Inv-loop μ-loop
+found-requires c κs = tt
+
 loop-holds : tie.Need-loop-holds Inv-loop μ-loop
-loop-holds c = kept-start (omega arith) (c .before .before .pre)
+loop-holds c = kept-start (omega arith) (c .before .before .before .pre)
 
 add-loop : tie.Need-add-loop Inv-loop μ-loop
 add-loop c = omega arith
@@ -25,7 +28,7 @@ sub-loop : tie.Need-sub-loop Inv-loop μ-loop
 sub-loop c = omega arith
 
 next-requires : tie.Need-next-requires Inv-loop μ-loop
-next-requires c κs = omega arith
+next-requires c κs = (omega arith, c .before .before .before .found .ensures)
 
 crumb-at-requires : tie.Need-crumb-at-requires Inv-loop μ-loop
 crumb-at-requires c κs =
@@ -77,7 +80,7 @@ same-length-2 c = c .before .before .put2 .kept .0 ∙ c .before .before .before
 returns-3 : tie.Need-returns-3 Inv-loop μ-loop
 returns-3 c =
     let l = c .before .before .before .before .before .before .before .before in
-    let no : l .loop .anchor ≡ l .before .before .before .args .len - 1 → ⊥ = c .before .before .before .before .before .before .if2 .left in
+    let no : l .loop .anchor ≡ l .before .before .before .before .args .len - 1 → ⊥ = c .before .before .before .before .before .before .if2 .left in
     kept-end
     (kept-put (l .loop .inv) (omega arith) (next-last (l .loop .inv) (omega arith)) (c .before .before .put2 .ensures)
     (c .before .before .before .before .crumb-at2 .ensures))
@@ -90,6 +93,7 @@ pass-spec =
     Inv-loop
     μ-loop
     returns
+    found-requires
     loop-holds
     add-loop
     sub-loop

@@ -1,24 +1,26 @@
 -- `thin::reach` is the rule's reach.
 use Prim.Native.Nat.{_-_, _<_}
 use mathlib.Core.Logic.{⊎-elim}
+use mathlib.Core.Path.{refl}
 use native.Mathlib.Omega.{arith}
 use borrow.Author.Needs.{needs}
-use borrow.Author.Tests.{leb-true, leb-false, not-true, not-false}
-use Rattle.thin.proofs.Reaching.{Between, Ends, ends-start, ends-out, ends-on, ends-stray, between-start, between-on, measured}
+use borrow.Author.Tests.{leb-true, leb-false}
+use Rattle.thin.proofs.Reaching.{Between, Ends, ends-start, ends-out, ends-on, ends-stray, between-start, between-on}
+use Rattle.thin.proofs.Bounding.{stays, leaves}
 use Rattle.thin.proofs.reach.Statement.{statement}
 use Rattle.thin.proofs.reach.Tie as tie
 
 abbrev Inv-loop : tie.InvT-loop
-Inv-loop buf len anchor tolerance a end b j₀ j = Between tolerance buf len anchor end j
+Inv-loop buf len anchor tolerance lo hi a end b j₀ j = Between tolerance buf len anchor end j
 
 abbrev μ-loop : tie.MeasureT-loop
-μ-loop buf len anchor tolerance a end b j₀ j = end - j
+μ-loop buf len anchor tolerance lo hi a end b j₀ j = end - j
 
 abbrev Inv-ends : tie.InvT-ends
-Inv-ends buf len anchor tolerance a end₀ end = Ends tolerance buf len anchor end
+Inv-ends buf len anchor tolerance lo hi a end₀ end = Ends tolerance buf len anchor end
 
 abbrev μ-ends : tie.MeasureT-ends
-μ-ends buf len anchor tolerance a end₀ end = len - end
+μ-ends buf len anchor tolerance lo hi a end₀ end = len - end
 
 point-at-requires : tie.Need-point-at-requires Inv-loop μ-loop Inv-ends μ-ends
 point-at-requires c κs = search needs
@@ -27,7 +29,7 @@ add-end : tie.Need-add-end Inv-loop μ-loop Inv-ends μ-ends
 add-end c = omega arith
 
 ends-holds : tie.Need-ends-holds Inv-loop μ-loop Inv-ends μ-ends
-ends-holds c = ends-start (c .before .before .pre .0)
+ends-holds c = ends-start (c .before .before .pre .0 .0)
 
 sub-if1 : tie.Need-sub-if1 Inv-loop μ-loop Inv-ends μ-ends
 sub-if1 c = omega arith
@@ -44,8 +46,8 @@ loop-holds c = between-start (c .before .before .before .ends .inv) (c .before .
 point-at-requires-3 : tie.Need-point-at-requires-3 Inv-loop μ-loop Inv-ends μ-ends
 point-at-requires-3 c κs = search needs
 
-off-segment-requires : tie.Need-off-segment-requires Inv-loop μ-loop Inv-ends μ-ends
-off-segment-requires c κs = search needs
+strays-requires : tie.Need-strays-requires Inv-loop μ-loop Inv-ends μ-ends
+strays-requires c κs = c .before .before .before .before .before .before .before .before .before .pre .1
 
 add-j-2 : tie.Need-add-j-2 Inv-loop μ-loop Inv-ends μ-ends
 add-j-2 c = omega arith
@@ -59,8 +61,8 @@ loop-again c =
     let e = l .before .before .before .before in
     between-on (e .ends .inv) (l .before .before .before .ends-test .taken) (leb-true _ _ (l .before .before .if1 .taken)) (l .loop .inv)
     (c .before .before .before .loop-test .taken)
-    (measured (c .before .off-segment .ensures) (c .before .before .point-at3 .ensures) (e .before .point-at .ensures) (l .before .point-at2 .ensures))
-    (not-false _ (c .if2 .left))
+    refl
+    (stays _ (c .before .strays .ensures) (c .before .before .point-at3 .ensures) (e .before .point-at .ensures) (l .before .point-at2 .ensures) (c .if2 .left))
 
 add-end-2 : tie.Need-add-end-2 Inv-loop μ-loop Inv-ends μ-ends
 add-end-2 c = omega arith
@@ -86,8 +88,8 @@ returns c =
     (λ w. ends-out (e .ends .inv) (omega arith))
     (λ w.
     ends-stray (e .ends .inv) (w .0 .taken) (leb-true _ _ (w .1 .taken)) (w .3 .inv) (w .4 .taken)
-    (measured (w .6 .ensures) (w .5 .ensures) (e .before .point-at .ensures) (w .2 .ensures))
-    (not-true _ (w .7 .taken))))
+    refl
+    (leaves _ (w .6 .ensures) (w .5 .ensures) (e .before .point-at .ensures) (w .2 .ensures) (w .7 .taken))))
     (c .ends-test .came)
 
 pub reach-spec : {M : Type 1} → statement M
@@ -106,7 +108,7 @@ reach-spec =
     add-j
     loop-holds
     point-at-requires-3
-    off-segment-requires
+    strays-requires
     add-j-2
     loop-less
     loop-again

@@ -1,0 +1,17 @@
+-- Tests by which a crumb surely fits. They serve the functions inside: what a crumb must meet is `crumbFits`.
+use Prim.Native.Nat.{_^_}
+use mathlib.Core.Bool.{Bool, _&&_}
+use lib.Ieee.{Float, neg, le}
+use Rattle.binary32.specs.Arithmetic.{constant}
+use Rattle.binary32.specs.Limits.{plusZero}
+use Rattle.crumbs.specs.declared.Crumb.{Crumb}
+use Rattle.calls.specs.Questions.{placeMost}
+
+unfoldable pub alongSure : Float
+alongSure = constant (10 ^ 15) 1
+
+unfoldable pub noneBelow : Crumb → Bool
+noneBelow c = le (neg placeMost) (c .east) && le (neg placeMost) (c .north) && le plusZero (c .along)
+
+unfoldable pub noneAbove : Crumb → Bool
+noneAbove c = le (c .east) placeMost && le (c .north) placeMost && le (c .along) alongSure

@@ -1,0 +1,106 @@
+-- What the bounds say of a place between. Assumes nothing.
+use mathlib.Core.Path.{_≡_, refl, sym, ap, _∙_, subst}
+use mathlib.Core.Bool.{Bool, true, false, not}
+use lib.Dec.{T}
+use lib.Ieee.{Float, nan, inf, fin, binary32, ofBits, div, lt, eq, le, fits}
+use lib.Ieee.Fits.{add-fits}
+use Rattle.binary32.specs.Arithmetic.{_⊕_, _⊖_, _⊗_}
+use Rattle.binary32.specs.Root.{root}
+use Rattle.plane.specs.declared.Point.{Point}
+use Rattle.plane.specs.declared.Projection.{Projection}
+use Rattle.plane.specs.Plane.{distance, project, offSegment}
+use Rattle.roots.proofs.Monotone.{clear, square-clear, sum-clear}
+use Rattle.roots.proofs.Bounds.{root-accept, root-reject}
+use Rattle.thin.specs.Bounds.{square, Under, Over}
+
+never : {A : Type 0} → false ≡ true → A
+never e = absurd (subst (λ (b : Bool). T (not b)) e tt)
+
+no-most : (s : Float) → le s nan ≡ true → ⊥
+unfolding le lt eq
+no-most nan h = never h
+no-most (inf s) h = never h
+no-most (fin s m e) h = never h
+
+no-least : (s : Float) → le nan s ≡ true → ⊥
+unfolding le lt eq
+no-least s h = never h
+
+pub no-number : div binary32 (ofBits binary32 0) (ofBits binary32 0) ≡ nan
+unfolding div ofBits
+no-number = refl
+
+module _ {most x : Float} where
+  pub under-found : {r : Float} → T (fits binary32 x) → r ≡ root binary32 x → le r most ≡ true → Under most x
+  under-found t e h = record { held = t; at = λ s k. subst (λ (z : Float). le z most ≡ true) e h }
+
+  pub over-found : {r : Float} → T (fits binary32 x) → r ≡ root binary32 x → lt most r ≡ true → Over most x
+  over-found t e h = record { held = t; at = λ s k. subst (λ (z : Float). lt most z ≡ true) e h }
+
+module _ {most x : Float} (e : x ≡ nan) where
+  pub under-none : Under most x
+  unfolding fits
+  under-none = subst (Under most) (sym e) (record { held = tt; at = λ s k. absurd (no-most s k) })
+
+  pub over-none : Over most x
+  unfolding fits
+  over-none = subst (Over most) (sym e) (record { held = tt; at = λ s k. absurd (no-least s k) })
+
+square-fits : (a b : Point) → T (fits binary32 (square a b))
+unfolding square
+square-fits a b = let east = b .east ⊖ a .east in let north = b .north ⊖ a .north in add-fits binary32 (east ⊗ east) (north ⊗ north)
+
+square-not-below : (a b : Point) → T (clear (square a b))
+unfolding square
+square-not-below a b =
+    let east = b .east ⊖ a .east in
+    let north = b .north ⊖ a .north in
+    sum-clear binary32 (east ⊗ east) (north ⊗ north) (square-clear binary32 east) (square-clear binary32 north)
+
+-- how far p is off the segment is the root of that square
+module _ (p a b : Point) {s : Float} {q : Projection} (Q : q ≡ project p a b) (S : s ≡ square p (q .point)) where
+  square-is : s ≡ square p (project p a b .point)
+  square-is = S ∙ ap (λ (z : Projection). square p (z .point)) Q
+
+  off-is : root binary32 s ≡ offSegment p a b
+  unfolding offSegment distance square
+  off-is = ap (root binary32) square-is
+
+  s-fits : T (fits binary32 s)
+  s-fits = subst (λ (z : Float). T (fits binary32 z)) (sym S) (square-fits p (q .point))
+
+  s-clear : T (clear s)
+  s-clear = subst (λ (z : Float). T (clear z)) (sym S) (square-not-below p (q .point))
+
+  module _ (most : Float) where
+    pub surely-in : {lo : Float} → Under most lo → le s lo ≡ true → false ≡ not (le (offSegment p a b) most)
+    surely-in {lo} u h =
+        let k = root-accept binary32 s lo most s-fits (u .held) s-clear h (u .at s h) in
+        sym (ap (λ (z : Float). not (le z most)) (sym off-is) ∙ ap not k)
+
+    pub surely-out : {hi : Float} → Over most hi → le hi s ≡ true → true ≡ not (le (offSegment p a b) most)
+    surely-out {hi} u h =
+        let k = root-reject binary32 s hi most s-fits (u .held) h (u .at s h) in
+        sym (ap (λ (z : Float). not (le z most)) (sym off-is) ∙ ap not k)
+
+    pub by-root : {r : Float} {t : Bool} → r ≡ root binary32 s → t ≡ not (le r most) → t ≡ not (le (offSegment p a b) most)
+    by-root R e = e ∙ ap (λ (z : Float). not (le z most)) (R ∙ off-is)
+
+-- what the test of a place that was read says of the rule's
+module _ (most : Float) {t : Bool} {p a b x y z : Point} (e : t ≡ not (le (offSegment p a b) most)) (f : p ≡ x) (g : a ≡ y) (h : b ≡ z) where
+  read : t ≡ not (le (offSegment x y z) most)
+  read = cc
+
+  pub stays : t ≡ false → le (offSegment x y z) most ≡ true
+  stays n = flip (le (offSegment x y z) most) (sym read ∙ n)
+    where
+      flip : (b : Bool) → not b ≡ false → b ≡ true
+      flip true k = refl
+      flip false k = absurd (subst (λ (c : Bool). T c) k tt)
+
+  pub leaves : t ≡ true → le (offSegment x y z) most ≡ false
+  leaves n = flip (le (offSegment x y z) most) (sym read ∙ n)
+    where
+      flip : (b : Bool) → not b ≡ true → b ≡ false
+      flip true k = never k
+      flip false k = refl
