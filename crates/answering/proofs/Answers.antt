@@ -14,7 +14,7 @@ use Rattle.crumbs.proofs.Crumbs.{length-crumbs}
 use Rattle.state.specs.declared.Homing.{Homing}
 use Rattle.calls.specs.Promises.{Answer}
 use Rattle.stored.specs.Stored.{stored, Loads}
-use Rattle.numbering.specs.Through.{numberOf}
+use Rattle.answering.specs.Through.{numberOf}
 use Rattle.answering.specs.GuideWords.{guideSize}
 use Rattle.answering.specs.Answers.{valuesOf, withRoom, Answers, Parts}
 

@@ -15,7 +15,7 @@ use Rattle.state.specs.declared.Mode.{Mode}
 use Rattle.state.specs.declared.Mode.the-variants as mode
 use Rattle.state.specs.declared.Guide.{Guide}
 use Rattle.stored.specs.Fields.{most16, wordAt, flagAt, modeOf, headingOf, modeTag, headingFlag, headingIn}
-use Rattle.numbering.specs.Through.{flagOf}
+use Rattle.answering.specs.Through.{flagOf}
 use Rattle.answering.specs.GuideWords.{guideSize, guideWords, areGuide, guideAt, guideOf, GuideReadBack}
 
 -- ---- written

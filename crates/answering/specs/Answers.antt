@@ -18,7 +18,7 @@ use Rattle.state.specs.declared.Shown.the-variants as shown
 use Rattle.state.specs.declared.Homing.{Homing}
 use Rattle.calls.specs.Ask as ask
 use Rattle.calls.specs.Promises.{Answer, refused, gives}
-use Rattle.numbering.specs.Through.{numberOf, flagOf}
+use Rattle.answering.specs.Through.{numberOf, flagOf}
 use Rattle.answering.specs.GuideWords.{guideSize, guideWords}
 
 -- ---- an answer as values

@@ -8,7 +8,7 @@ use lib.Dec.{leb}
 use lib.ListN.{length}
 use Rattle.state.specs.declared.Guide.{Guide}
 use Rattle.stored.specs.Fields.{most16, wordAt, flagAt, modeOf, headingOf, modeTag, headingFlag, headingIn}
-use Rattle.numbering.specs.Through.{flagOf}
+use Rattle.answering.specs.Through.{flagOf}
 
 -- how many words a guide takes
 abbrev pub guideSize : ℕ

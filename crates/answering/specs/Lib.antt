@@ -1,2 +1,3 @@
 pub mod GuideWords
 pub mod Answers
+pub mod Through

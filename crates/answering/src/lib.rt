@@ -1,6 +1,8 @@
 // The calls that only answer. Each writes what the call answers and answers 0, or answers the number of
 // the refusal and writes nothing. Slices that hold no state are refused with 10.
 
+pub mod numbering;
+
 use answers::Ahead;
 use answers::Angle;
 use answers::Back;
@@ -22,7 +24,7 @@ ghost use Rattle.answers.specs.Answers.{saysCount, saysVerdict, saysAhead, says
 ghost use Rattle.answers.specs.Promises.{AnswersLen, AnswersFollowing, AnswersFollowingCourse, AnswersCourseAhead, AnswersRouteHome, AnswersHeading, AnswersGuide, AnswersWayBack, ReturnsCrumbs, ReturnsCourse, AnswersArrow};
 ghost use Rattle.stored.specs.Fields.{modeOf, modeTag, headingOf, headingFlag, headingIn};
 ghost use Rattle.stored.specs.Stored.{stored};
-ghost use Rattle.numbering.specs.Through.{numberOf, noState, noStateWith};
+ghost use Rattle.answering.specs.Through.{numberOf, noState, noStateWith};
 ghost use Rattle.answering.specs.GuideWords.{guideSize, guideWords, areGuide, guideAt, guideOf};
 ghost use Rattle.answering.specs.Answers.{valuesOf, Answers, Parts, one, flagged, spotted, ahead, aheadValues, riding, headingValues, showing, guideValues, withRoom, back, backValues};
 

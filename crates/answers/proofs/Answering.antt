@@ -13,7 +13,7 @@ use Rattle.plane.specs.declared.Spot.the-variants.{At}
 use Rattle.plane.specs.Plane.{distance}
 use Rattle.crumbs.specs.Crumb.{crumbs, Front}
 use Rattle.crumbs.proofs.Crumbs.{length-crumbs}
-use Rattle.along.specs.Along.{recordedM, startOf}
+use Rattle.crumbs.specs.Along.{recordedM, startOf}
 use Rattle.trail.specs.View.{track}
 use Rattle.state.specs.declared.Homing.{Homing}
 use Rattle.state.specs.State.{stateOf}

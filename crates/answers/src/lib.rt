@@ -1,8 +1,10 @@
 // The guide's calls that only answer. Each puts its questions first; where one says no, the answer is
 // its number.
 
+use crumbs::along;
 use plane::Heading;
 use plane::Spot;
+use questions::limits;
 use state::Guide;
 use state::Homing;
 use state::Line;

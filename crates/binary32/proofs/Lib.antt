@@ -11,3 +11,5 @@ mod Ranges
 mod Values
 mod Cases
 mod Casting
+pub mod magnitude
+pub mod roots

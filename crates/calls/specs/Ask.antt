@@ -11,7 +11,7 @@ use Rattle.plane.specs.declared.Spot.the-variants.{At, Nowhere}
 use Rattle.plane.specs.declared.Heading.{Heading}
 use Rattle.plane.specs.Plane.{distance}
 use Rattle.crumbs.specs.declared.Crumb.{Crumb}
-use Rattle.along.specs.Along.{recordedM, startOf}
+use Rattle.crumbs.specs.Along.{recordedM, startOf}
 use Rattle.state.specs.declared.Line.{Line}
 use Rattle.state.specs.declared.Line.the-variants as line
 use Rattle.state.specs.declared.Follow.{Follow}

@@ -17,7 +17,7 @@ use Rattle.crumbs.specs.Crumb.{capacity, putAt, crumbs, behind}
 use Rattle.crumbs.specs.Choice.{last}
 use Rattle.crumbs.proofs.Choices.{last-snoc}
 use Rattle.crumbs.proofs.Crumbs.{length-crumbs, crumbs-behind, behind-put, length-put}
-use Rattle.along.specs.Along.{crumbOf, alongBehind, recordedM}
+use Rattle.crumbs.specs.Along.{crumbOf, alongBehind, recordedM}
 use Rattle.state.specs.declared.Frame.{Frame}
 use Rattle.course.specs.Fix.{Fix, framed}
 use Rattle.course.specs.Course.{fixes, noOrigin, placeBehind, placed, lineOf, waits}

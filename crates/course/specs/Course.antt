@@ -9,7 +9,7 @@ use lib.IntN.{ℤ}
 use lib.ListN.{length}
 use Rattle.plane.specs.declared.Point.{Point}
 use Rattle.crumbs.specs.declared.Crumb.{Crumb}
-use Rattle.along.specs.Along.{crumbOf, alongBehind}
+use Rattle.crumbs.specs.Along.{crumbOf, alongBehind}
 use Rattle.state.specs.declared.Place.{Place}
 use Rattle.state.specs.declared.Place.the-variants.{At, Missing}
 use Rattle.state.specs.declared.Frame.{Frame}

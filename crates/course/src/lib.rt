@@ -1,6 +1,7 @@
 // Fixes and courses placed in the ride's frame.
 
 use crumbs::Crumb;
+use crumbs::along;
 use plane::Point;
 use state::Frame;
 use state::Place;

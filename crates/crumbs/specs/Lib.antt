@@ -1,2 +1,3 @@
 pub mod Crumb
 pub mod Choice
+pub mod Along

@@ -1,5 +1,7 @@
 // A crumb, and how crumbs lie in a lent buffer of numbers. No other crate knows how many numbers a crumb takes.
 
+pub mod along;
+
 use plane::Point;
 ghost use mathlib.Core.Path.{_≡_};
 ghost use Prim.Native.Nat.{_<_};

@@ -1,1 +1,3 @@
 pub mod Thin
+pub mod Calls
+pub mod Rebuild

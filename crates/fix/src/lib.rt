@@ -1,5 +1,10 @@
 // A fix that is missing, and one from before a restart, once the questions are answered.
 
+mod new_fix;
+pub mod observe;
+mod recording;
+
+use follow::follow_parts;
 use lap::Lap;
 use motion::Motion;
 use plane::Heading;

@@ -15,7 +15,7 @@ use Rattle.state.specs.declared.Line.the-variants as line
 use Rattle.state.specs.declared.Homing.{Homing}
 use Rattle.state.specs.State.{stateOf}
 use Rattle.state.specs.Rule.{Done, done}
-use Rattle.follow_parts.specs.Parts.{leads}
+use Rattle.follow.specs.Parts.{leads}
 use Rattle.follow.specs.Engage.{engageAt, engage}
 use Rattle.follow.specs.View.{Changes, Asks}
 use Rattle.follow.proofs.Holding.{same-held}

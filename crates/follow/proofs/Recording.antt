@@ -23,7 +23,7 @@ use Rattle.state.specs.declared.Line.{Line}
 use Rattle.state.specs.State.{State, stateOf, withTrack, withFollow}
 use Rattle.state.specs.Rule.{Done, done}
 use Rattle.follow.specs.Record.{recordedIn, recorded, keep}
-use Rattle.follow_parts.specs.Parts.{stopped}
+use Rattle.follow.specs.Parts.{stopped}
 use Rattle.follow.specs.Engage.{cutTo, leaveAt, forgotten, stopBreadcrumb, stopOn, stop}
 use Rattle.follow.specs.View.{TakesOver, Follows, Changes}
 

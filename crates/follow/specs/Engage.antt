@@ -11,7 +11,7 @@ use Rattle.state.specs.declared.Line.{Line}
 use Rattle.state.specs.declared.Line.the-variants as line
 use Rattle.state.specs.State.{State, withTrack, withFollow, withCourse}
 use Rattle.state.specs.Rule.{Done, done}
-use Rattle.follow_parts.specs.Parts.{courseFrom, leads, stopped, heldOff}
+use Rattle.follow.specs.Parts.{courseFrom, leads, stopped, heldOff}
 use Rattle.follow.specs.Record.{keep}
 
 -- follow a line from its segment `end`

@@ -1,3 +1,4 @@
 pub mod Engage
 pub mod Record
 pub mod View
+pub mod Parts

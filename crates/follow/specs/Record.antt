@@ -8,7 +8,7 @@ use Rattle.trail.specs.Trail as trail
 use Rattle.state.specs.declared.Follow.{Follow}
 use Rattle.state.specs.State.{State, withTrack, withFollow}
 use Rattle.state.specs.Rule.{Done}
-use Rattle.follow_parts.specs.Parts.{left}
+use Rattle.follow.specs.Parts.{left}
 
 unfoldable pub afterThinning : Bool → Follow → Follow
 afterThinning true f = left (f .line) f

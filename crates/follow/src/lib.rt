@@ -1,5 +1,7 @@
 // Following begins and ends, and what is recorded meanwhile.
 
+pub mod follow_parts;
+
 use plane::Point;
 use plane::Spot;
 use state::Follow;

@@ -6,7 +6,7 @@ use lib.Ieee.{Float}
 use Rattle.plane.specs.declared.Point.{Point}
 use Rattle.plane.specs.Plane.{distance}
 use Rattle.crumbs.specs.Crumb.{crumbs}
-use Rattle.along.specs.Along.{startOf}
+use Rattle.crumbs.specs.Along.{startOf}
 use Rattle.trail.specs.View.{track}
 use Rattle.state.specs.declared.Event.{Event}
 use Rattle.state.specs.declared.Course.{Course}
@@ -16,10 +16,10 @@ use Rattle.state.specs.declared.Homing.{Homing}
 use Rattle.state.specs.State.{State, stateOf, withGuide}
 use Rattle.state.specs.Rule.{Done, done}
 use Rattle.follow.specs.View.{courseOf}
-use Rattle.followed.specs.declared.Way.{Way}
+use Rattle.matching.specs.declared.followed.Way.{Way}
 use Rattle.guide.specs.declared.Told.{Told}
 use Rattle.matching.specs.Match.{onCourse}
-use Rattle.goal.specs.Goal.{goalOn, longEnough}
+use Rattle.guide.specs.Goal.{goalOn, longEnough}
 use Rattle.guide.specs.Guide.{arrivalFrom, guideAt, finished}
 use Rattle.guide.specs.View.{Tells}
 use Rattle.guide.proofs.Arriving.{same-course}

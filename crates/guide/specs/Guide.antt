@@ -8,7 +8,7 @@ use Rattle.plane.specs.declared.Point.{Point}
 use Rattle.plane.specs.Plane.{distance, bearing, metres}
 use Rattle.crumbs.specs.declared.Crumb.{Crumb}
 use Rattle.segments.specs.declared.Best.the-variants.{Nothing}
-use Rattle.along.specs.Along.{recordedM, startOf}
+use Rattle.crumbs.specs.Along.{recordedM, startOf}
 use Rattle.state.specs.declared.Mode.the-variants as mode
 use Rattle.state.specs.declared.Event.{Event}
 use Rattle.state.specs.declared.Event.the-variants as event
@@ -17,9 +17,9 @@ use Rattle.state.specs.declared.Shown.the-variants as shown
 use Rattle.state.specs.declared.Follow.{Follow}
 use Rattle.state.specs.State.{State, withFollow, withArrived, withGuide}
 use Rattle.state.specs.Rule.{Done, done}
-use Rattle.followed.specs.declared.Way.{Way}
+use Rattle.matching.specs.declared.followed.Way.{Way}
 use Rattle.matching.specs.Match.{onCourse, onLine}
-use Rattle.goal.specs.Goal.{aim, goalOn, longEnough, modeOf, nearCourse}
+use Rattle.guide.specs.Goal.{aim, goalOn, longEnough, modeOf, nearCourse}
 
 -- "Course end: off ≤ 25 and along < 30."; at the start within this too
 unfoldable pub arriveM : Float

@@ -1,2 +1,4 @@
 pub mod Guide
 pub mod View
+pub mod Goal
+pub mod Near

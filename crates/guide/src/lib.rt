@@ -1,6 +1,9 @@
 // The guide shown: arriving at the start and leaving it, and the way there.
 
-use followed::Way;
+mod goal;
+
+use crumbs::along;
+use matching::followed::Way;
 use plane::Point;
 use state::Event;
 use state::Follow;
@@ -18,7 +21,7 @@ ghost use Rattle.crumbs.specs.Crumb.{capacity};
 ghost use Rattle.state.specs.State.{stateOf};
 ghost use Rattle.follow.specs.View.{courseOf};
 ghost use Rattle.guide.specs.Guide.{arrivalFrom, guideAt, finished, direct};
-ghost use Rattle.followed.specs.View.{Room};
+ghost use Rattle.matching.specs.View.{Room};
 ghost use Rattle.guide.specs.View.{Tells};
 
 // At the start, or the course's end, within this; at the start again only after leaving by `LEAVE_M`.

@@ -33,7 +33,7 @@ use Rattle.calls.specs.Calls.{Call, asks, performs, turn}
 use Rattle.calls.specs.Promises.{Answer, refused, gives, answer, Called}
 use Rattle.steer.specs.View.{SetsLine}
 use Rattle.questions.proofs.Given.{line-given, crumbs-given, both-given}
-use Rattle.recording.specs.View.{Ready}
+use Rattle.fix.specs.Ready.{Ready}
 
 -- ---- the first question that says no
 or-first : (a b : ℕ) → (a ≡ 0 → ⊥) → a ≡ (a orElse b)

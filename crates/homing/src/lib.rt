@@ -2,9 +2,12 @@
 // refusal changes nothing. The calls that only answer are in `answers`.
 
 use answers::Verdict;
+use questions::counts;
+use questions::globe;
 use state::Event;
 use state::Homing;
 use state::Place;
+use steer::following;
 ghost use mathlib.Core.Path.{_≡_};
 ghost use mathlib.Core.List.{List};
 ghost use Prim.Native.Nat.{ℕ};
@@ -145,7 +148,7 @@ fn seen(h: Homing, crumbs: &mut [f32], line: &[f32], lat: i32, lon: i32, now_ms:
             answer: Sight::Refused(number),
         };
     }
-    let t = observe::seen(h, crumbs, line, lat, lon, now_ms);
+    let t = fix::observe::seen(h, crumbs, line, lat, lon, now_ms);
     let homing = t.homing;
     let event = t.event;
     Observed {

@@ -8,7 +8,7 @@ use Rattle.crumbs.specs.Crumb.{crumbs}
 use Rattle.trail.specs.View.{track}
 use Rattle.state.specs.State.{State, withTrack}
 use Rattle.state.specs.Rule.{done}
-use Rattle.retrace.specs.Retrace.{ridesBack, lenBefore}
+use Rattle.joining.specs.Retrace.{ridesBack, lenBefore}
 use Rattle.joining.specs.Join.{retraceFixes, withRetrace, retracing}
 
 -- ---- the count

@@ -15,7 +15,7 @@ use Rattle.trail.specs.Trail.{Track}
 use Rattle.state.specs.declared.Course.{Course}
 use Rattle.state.specs.State.{State, withTrack, withCourse}
 use Rattle.state.specs.Rule.{Done, done}
-use Rattle.retrace.specs.Retrace.{lenBefore, ridesBack}
+use Rattle.joining.specs.Retrace.{lenBefore, ridesBack}
 
 -- ---- along the course
 -- this many fixes in a row

@@ -1,5 +1,7 @@
 // What makes following begin by itself: fixes in a row along the course, or back along the breadcrumb.
 
+mod retrace;
+
 use follow::Answered;
 use plane::Heading;
 use plane::Point;

@@ -16,7 +16,7 @@ use Rattle.state.specs.declared.Line.{Line}
 use Rattle.state.specs.declared.Line.the-variants as line
 use Rattle.state.specs.State.{State}
 use Rattle.state.specs.Rule.{Done, done}
-use Rattle.follow_parts.specs.Parts.{leads, stopped}
+use Rattle.follow.specs.Parts.{leads, stopped}
 use Rattle.follow.specs.Engage.{engageAt, engage, cutTo, leaveAt, forgotten, stopNothing, stopCourse, stopBreadcrumb, stopOn, stop}
 use Rattle.journal.proofs.Trace.{impossible, cut}
 use Rattle.journal.proofs.Sound.{Holds, Ran, Good, Quiet, still, quiet}

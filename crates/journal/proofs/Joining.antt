@@ -17,7 +17,7 @@ use Rattle.trail.specs.Trail.{Track}
 use Rattle.state.specs.State.{State, withTrack}
 use Rattle.state.specs.Rule.{Done, done}
 use Rattle.joining.specs.Join.{joinOn, joining, withRetrace, retracing, retraceFixes}
-use Rattle.retrace.specs.Retrace.{ridesBack, lenBefore}
+use Rattle.joining.specs.Retrace.{ridesBack, lenBefore}
 use Rattle.journal.proofs.Trace.{over}
 use Rattle.journal.proofs.Sound.{Holds, Ran, Good}
 

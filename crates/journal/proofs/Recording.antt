@@ -21,7 +21,7 @@ use Rattle.state.specs.declared.Line.{Line}
 use Rattle.state.specs.declared.Line.the-variants.{Nothing, Breadcrumb, Course}
 use Rattle.state.specs.declared.Follow.{Follow}
 use Rattle.state.specs.State.{State}
-use Rattle.follow_parts.specs.Parts.{left}
+use Rattle.follow.specs.Parts.{left}
 use Rattle.follow.specs.Record.{afterThinning, recordedIn, recorded, keep, add, flush}
 use Rattle.journal.proofs.Trace.{impossible, Chooses, Trace, over, kept, thinned, same}
 use Rattle.journal.proofs.Sound.{Sound, Ran, Good}

@@ -9,22 +9,22 @@ use lib.ListN.{length}
 use lib.Ieee.{Float, lt}
 use Rattle.plane.specs.declared.Point.{Point}
 use Rattle.crumbs.specs.declared.Crumb.{Crumb}
-use Rattle.costs.specs.declared.Nearest.{Nearest}
+use Rattle.segments.specs.declared.costs.Nearest.{Nearest}
 use Rattle.segments.specs.declared.Best.{Best}
 use Rattle.segments.specs.declared.Best.the-variants.{Nothing, Found}
 use Rattle.search.specs.declared.Range.{Range}
 use Rattle.segments.specs.Constants.{dropM}
 use Rattle.search.proofs.Theorems.{breadcrumb-met}
-use Rattle.course_match.proofs.Theorems.{course-met}
+use Rattle.search.proofs.course_match.Theorems.{course-met}
 use Rattle.state.specs.declared.Line.{Line}
 use Rattle.state.specs.declared.Line.the-variants as line
 use Rattle.state.specs.declared.Event.{Event}
 use Rattle.state.specs.declared.Event.the-variants as event
 use Rattle.state.specs.State.{State, withFollow, withArrived}
 use Rattle.state.specs.Rule.{Done, done}
-use Rattle.followed.specs.declared.Way.{Way}
+use Rattle.matching.specs.declared.followed.Way.{Way}
 use Rattle.matching.specs.Match.{onLine, aroundSegment, nearer, offM, followMatched}
-use Rattle.followed.specs.Followed.{followed, progress, nearest, widened}
+use Rattle.matching.specs.Followed.{followed, progress, nearest, widened}
 use Rattle.update.specs.Update.{begun, matchedAt, endedWith, atCourseEnd, matchedTo, matchFrom, followOn, update}
 use Rattle.guide.specs.Guide.{offCleared, arrivalFrom, finished, direct, leaveM, arriveM}
 use Rattle.journal.proofs.Sound.{Holds, Good, Quiet, still, quiet, then, either}

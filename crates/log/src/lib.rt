@@ -1,6 +1,8 @@
 // The ride log: entries of up to four samples, and the chain file that holds them. What a file has is
 // read where it stands; a byte behind its end counts as 0.
 
+pub mod file_questions;
+
 use state::Place;
 ghost use mathlib.Core.Path.{_≡_};
 ghost use Prim.Native.Nat.{_*_, _^_, _<_};

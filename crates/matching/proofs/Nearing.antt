@@ -3,7 +3,7 @@ use mathlib.Core.Path.{_≡_, sym, ap, _∙_}
 use Prim.Native.Nat.{_-_}
 use mathlib.Core.Bool.{true, false}
 use lib.Ieee.{lt}
-use Rattle.costs.specs.declared.Nearest.{Nearest}
+use Rattle.segments.specs.declared.costs.Nearest.{Nearest}
 use Rattle.segments.specs.declared.Best.{Best}
 use Rattle.segments.specs.declared.Best.the-variants.{Nothing, Found}
 use Rattle.matching.specs.Match.{nearer}

@@ -1,1 +1,3 @@
 pub mod Match
+pub mod Followed
+pub mod View

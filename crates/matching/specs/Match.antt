@@ -8,11 +8,11 @@ use Rattle.plane.specs.declared.Point.{Point}
 use Rattle.plane.specs.declared.Spot.the-variants.{At}
 use Rattle.crumbs.specs.Crumb.{point}
 use Rattle.motion.specs.Heading.{elapsed}
-use Rattle.costs.specs.declared.Nearest.{Nearest}
+use Rattle.segments.specs.declared.costs.Nearest.{Nearest}
 use Rattle.segments.specs.declared.Best.{Best}
 use Rattle.segments.specs.declared.Best.the-variants.{Nothing, Found}
 use Rattle.search.specs.declared.Range.{Range}
-use Rattle.costs.specs.Constants.{onM}
+use Rattle.segments.specs.CostConstants.{onM}
 use Rattle.state.specs.declared.Line.{Line}
 use Rattle.state.specs.declared.Line.the-variants as line
 use Rattle.state.specs.declared.Event.{Event}

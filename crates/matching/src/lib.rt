@@ -1,9 +1,12 @@
 // What a match on the followed line says: on it or off it, whether it is reminded of, and where the next is looked for.
 
-use costs::Nearest;
+pub mod followed;
+
 use plane::Point;
 use plane::Spot;
 use segments::Best;
+use segments::costs;
+use segments::costs::Nearest;
 use state::Course;
 use state::Event;
 use state::Follow;

@@ -9,12 +9,12 @@ use lib.Ieee.Fits.{add-fits, mul-fits}
 use Rattle.binary32.specs.Arithmetic.{_⊕_, _⊖_, _⊗_, _⊘_}
 use Rattle.binary32.specs.Root.{root}
 use Rattle.binary32.specs.Limits.{plusZero, clamp}
-use Rattle.magnitude.specs.Size.{Within, NonNeg, Share, pow, frac}
-use Rattle.magnitude.proofs.Laws.{within-finite, widen, add-within, sub-within, mul-within, ofInt-within}
-use Rattle.magnitude.proofs.Between.{place-between}
-use Rattle.magnitude.proofs.Shares.{clamp-div, zero-share}
-use Rattle.magnitude.proofs.Signs.{add-nonneg, square-nonneg}
-use Rattle.magnitude.proofs.Roots.{root-within, root-nonneg}
+use Rattle.binary32.specs.Size.{Within, NonNeg, Share, pow, frac}
+use Rattle.binary32.proofs.magnitude.Laws.{within-finite, widen, add-within, sub-within, mul-within, ofInt-within}
+use Rattle.binary32.proofs.magnitude.Between.{place-between}
+use Rattle.binary32.proofs.magnitude.Shares.{clamp-div, zero-share}
+use Rattle.binary32.proofs.magnitude.Signs.{add-nonneg, square-nonneg}
+use Rattle.binary32.proofs.magnitude.Roots.{root-within, root-nonneg}
 use Rattle.plane.specs.declared.Point.{Point}
 use Rattle.plane.specs.Plane.{distance, share, between, atShare, project}
 use Rattle.plane.specs.Place.{Coordinate, Place}

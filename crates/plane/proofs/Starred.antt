@@ -6,8 +6,8 @@ use lib.Ieee.{Float, binary32, ofBits, neg, add, sub, mul, div, lt, ofInt, toUns
 use Rattle.binary32.specs.Arithmetic.{_⊗_, _⊘_, constant}
 use Rattle.binary32.specs.Casts.{asU32}
 use Rattle.binary32.specs.Limits.{plusZero, one}
-use Rattle.magnitude.specs.Size.{Within, frac}
-use Rattle.magnitude.proofs.Laws.{within-refl, mul-within}
+use Rattle.binary32.specs.Size.{Within, frac}
+use Rattle.binary32.proofs.magnitude.Laws.{within-refl, mul-within}
 use Rattle.trig.specs.Fix.{pi, halfPi}
 use Rattle.trig.proofs.Starred as compass
 use Rattle.plane.specs.declared.Point.{Point}

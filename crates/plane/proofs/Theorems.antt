@@ -6,11 +6,11 @@ use lib.IntN.{ℤ, pos, negsuc, natAbs, _-ℤ_}
 use lib.Dec.{T, lit≤}
 use lib.Ieee.{Float, fin, binary32, ofInt, le, mul, div}
 use Rattle.binary32.specs.Arithmetic.{_⊗_, _⊘_, constant}
-use Rattle.magnitude.specs.Size.{Within, frac}
+use Rattle.binary32.specs.Size.{Within, frac}
 use Rattle.binary32.specs.Limits.{sizeOf}
-use Rattle.magnitude.proofs.Laws.{within-refl, within-trans, within-finite, widen, sized, mul-within, ofInt-within}
-use Rattle.magnitude.proofs.More.{div-within}
-use Rattle.magnitude.proofs.Tests.{within→le}
+use Rattle.binary32.proofs.magnitude.Laws.{within-refl, within-trans, within-finite, widen, sized, mul-within, ofInt-within}
+use Rattle.binary32.proofs.magnitude.More.{div-within}
+use Rattle.binary32.proofs.magnitude.Tests.{within→le}
 use Rattle.trig.specs.Fix.{pi, cos}
 use Rattle.trig.proofs.Magnitude.{part, cos-within}
 use Rattle.plane.specs.declared.Point.{Point}

@@ -3,7 +3,7 @@ use Prim.Native.Nat.{_≤_}
 use lib.IntN.{ℤ, natAbs}
 use lib.Dec.{T}
 use lib.Ieee.{Float, binary32, fits}
-use Rattle.magnitude.specs.Size.{Within, pow}
+use Rattle.binary32.specs.Size.{Within, pow}
 use Rattle.plane.specs.declared.Point.{Point}
 
 -- a value of binary32 of at most 2^25 m in size, 33,554,432 m

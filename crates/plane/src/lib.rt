@@ -1,4 +1,6 @@
 // The plane that the guide works in: metres east and north of the ride's first fix.
+pub mod squares;
+
 ghost use mathlib.Core.Path.{_≡_};
 ghost use lib.IntN.{_-ℤ_};
 ghost use Rattle.plane.specs.Plane.{distance, atShare, project, offSegment, onward, bearing, metres};

@@ -1,3 +1,3 @@
-pub mod Counts
+pub mod Counted
 pub mod Asking
 pub mod Given

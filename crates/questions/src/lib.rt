@@ -1,6 +1,10 @@
 // The questions put to a call. Each `asks` answers the number of the first one that says no, 0 where
 // none does. What they ask of less than the whole state is in `limits` and `counts`.
 
+pub mod counts;
+pub mod globe;
+pub mod limits;
+
 use state::Homing;
 ghost use mathlib.Core.Path.{_≡_};
 ghost use mathlib.Core.List.{List};

@@ -17,8 +17,8 @@ use Rattle.homing.specs.declared.Reply.the-variants as reply
 use Rattle.homing.specs.Answers.{saysReply}
 use Rattle.log.specs.declared.Utc.{Utc}
 use Rattle.log.specs.Entry.{slot}
-use Rattle.file_questions.specs.Questions.{asksFile}
-use Rattle.file_questions.proofs.Theorems.{first-yes, then-yes}
+use Rattle.log.specs.Questions.{asksFile}
+use Rattle.log.proofs.file_questions.Theorems.{first-yes, then-yes}
 use Rattle.rebuild.specs.declared.Rebuild.{Rebuild}
 use Rattle.rebuild.specs.declared.Visited.{Visited}
 use Rattle.rebuild.specs.Rebuild.{finished, walk, step, settle}

@@ -23,8 +23,8 @@ use Rattle.taken.specs.Taken.{PlaceOnGlobe, NoneRefused}
 use Rattle.taken.proofs.Tests.{either, one-of}
 use Rattle.taken.proofs.Asking.{fix-asked, or-else-none}
 use Rattle.journal.specs.Journal.{run, journal}
-use Rattle.asked.proofs.Measured.{Measured, turn-measured}
-use Rattle.asked.proofs.Asked.{journal-measured, state-asked, replay-turn, reset-turn}
+use Rattle.taken.proofs.asked.Measured.{Measured, turn-measured}
+use Rattle.taken.proofs.asked.Asked.{journal-measured, state-asked, replay-turn, reset-turn}
 use Rattle.homing.specs.declared.Changed.{Changed}
 use Rattle.homing.specs.Promises.{MakesNew}
 use Rattle.history.specs.History.{Holds, Ran}
@@ -34,9 +34,9 @@ use Rattle.log.specs.declared.Utc.{Utc}
 use Rattle.log.specs.declared.Sample.{Sample}
 use Rattle.log.specs.declared.Entry.{Entry}
 use Rattle.log.specs.Entry.{entryAt, slot, used}
-use Rattle.file_questions.specs.Questions.{asksSamples, asksEntry, asksFile}
-use Rattle.file_questions.proofs.Theorems.{every-accepted, first-yes, then-yes}
-use Rattle.file_questions.proofs.Slots.{Before, slot-none, slot-here, slot-asked, record-entry}
+use Rattle.log.specs.Questions.{asksSamples, asksEntry, asksFile}
+use Rattle.log.proofs.file_questions.Theorems.{every-accepted, first-yes, then-yes}
+use Rattle.log.proofs.file_questions.Slots.{Before, slot-none, slot-here, slot-asked, record-entry}
 use Rattle.rebuild.specs.declared.Stage.{Stage}
 use Rattle.rebuild.specs.declared.Stage.the-variants as stage
 use Rattle.rebuild.specs.declared.Rebuild.{Rebuild}

@@ -9,10 +9,10 @@ use native.Mathlib.Nat.{add-zero}
 use native.Mathlib.Numerals.{add-one}
 use lib.ListN.{drop, getD}
 use Rattle.log.specs.Entry.{nextOf, chain, slot}
-use Rattle.file_questions.specs.Questions.{asksFile}
-use Rattle.file_questions.specs.Theorems.{Ends, over, on, Accepted}
-use Rattle.file_questions.proofs.Theorems.{every-accepted}
-use Rattle.file_questions.proofs.Slots.{Before, slots-start, slot-none, slot-past, slot-on}
+use Rattle.log.specs.Questions.{asksFile}
+use Rattle.log.specs.Theorems.{Ends, over, on, Accepted}
+use Rattle.log.proofs.file_questions.Theorems.{every-accepted}
+use Rattle.log.proofs.file_questions.Slots.{Before, slots-start, slot-none, slot-past, slot-on}
 use Rattle.restart.specs.Walk.{recordAt}
 
 -- the first of what is left from place k on

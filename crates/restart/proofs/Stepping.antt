@@ -15,9 +15,9 @@ use Rattle.matching.proofs.Choosing.{picked, passed-by}
 use Rattle.calls.specs.Questions.{unless}
 use Rattle.log.specs.declared.Entry.{Entry}
 use Rattle.log.specs.Entry.{nextOf, entryAt, slot, used}
-use Rattle.file_questions.specs.Questions.{asksFile, asksEntry, asksSamples}
-use Rattle.file_questions.proofs.Theorems.{every-accepted, first-yes, said-yes}
-use Rattle.file_questions.proofs.Slots.{Before, slot-here, slot-on, slot-asked, record-entry}
+use Rattle.log.specs.Questions.{asksFile, asksEntry, asksSamples}
+use Rattle.log.proofs.file_questions.Theorems.{every-accepted, first-yes, said-yes}
+use Rattle.log.proofs.file_questions.Slots.{Before, slot-here, slot-on, slot-asked, record-entry}
 use Rattle.rebuild.specs.declared.Walk.{Walk}
 use Rattle.rebuild.specs.declared.Rebuild.{Rebuild}
 use Rattle.rebuild.specs.declared.Visited.{Visited}

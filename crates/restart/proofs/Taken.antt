@@ -23,8 +23,8 @@ use Rattle.homing.specs.declared.Changed.{Changed}
 use Rattle.homing.specs.Promises.{MakesNew}
 use Rattle.history.specs.History.{Holds}
 use Rattle.log.specs.Entry.{slot}
-use Rattle.file_questions.specs.Questions.{asksFile}
-use Rattle.file_questions.proofs.Chain.{by}
+use Rattle.log.specs.Questions.{asksFile}
+use Rattle.log.proofs.file_questions.Chain.{by}
 use Rattle.rebuild.specs.Made.{perform}
 use Rattle.rebuild.specs.Rebuild.{step}
 use Rattle.rebuild.proofs.Theorems.{journal-same}

@@ -11,7 +11,7 @@ use lib.Dec.{leb}
 use Rattle.calls.specs.Calls.{Call}
 use Rattle.matching.proofs.Choosing.{picked, passed-by}
 use Rattle.log.specs.declared.Entry.{Entry}
-use Rattle.file_questions.proofs.Chain.{by}
+use Rattle.log.proofs.file_questions.Chain.{by}
 use Rattle.rebuild.specs.declared.Rebuild.{Rebuild}
 use Rattle.rebuild.specs.Made.{Made, making, quiet, _then_}
 use Rattle.rebuild.specs.Rebuild.{caughtUp, look, pastSlot, walk}

@@ -14,7 +14,7 @@ use Rattle.answers.specs.Answers.{saysVerdict}
 use Rattle.homing.specs.Answers.{saysReply}
 use Rattle.log.specs.declared.Utc.{Utc}
 use Rattle.log.specs.Entry.{slot}
-use Rattle.file_questions.specs.Questions.{asksFile}
+use Rattle.log.specs.Questions.{asksFile}
 use Rattle.rebuild.specs.declared.Rebuild.{Rebuild}
 use Rattle.rebuild.specs.Rebuild.{step, settle}
 use Rattle.rebuild.specs.View.{Makes, Settles}

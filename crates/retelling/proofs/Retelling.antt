@@ -27,7 +27,7 @@ use Rattle.answers.specs.Answers.{saysVerdict}
 use Rattle.taken.specs.Taken.{start}
 use Rattle.taken.proofs.Taken.{taken}
 use Rattle.log.specs.Entry.{recovered, slot}
-use Rattle.file_questions.specs.Questions.{asksFile}
+use Rattle.log.specs.Questions.{asksFile}
 use Rattle.rebuild.specs.declared.Rebuild.{Rebuild}
 use Rattle.rebuild.specs.declared.Visited.{Visited}
 use Rattle.rebuild.specs.Made.{effect}
@@ -35,9 +35,9 @@ use Rattle.rebuild.specs.Rebuild.{new, step, isDecided}
 use Rattle.rebuild.specs.View.{Makes}
 use Rattle.restart.specs.declared.Stepped.{Stepped}
 use Rattle.restart.specs.Promises.{asksStep, Steps}
-use Rattle.lines.specs.Text.{rebuiltText, refusedText}
-use Rattle.lines.specs.Writing.{Tells}
-use Rattle.lines.proofs.Numbers.{picked}
+use Rattle.retelling.specs.Text.{rebuiltText, refusedText}
+use Rattle.retelling.specs.Writing.{Tells}
+use Rattle.retelling.proofs.lines.Numbers.{picked}
 use Rattle.retelling.specs.Retold.{slots, rebuilt, heldAfter, retold, Retells}
 use Rattle.retelling.specs.Told.{told, Rebuilds}
 use Rattle.retelling.proofs.Theorems.{retold-refused}

@@ -12,13 +12,13 @@ use lib.Dec.{eqb, leb}
 use lib.ListN.{length, take, getElem?, length-take}
 use lib.Seq.{take-all}
 use Rattle.log.specs.Entry.{nextOf, recordCount, walk, chain, entryAt, entries, slot}
-use Rattle.file_questions.specs.Questions.{question6, asksChain, asksRecords, asksFile}
-use Rattle.file_questions.specs.Theorems.{Accepted}
-use Rattle.file_questions.proofs.Theorems.{accepted}
+use Rattle.log.specs.Questions.{question6, asksChain, asksRecords, asksFile}
+use Rattle.log.specs.Theorems.{Accepted}
+use Rattle.log.proofs.file_questions.Theorems.{accepted}
 use Rattle.rebuild.specs.Rebuild.{step}
 use Rattle.rebuild.proofs.Theorems.{caught-up}
-use Rattle.lines.specs.Text.{refusedText}
-use Rattle.lines.proofs.Numbers.{picked, passed-by}
+use Rattle.retelling.specs.Text.{refusedText}
+use Rattle.retelling.proofs.lines.Numbers.{picked, passed-by}
 use Rattle.retelling.specs.Retold.{slots, rebuilt, retold, Whole, EveryWhole, readMost, EveryCut}
 
 -- ---- "On refusal it prints only `refused N`."

@@ -1,2 +1,4 @@
 pub mod Retold
 pub mod Told
+pub mod Text
+pub mod Writing

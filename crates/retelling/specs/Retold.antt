@@ -10,11 +10,11 @@ use lib.ListN.{length, take, drop}
 use Rattle.crumbs.specs.declared.Crumb.{Crumb}
 use Rattle.calls.specs.Line as guide
 use Rattle.log.specs.Entry.{recovered, slot}
-use Rattle.file_questions.specs.Questions.{asksFile}
+use Rattle.log.specs.Questions.{asksFile}
 use Rattle.rebuild.specs.Made.{Made, effect}
 use Rattle.rebuild.specs.Rebuild.{new, step, isDecided, caughtUp}
-use Rattle.lines.specs.Text.{rebuiltText, refusedText}
-use Rattle.lines.specs.Writing.{textMost}
+use Rattle.retelling.specs.Text.{rebuiltText, refusedText}
+use Rattle.retelling.specs.Writing.{textMost}
 
 -- "with 512 crumbs"
 abbrev pub room : ℕ

@@ -11,7 +11,7 @@ use Rattle.answers.specs.declared.Verdict.the-variants as verdict
 use Rattle.rebuild.specs.declared.Rebuild.{Rebuild}
 use Rattle.rebuild.specs.Rebuild.{isDecided}
 use Rattle.restart.specs.declared.Stepped.{Stepped}
-use Rattle.lines.specs.Text.{rebuiltText, refusedText}
+use Rattle.retelling.specs.Text.{rebuiltText, refusedText}
 use Rattle.retelling.specs.Retold.{retold}
 
 -- the rebuild and the crumbs held after it, or "only `refused N`"

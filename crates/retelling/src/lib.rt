@@ -1,5 +1,7 @@
 // What the program `retell` prints of a chain file: the file's chain is rebuilt, and what came of it is told.
 
+mod lines;
+
 use answers::Verdict;
 use rebuild::Rebuild;
 use rebuild::Stage;
@@ -9,7 +11,7 @@ ghost use Prim.Native.Nat.{_≤_};
 ghost use lib.ListN.{length};
 ghost use Rattle.crumbs.specs.Crumb.{crumbs};
 ghost use Rattle.rebuild.specs.Rebuild.{isDecided};
-ghost use Rattle.lines.specs.Writing.{Tells};
+ghost use Rattle.retelling.specs.Writing.{Tells};
 ghost use Rattle.retelling.specs.Retold.{Retells};
 ghost use Rattle.retelling.specs.Told.{told, Rebuilds};
 

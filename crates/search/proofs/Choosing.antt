@@ -9,9 +9,9 @@ use native.Mathlib.Decide.{ℕ-discrete}
 use lib.Ieee.{Float, lt, le}
 use Rattle.plane.specs.declared.Point.{Point}
 use Rattle.crumbs.specs.declared.Crumb.{Crumb}
-use Rattle.costs.specs.declared.Nearest.{Nearest}
-use Rattle.costs.specs.declared.Cost.{Cost}
-use Rattle.costs.specs.declared.Cost.the-variants.{Out, Metres}
+use Rattle.segments.specs.declared.costs.Nearest.{Nearest}
+use Rattle.segments.specs.declared.costs.Cost.{Cost}
+use Rattle.segments.specs.declared.costs.Cost.the-variants.{Out, Metres}
 use Rattle.segments.specs.declared.Best.the-variants.{Found}
 use Rattle.segments.specs.declared.SoFar.{SoFar}
 use Rattle.segments.specs.declared.SoFar.the-variants.{Empty, Least}

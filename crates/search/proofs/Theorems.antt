@@ -8,22 +8,22 @@ use borrow.Author.Tests.{le-ltb}
 use lib.ListN.{length}
 use lib.IntN.{ℤ}
 use lib.Ieee.{Float, nan, inf, fin, lt, le}
-use Rattle.magnitude.specs.Size.{Within}
+use Rattle.binary32.specs.Size.{Within}
 use Rattle.plane.specs.declared.Point.{Point}
 use Rattle.plane.specs.Plane.{turn}
 use Rattle.crumbs.specs.declared.Crumb.{Crumb}
-use Rattle.costs.specs.declared.Nearest.{Nearest}
-use Rattle.costs.specs.declared.Cost.the-variants.{Metres}
-use Rattle.costs.specs.declared.Ranking.{Ranking}
-use Rattle.costs.specs.declared.Ranking.the-variants.{Plain}
+use Rattle.segments.specs.declared.costs.Nearest.{Nearest}
+use Rattle.segments.specs.declared.costs.Cost.the-variants.{Metres}
+use Rattle.segments.specs.declared.costs.Ranking.{Ranking}
+use Rattle.segments.specs.declared.costs.Ranking.the-variants.{Plain}
 use Rattle.segments.specs.declared.Best.{Best}
 use Rattle.segments.specs.declared.Best.the-variants.{Nothing, Found}
 use Rattle.segments.specs.declared.SoFar.the-variants.{Empty}
 use Rattle.search.specs.declared.Range.{Range}
 use Rattle.segments.specs.declared.Stretch.{Stretch}
 use Rattle.search.specs.declared.Join.the-variants.{Segment}
-use Rattle.turns.specs.Turn.{turned}
-use Rattle.costs.specs.Cost.{plain, costOf}
+use Rattle.segments.specs.Turn.{turned}
+use Rattle.segments.specs.Cost.{plain, costOf}
 use Rattle.segments.specs.Constants.{largest, lowest, dropM}
 use Rattle.segments.specs.Line.{at}
 use Rattle.segments.specs.Segment.{nearestOn, costWithin, considered, found}

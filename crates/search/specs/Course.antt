@@ -7,15 +7,15 @@ use Rattle.plane.specs.declared.Point.{Point}
 use Rattle.plane.specs.Plane.{offSegment}
 use Rattle.crumbs.specs.declared.Crumb.{Crumb}
 use Rattle.crumbs.specs.Crumb.{point}
-use Rattle.costs.specs.declared.Cost.{Cost}
+use Rattle.segments.specs.declared.costs.Cost.{Cost}
 use Rattle.segments.specs.declared.Best.{Best}
 use Rattle.segments.specs.declared.Best.the-variants.{Nothing, Found}
 use Rattle.segments.specs.declared.SoFar.the-variants.{Empty}
 use Rattle.search.specs.declared.Join.{Join}
 use Rattle.search.specs.declared.Join.the-variants.{Segment, NoSegment}
-use Rattle.turns.specs.Turn.{sameWay}
-use Rattle.costs.specs.Constants.{onM}
-use Rattle.costs.specs.Cost.{plain}
+use Rattle.segments.specs.Turn.{sameWay}
+use Rattle.segments.specs.CostConstants.{onM}
+use Rattle.segments.specs.Cost.{plain}
 use Rattle.segments.specs.Constants.{dropM}
 use Rattle.segments.specs.Line.{at}
 use Rattle.segments.specs.Segment.{nearestOn, considered, found}

@@ -4,8 +4,8 @@ use mathlib.Core.List.{List}
 use lib.ListN.{length}
 use Rattle.plane.specs.declared.Point.{Point}
 use Rattle.crumbs.specs.declared.Crumb.{Crumb}
-use Rattle.costs.specs.declared.Ranking.{Ranking}
-use Rattle.costs.specs.declared.Ranking.the-variants.{Plain}
+use Rattle.segments.specs.declared.costs.Ranking.{Ranking}
+use Rattle.segments.specs.declared.costs.Ranking.the-variants.{Plain}
 use Rattle.segments.specs.declared.Best.{Best}
 use Rattle.segments.specs.declared.SoFar.{SoFar}
 use Rattle.segments.specs.declared.SoFar.the-variants.{Empty}

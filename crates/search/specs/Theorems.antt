@@ -6,9 +6,9 @@ use mathlib.Core.List.{List}
 use lib.Ieee.{Float, lt, le}
 use Rattle.plane.specs.declared.Point.{Point}
 use Rattle.crumbs.specs.declared.Crumb.{Crumb}
-use Rattle.costs.specs.declared.Nearest.{Nearest}
-use Rattle.costs.specs.declared.Cost.{Cost}
-use Rattle.costs.specs.declared.Cost.the-variants.{Metres}
+use Rattle.segments.specs.declared.costs.Nearest.{Nearest}
+use Rattle.segments.specs.declared.costs.Cost.{Cost}
+use Rattle.segments.specs.declared.costs.Cost.the-variants.{Metres}
 use Rattle.segments.specs.declared.Best.{Best}
 use Rattle.segments.specs.declared.Best.the-variants.{Found}
 use Rattle.search.specs.declared.Range.{Range}

@@ -1,11 +1,17 @@
 // Searches on a whole line of crumbs: the segment nearest a position, the place a way along.
 
-use costs::Ranking;
+pub mod course_match;
+pub mod quick;
+
 use crumbs::Crumb;
 use plane::Point;
+use plane::squares;
 use segments::Best;
 use segments::SoFar;
 use segments::Stretch;
+use segments::costs;
+use segments::costs::Ranking;
+use segments::turns;
 ghost use mathlib.Core.Path.{_≡_};
 ghost use Prim.Native.Nat.{_≤_, _<_};
 ghost use lib.ListN.{length};

@@ -6,11 +6,11 @@ use mathlib.Core.List.{List}
 use lib.Ieee.{lt}
 use Rattle.plane.specs.declared.Point.{Point}
 use Rattle.crumbs.specs.declared.Crumb.{Crumb}
-use Rattle.costs.specs.declared.Nearest.{Nearest}
-use Rattle.costs.specs.declared.Cost.{Cost}
-use Rattle.costs.specs.declared.Cost.the-variants.{Out}
-use Rattle.costs.specs.declared.Ranking.{Ranking}
-use Rattle.costs.specs.Cost.{costOf}
+use Rattle.segments.specs.declared.costs.Nearest.{Nearest}
+use Rattle.segments.specs.declared.costs.Cost.{Cost}
+use Rattle.segments.specs.declared.costs.Cost.the-variants.{Out}
+use Rattle.segments.specs.declared.costs.Ranking.{Ranking}
+use Rattle.segments.specs.Cost.{costOf}
 use Rattle.segments.specs.declared.SoFar.{SoFar}
 use Rattle.segments.specs.declared.Stretch.{Stretch}
 use Rattle.segments.specs.Line.{at}

@@ -13,17 +13,17 @@ use Rattle.plane.specs.declared.Heading.{Heading}
 use Rattle.plane.specs.Plane.{project, distance, offSegment}
 use Rattle.crumbs.specs.declared.Crumb.{Crumb}
 use Rattle.crumbs.specs.Crumb.{point}
-use Rattle.costs.specs.declared.Nearest.{Nearest}
-use Rattle.costs.specs.declared.Cost.{Cost}
-use Rattle.costs.specs.declared.Cost.the-variants.{Out, Metres}
-use Rattle.costs.specs.declared.Ranking.{Ranking}
-use Rattle.costs.specs.declared.Ranking.the-variants.{Plain, On, Ahead}
-use Rattle.costs.specs.Constants.{onM}
-use Rattle.costs.specs.Cost.{plain, on, ahead, costOf}
-use Rattle.squares.specs.Square.{offSquare}
-use Rattle.squares.proofs.Far.{far-off, off-fits, off-not-below, off-is}
-use Rattle.roots.proofs.Order.{not-less}
-use Rattle.roots.proofs.Monotone.{clear}
+use Rattle.segments.specs.declared.costs.Nearest.{Nearest}
+use Rattle.segments.specs.declared.costs.Cost.{Cost}
+use Rattle.segments.specs.declared.costs.Cost.the-variants.{Out, Metres}
+use Rattle.segments.specs.declared.costs.Ranking.{Ranking}
+use Rattle.segments.specs.declared.costs.Ranking.the-variants.{Plain, On, Ahead}
+use Rattle.segments.specs.CostConstants.{onM}
+use Rattle.segments.specs.Cost.{plain, on, ahead, costOf}
+use Rattle.plane.specs.Square.{offSquare}
+use Rattle.plane.proofs.squares.Far.{far-off, off-fits, off-not-below, off-is}
+use Rattle.binary32.proofs.roots.Order.{not-less}
+use Rattle.binary32.proofs.roots.Monotone.{clear}
 use Rattle.segments.specs.Line.{at}
 use Rattle.segments.specs.Segment.{meets, nearestOn}
 use Rattle.segments.specs.Square.{squareOn}

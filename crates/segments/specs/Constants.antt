@@ -4,7 +4,7 @@ use mathlib.Core.Bool.{true, false}
 use lib.IntN.{pos}
 use lib.Ieee.{Float, fin}
 use Rattle.binary32.specs.Arithmetic.{constant}
-use Rattle.costs.specs.Constants.{onM}
+use Rattle.segments.specs.CostConstants.{onM}
 
 -- Document 01, "Guide and event": "Dropped above 500 m."
 unfoldable pub dropM : Float

@@ -2,3 +2,6 @@ pub mod Constants
 pub mod Line
 pub mod Segment
 pub mod Square
+pub mod Turn
+pub mod CostConstants
+pub mod Cost

@@ -7,11 +7,11 @@ use Rattle.plane.specs.declared.Point.{Point}
 use Rattle.plane.specs.Plane.{distance, project, between}
 use Rattle.crumbs.specs.declared.Crumb.{Crumb}
 use Rattle.crumbs.specs.Crumb.{point}
-use Rattle.costs.specs.declared.Nearest.{Nearest}
-use Rattle.costs.specs.declared.Cost.{Cost}
-use Rattle.costs.specs.declared.Cost.the-variants.{Out, Metres}
-use Rattle.costs.specs.declared.Ranking.{Ranking}
-use Rattle.costs.specs.Cost.{costOf}
+use Rattle.segments.specs.declared.costs.Nearest.{Nearest}
+use Rattle.segments.specs.declared.costs.Cost.{Cost}
+use Rattle.segments.specs.declared.costs.Cost.the-variants.{Out, Metres}
+use Rattle.segments.specs.declared.costs.Ranking.{Ranking}
+use Rattle.segments.specs.Cost.{costOf}
 use Rattle.segments.specs.declared.Best.{Best}
 use Rattle.segments.specs.declared.Best.the-variants.{Nothing, Found}
 use Rattle.segments.specs.declared.SoFar.{SoFar}

@@ -5,7 +5,7 @@ use lib.Ieee.{Float}
 use Rattle.plane.specs.declared.Point.{Point}
 use Rattle.crumbs.specs.declared.Crumb.{Crumb}
 use Rattle.crumbs.specs.Crumb.{point}
-use Rattle.squares.specs.Square.{offSquare}
+use Rattle.plane.specs.Square.{offSquare}
 use Rattle.segments.specs.Line.{at}
 
 unfoldable pub squareOn : List Crumb → Point → ℕ → Float

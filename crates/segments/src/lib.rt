@@ -1,11 +1,15 @@
 // Segments of a line: where a position meets one, and whether it is better than the best so far. A line is a lent buffer and a
 // count of the crumbs held in it. A segment is named by its far end: it runs from the crumb before to the one at `end`.
 
+pub mod costs;
+pub mod turns;
+
 use costs::Cost;
 use costs::Nearest;
 use costs::Ranking;
 use crumbs::Crumb;
 use plane::Point;
+use plane::squares;
 ghost use mathlib.Core.Path.{_≡_};
 ghost use Prim.Native.Nat.{_≤_, _<_};
 ghost use lib.ListN.{length};
@@ -15,8 +19,8 @@ ghost use Rattle.segments.specs.Segment.{meets, nearestOn, cheaper, cost
 ghost use mathlib.Core.Bool.{true, false};
 ghost use Rattle.segments.specs.declared.SoFar.{SoFar};
 ghost use Prim.Native.Nat.{ℕ};
-ghost use Rattle.costs.specs.declared.Cost.the-variants.{Out};
-ghost use Rattle.costs.specs.Cost.{costOf};
+ghost use Rattle.segments.specs.declared.costs.Cost.the-variants.{Out};
+ghost use Rattle.segments.specs.Cost.{costOf};
 ghost use Rattle.segments.specs.Square.{squareOn};
 
 // Following stops this far from the line, and a course this near can be followed.

@@ -9,7 +9,7 @@ use lib.Ieee.{Float, nan, inf, fin, down, level, ofBits, eq, le, lt, add, sub, m
 use Rattle.binary32.specs.Arithmetic.{constant}
 use Rattle.binary32.specs.Root.{root}
 use Rattle.binary32.specs.Limits.{plusZero, clamp}
-use Rattle.magnitude.specs.Size.{Within}
+use Rattle.binary32.specs.Size.{Within}
 use Rattle.plane.specs.declared.Heading.{Heading}
 use Rattle.plane.specs.declared.Heading.the-variants.{Known}
 use Rattle.plane.specs.Plane.{distance, share, between, atShare, project, offSegment, metres}
@@ -20,7 +20,7 @@ use Rattle.thin.specs.Questions.{question9}
 use Rattle.thin.specs.Promises.{answer}
 use Rattle.lap.specs.Pass.{passArmM, passM, passEndM, fromStage, stepOf}
 use Rattle.state.specs.Guide.{arrow, arrowFrom}
-use Rattle.costs.specs.Constants.{onM}
+use Rattle.segments.specs.CostConstants.{onM}
 use Rattle.matching.specs.Match.{offM, offNow}
 use Rattle.rebuild.proofs.Starred as rebuild
 use Rattle.starred.specs.Table.{Table}

@@ -1,5 +1,8 @@
 // The guide made anew, and a course set.
 
+pub mod following;
+mod way_home;
+
 use lap::Lap;
 use lap::Stage;
 use lap::StartPass;

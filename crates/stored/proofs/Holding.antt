@@ -10,11 +10,11 @@ use lib.Dec.{leb, eqb}
 use lib.ListN.{length}
 use lib.Ieee.{Float}
 use Rattle.state.specs.declared.Homing.{Homing}
-use Rattle.fields.specs.Fields.{within, wordAt}
+use Rattle.stored.specs.Fields.{within, wordAt}
 use Rattle.stored.specs.Stored.{mark, mosts, holds, heldIf, homingAt, stored, Loads, HasRoom}
-use Rattle.parts.specs.Parts.{wordCount, numberCount}
-use Rattle.fields.proofs.Limits.{within-room}
-pub use Rattle.stored_rebuild.proofs.Holding.{rebuild-has-room}
+use Rattle.stored.specs.Parts.{wordCount, numberCount}
+use Rattle.stored.proofs.fields.Limits.{within-room}
+pub use Rattle.stored.proofs.stored_rebuild.Holding.{rebuild-has-room}
 
 and-false : (b : Bool) → (b && false) ≡ false
 and-false true = refl

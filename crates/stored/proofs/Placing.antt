@@ -3,10 +3,10 @@ use mathlib.Core.Path.{_≡_, refl}
 use mathlib.Core.Bool.{true}
 use lib.ListN.{length, take, drop}
 use Rattle.state.specs.declared.Homing.{Homing}
-use Rattle.fields.specs.Fields.{within}
-use Rattle.parts.specs.Parts.{PlaceFits}
+use Rattle.stored.specs.Fields.{within}
+use Rattle.stored.specs.Parts.{PlaceFits}
 use Rattle.stored.specs.Stored.{mosts, wordsOf, StateFits}
-use Rattle.fields.proofs.Fitting.{append-in}
+use Rattle.stored.proofs.fields.Fitting.{append-in}
 
 pub words-fit : (h : Homing) → within (take 22 mosts) (take 22 (wordsOf h)) ≡ true → within (drop 22 mosts) (drop 22 (wordsOf h)) ≡ true
     → PlaceFits (h .frame .origin) → PlaceFits (h .fed) → length (h .trail .window) ≡ 96 → StateFits h

@@ -15,12 +15,12 @@ use Rattle.lap.specs.declared.Stage.the-variants as stage
 use Rattle.state.specs.declared.Line.the-variants as line
 use Rattle.state.specs.declared.Mode.the-variants as mode
 use Rattle.state.specs.declared.Homing.{Homing}
-use Rattle.fields.specs.Fields.{most32, most16, most8, within, wordAt, flagAt, signedAt, spotAt, headingAt, placeAt}
+use Rattle.stored.specs.Fields.{most32, most16, most8, within, wordAt, flagAt, signedAt, spotAt, headingAt, placeAt}
 use Rattle.stored.specs.Stored.{mark, mosts, homingAt, holds, heldIf, stored, wordsOf, headOf, numbersOf, StateFits, ReadBack}
-use Rattle.parts.specs.Parts.{numberCount, trailAt, frameAt, motionAt, followAt, courseAt, lapAt, guideAt, shownOf, guideIn, shownFlag}
-use Rattle.fields.proofs.Limits.{within-more, within-at}
-use Rattle.fields.proofs.Same.{narrow-same, flag-same, line-same, stage-same, mode-same, spot-same, heading-back}
-use Rattle.parts.proofs.Parts.{place-back, shown-same}
+use Rattle.stored.specs.Parts.{numberCount, trailAt, frameAt, motionAt, followAt, courseAt, lapAt, guideAt, shownOf, guideIn, shownFlag}
+use Rattle.stored.proofs.fields.Limits.{within-more, within-at}
+use Rattle.stored.proofs.fields.Same.{narrow-same, flag-same, line-same, stage-same, mode-same, spot-same, heading-back}
+use Rattle.stored.proofs.parts.Parts.{place-back, shown-same}
 
 -- ---- the parts
 module _ (h : Homing) (fits : StateFits h) (ws : List ℕ) (ns : List Float) where

@@ -7,10 +7,10 @@ use lib.ListN.{length, take, drop, length-append, length-drop}
 use lib.Seq.{paste, take-length, drop-drop, drop-at}
 use lib.Ieee.{Float}
 use Rattle.state.specs.declared.Homing.{Homing}
-use Rattle.parts.specs.Parts.{wordCount, numberCount}
+use Rattle.stored.specs.Parts.{wordCount, numberCount}
 use Rattle.stored.specs.Stored.{stored, wordsOf, headOf, numbersOf, StateFits, Stores, holds}
 use Rattle.stored.proofs.ReadBack.{read-back}
-use Rattle.fields.proofs.Copying.{in-front}
+use Rattle.stored.proofs.fields.Copying.{in-front}
 
 -- the words before the course's, then the others
 pub first-front : (h : Homing) (w s : List ℕ) {w′ : List ℕ} → s ≡ take 22 (wordsOf h) → w′ ≡ paste w 0 s (length s) → w′ ≡ take 22 (wordsOf h) ++ drop 22 w

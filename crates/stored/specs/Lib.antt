@@ -1,3 +1,5 @@
-pub mod Fields
 pub mod Stored
+pub mod Fields
+pub mod Parts
+pub mod Words
 pub mod Rebuilt

@@ -1,3 +1,107 @@
--- Which rebuild a slice of words holds: the rules of crate stored_rebuild.
-unfoldable pub use Rattle.stored_rebuild.specs.Rebuilt.{utcAt, rebuildAt, holdsRebuild, storedRebuild, rebuildWords}
-pub use Rattle.stored_rebuild.specs.Rebuilt.{rebuildMark, rebuildCount, rebuildMosts, utcOf, pendingOf, rebuildIf, pendingFlag, pendingIn, utcFlag, utcIn, RebuildReadBack, RebuildHasRoom, StoresRebuild, LoadsRebuild}
+-- Which rebuild a slice of words holds.
+--
+-- | words | field |
+-- |--:|---|
+-- | 0 | the mark |
+-- | 1, 2 | recovered, walk: slot |
+-- | 3 to 5 | stage: whether it is pending, and the time (two) that it then has |
+-- | 6 | clock_ms |
+use Prim.Native.Nat.{ℕ, _+_, _≤_}
+use mathlib.Core.Path.{_≡_}
+use mathlib.Core.Bool.{Bool, true, false, _&&_}
+use mathlib.Core.List.{List, [], _∷_, _++_}
+use mathlib.Core.Option.{Option, none, some}
+use lib.Dec.{eqb}
+use lib.ListN.{length, drop}
+use Rattle.log.specs.declared.Utc.{Utc}
+use Rattle.log.specs.declared.Utc.the-variants as utc
+use Rattle.rebuild.specs.declared.Stage.{Stage}
+use Rattle.rebuild.specs.declared.Stage.the-variants as stage
+use Rattle.rebuild.specs.declared.Rebuild.{Rebuild}
+use Rattle.stored.specs.Fields.{most64, most32, within, wordAt, narrowAt, flagAt}
+
+-- the letters CITTUMAR
+abbrev pub rebuildMark : ℕ
+rebuildMark = 4848499195026162002
+
+abbrev pub rebuildCount : ℕ
+rebuildCount = 7
+
+abbrev pub rebuildMosts : List ℕ
+rebuildMosts = rebuildMark ∷ most32 ∷ most64 ∷ 1 ∷ 1 ∷ most64 ∷ most64 ∷ []
+
+-- ---- read
+abbrev pub utcOf : Bool → ℕ → Utc
+utcOf true t = utc.At t
+utcOf false t = utc.Unknown
+
+abbrev pub pendingOf : Bool → Utc → Stage
+pendingOf true t = stage.Pending t
+pendingOf false t = stage.Decided
+
+unfoldable pub utcAt : List ℕ → ℕ → Utc
+utcAt w i = utcOf (flagAt w i) (wordAt w (i + 1))
+
+unfoldable pub rebuildAt : List ℕ → Rebuild
+rebuildAt w =
+    record {
+      recovered = narrowAt most32 w 1;
+      walk = record { slot = wordAt w 2 };
+      stage = pendingOf (flagAt w 3) (utcAt w 4);
+      «clock_ms» = wordAt w 6;
+    }
+
+unfoldable pub holdsRebuild : List ℕ → Bool
+holdsRebuild w = eqb (wordAt w 0) rebuildMark && within rebuildMosts w
+
+abbrev pub rebuildIf : Bool → Rebuild → Option Rebuild
+rebuildIf true r = some r
+rebuildIf false r = none
+
+unfoldable pub storedRebuild : List ℕ → Option Rebuild
+storedRebuild w = rebuildIf (holdsRebuild w) (rebuildAt w)
+
+-- ---- written
+abbrev pub pendingFlag : Stage → ℕ
+pendingFlag (stage.Pending t) = 1
+pendingFlag stage.Decided = 0
+
+abbrev pub pendingIn : Stage → Utc
+pendingIn (stage.Pending t) = t
+pendingIn stage.Decided = utc.Unknown
+
+abbrev pub utcFlag : Utc → ℕ
+utcFlag (utc.At t) = 1
+utcFlag utc.Unknown = 0
+
+abbrev pub utcIn : Utc → ℕ
+utcIn (utc.At t) = t
+utcIn utc.Unknown = 0
+
+unfoldable pub rebuildWords : Rebuild → List ℕ
+rebuildWords r =
+    rebuildMark
+    ∷ r .recovered ∷ r .walk .slot
+    ∷ pendingFlag (r .stage) ∷ utcFlag (pendingIn (r .stage)) ∷ utcIn (pendingIn (r .stage))
+    ∷ r .«clock_ms»
+    ∷ []
+
+-- ---- what is promised
+-- Reading back what was stored gives the same rebuild, every field, where each fits its type, whatever lies behind.
+abbrev pub RebuildReadBack : Type 0
+RebuildReadBack = (r : Rebuild) → within rebuildMosts (rebuildWords r) ≡ true → (ws : List ℕ) → storedRebuild (rebuildWords r ++ ws) ≡ some r
+
+-- Words that hold a rebuild have the room for one.
+abbrev pub RebuildHasRoom : Type 0
+RebuildHasRoom = (w : List ℕ) (r : Rebuild) → storedRebuild w ≡ some r → rebuildCount ≤ length w
+
+-- A rebuild r is stored, and what lies behind it is as it was.
+pub record StoresRebuild (r : Rebuild) (w w′ : List ℕ) : Type 0 where
+  pub holds : storedRebuild w′ ≡ some r
+  pub long : length w′ ≡ length w
+  pub behind : drop rebuildCount w′ ≡ drop rebuildCount w
+
+-- What loading gives: the rebuild where one is held.
+pub record LoadsRebuild (w : List ℕ) (r : Rebuild) (held : Bool) : Type 0 where
+  pub there : held ≡ true → storedRebuild w ≡ some r
+  pub nothing : held ≡ false → storedRebuild w ≡ none

@@ -27,11 +27,11 @@ use lib.Dec.{leb, eqb}
 use lib.ListN.{length, drop}
 use lib.Ieee.{Float}
 use Rattle.state.specs.declared.Homing.{Homing}
-use Rattle.fields.specs.Fields.{within, wordAt, flagAt, spotAt, placeAt, pointIn}
-unfoldable pub use Rattle.parts.specs.Parts.{trailAt, frameAt, motionAt, followAt, courseAt, lapAt, guideAt}
-pub use Rattle.parts.specs.Parts.{wordCount, numberCount, windowAt, placeMosts, headingMosts, trailMosts, motionMosts, followMosts, courseMosts, lapMosts, guideMosts, shownOf, blank, guideIn, shownFlag, placeWords, headingWords, trailWords, motionWords, followWords, courseWords, lapWords, guideWords, PlaceFits}
-unfoldable pub use Rattle.state_words.specs.Words.{mosts, wordsOf}
-pub use Rattle.state_words.specs.Words.{mark}
+use Rattle.stored.specs.Fields.{within, wordAt, flagAt, spotAt, placeAt, pointIn}
+unfoldable pub use Rattle.stored.specs.Parts.{trailAt, frameAt, motionAt, followAt, courseAt, lapAt, guideAt}
+pub use Rattle.stored.specs.Parts.{wordCount, numberCount, windowAt, placeMosts, headingMosts, trailMosts, motionMosts, followMosts, courseMosts, lapMosts, guideMosts, shownOf, blank, guideIn, shownFlag, placeWords, headingWords, trailWords, motionWords, followWords, courseWords, lapWords, guideWords, PlaceFits}
+unfoldable pub use Rattle.stored.specs.Words.{mosts, wordsOf}
+pub use Rattle.stored.specs.Words.{mark}
 
 -- ---- read
 unfoldable pub homingAt : List ℕ → List Float → Homing

@@ -1,13 +1,18 @@
 // A guide's state in slices that the caller lends: words, and numbers beside them. The layout is the table in
 // specs/Stored.antt. Word 0 is a mark.
 
+mod fields;
+mod parts;
+mod state_words;
+mod stored_rebuild;
+
 use state::Homing;
 ghost use mathlib.Core.Path.{_≡_};
 ghost use mathlib.Core.List.{_++_};
 ghost use Prim.Native.Nat.{_<_, _≤_};
 ghost use lib.ListN.{length, drop};
-ghost use Rattle.fields.specs.Fields.{within};
-ghost use Rattle.parts.specs.Parts.{wordCount, numberCount};
+ghost use Rattle.stored.specs.Fields.{within};
+ghost use Rattle.stored.specs.Parts.{wordCount, numberCount};
 ghost use Rattle.stored.specs.Stored.{mosts, homingAt, room, holds as holdsState, StateFits, wordsOf, headOf, numbersOf, Loads, Stores};
 pub use stored_rebuild::HeldRebuild;
 pub use stored_rebuild::REBUILD_WORDS;

@@ -11,13 +11,13 @@ use lib.Ieee.Bits.{is-true}
 use lib.Ieee.Fits.{add-fits, down-pos}
 use Rattle.binary32.specs.Arithmetic.{_⊕_, constant}
 use Rattle.binary32.specs.Limits.{plusZero, sizeOf}
-use Rattle.magnitude.specs.Size.{Within, within, NonNeg, Share, pow, frac}
-use Rattle.magnitude.proofs.Laws.{widen, within-trans, within-finite, sized as sizes}
-use Rattle.magnitude.proofs.Round.{Held}
-use Rattle.magnitude.proofs.More.{add-step}
-use Rattle.magnitude.proofs.Between.{along-between}
-use Rattle.magnitude.proofs.Signs.{add-nonneg, along-nonneg, zero-fits}
-use Rattle.magnitude.proofs.Tests.{within→le, nonneg→le}
+use Rattle.binary32.specs.Size.{Within, within, NonNeg, Share, pow, frac}
+use Rattle.binary32.proofs.magnitude.Laws.{widen, within-trans, within-finite, sized as sizes}
+use Rattle.binary32.proofs.magnitude.Round.{Held}
+use Rattle.binary32.proofs.magnitude.More.{add-step}
+use Rattle.binary32.proofs.magnitude.Between.{along-between}
+use Rattle.binary32.proofs.magnitude.Signs.{add-nonneg, along-nonneg, zero-fits}
+use Rattle.binary32.proofs.magnitude.Tests.{within→le, nonneg→le}
 use Rattle.plane.specs.declared.Point.{Point}
 use Rattle.plane.specs.Plane.{distance, between}
 use Rattle.plane.specs.Place.{Coordinate, Place}

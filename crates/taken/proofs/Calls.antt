@@ -13,7 +13,7 @@ use Rattle.plane.specs.declared.Spot.the-variants as spot
 use Rattle.plane.specs.Place.{Place}
 use Rattle.crumbs.specs.declared.Crumb.{Crumb}
 use Rattle.motion.specs.Heading.{elapsed}
-use Rattle.costs.specs.declared.Nearest.{Nearest}
+use Rattle.segments.specs.declared.costs.Nearest.{Nearest}
 use Rattle.segments.specs.declared.Best.{Best}
 use Rattle.segments.specs.declared.Best.the-variants as best
 use Rattle.search.proofs.Theorems.{course-near-met}
@@ -27,7 +27,7 @@ use Rattle.state.specs.State.{State, withTrack}
 use Rattle.state.specs.Rule.{Done}
 use Rattle.follow.specs.Engage.{cutTo, forgotten}
 use Rattle.joining.specs.Join.{withRetrace, retracing}
-use Rattle.retrace.specs.Retrace.{lenBefore, ridesBack}
+use Rattle.joining.specs.Retrace.{lenBefore, ridesBack}
 use Rattle.update.specs.Update.{update}
 use Rattle.course.specs.Fix.{Fix, located}
 use Rattle.calls.specs.Fix.{fixLostMs, isAt, unfixed, cleared, missing, sameFix, headed, stillMs, stillAt, addUpdate, tellFollowing, joinedCourse, turnedBack, engagedBack, retraced, mayRetrace, joinedOrNot, fixOn, arrivedAt, newFix, seen, observe, passOnly, replay, unheaded, endReplay}

@@ -29,9 +29,9 @@ use Rattle.state.specs.declared.Follow.{Follow}
 use Rattle.state.specs.declared.Course.{Course}
 use Rattle.state.specs.State.{State, withTrack, withFollow}
 use Rattle.state.specs.Rule.{Done}
-use Rattle.follow_parts.specs.Parts.{left}
+use Rattle.follow.specs.Parts.{left}
 use Rattle.follow.specs.Record.{afterThinning, recordedIn, recorded, keep, add, flush}
-use Rattle.follow_parts.specs.Parts.{alongAt, courseFrom, leads, stopped, heldOff}
+use Rattle.follow.specs.Parts.{alongAt, courseFrom, leads, stopped, heldOff}
 use Rattle.follow.specs.Engage.{engageAt, engage, cutTo, leaveAt, forgotten, stopNothing, stopCourse, stopBreadcrumb, stopOn, stop}
 use Rattle.joining.specs.Join.{joinedTo, joinOn, mayJoin, joinWith, joining}
 use Rattle.taken.proofs.Tests.{one-of, and-left}

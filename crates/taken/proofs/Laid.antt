@@ -14,7 +14,7 @@ use Rattle.crumbs.specs.Crumb.{point}
 use Rattle.crumbs.specs.Choice.{Choice, end, leave, strike, first, last}
 use Rattle.thin.specs.Crumb.{thinning}
 use Rattle.thin.proofs.Theorems.{thins-any}
-use Rattle.along.specs.Along.{crumbOf, alongTo, alongBehind, recordedM, realongBehind, realong}
+use Rattle.crumbs.specs.Along.{crumbOf, alongTo, alongBehind, recordedM, realongBehind, realong}
 use Rattle.segments.specs.Line.{at}
 use Rattle.calls.specs.Questions.{crumbFits, crumbsFit}
 use Rattle.taken.proofs.Bounds.{Along, steps, far, along-start, along-step, along-far, along-fits, place-fits}

@@ -12,3 +12,4 @@ pub mod Lines
 pub mod Asking
 pub mod Taken
 pub mod Going
+pub mod asked

@@ -9,16 +9,16 @@ use lib.Dec.{leb, lit≤}
 use lib.ListN.{length, length-reverse}
 use Rattle.binary32.specs.Arithmetic.{constant}
 use Rattle.binary32.specs.Limits.{plusZero}
-use Rattle.magnitude.specs.Size.{Within, frac}
+use Rattle.binary32.specs.Size.{Within, frac}
 use Rattle.plane.specs.Fix.{mPerE7}
 use Rattle.crumbs.specs.declared.Crumb.{Crumb}
-use Rattle.along.specs.Along.{alongBehind}
+use Rattle.crumbs.specs.Along.{alongBehind}
 use Rattle.state.specs.declared.Line.{Line}
 use Rattle.state.specs.declared.Line.the-variants as line
 use Rattle.state.specs.declared.Frame.{Frame}
 use Rattle.state.specs.declared.Course.{Course}
 use Rattle.state.specs.State.{State, withCourse}
-use Rattle.follow_parts.specs.Parts.{stopped}
+use Rattle.follow.specs.Parts.{stopped}
 use Rattle.follow.specs.Engage.{stopCourse}
 use Rattle.course.specs.Fix.{Fix, framed}
 use Rattle.course.specs.Course.{placeBehind, placed, noOrigin, lineOf}

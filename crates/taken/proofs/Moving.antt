@@ -5,7 +5,7 @@ use mathlib.Core.Bool.{Bool, true, false}
 use borrow.Author.Tests.{lt-ltb}
 use lib.Dec.{ltb}
 use lib.Ieee.{Float, le}
-use Rattle.magnitude.specs.Size.{Within, frac}
+use Rattle.binary32.specs.Size.{Within, frac}
 use Rattle.plane.specs.declared.Point.{Point}
 use Rattle.plane.specs.declared.Spot.{Spot}
 use Rattle.plane.specs.declared.Spot.the-variants.{At, Nowhere}

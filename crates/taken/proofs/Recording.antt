@@ -24,7 +24,7 @@ use Rattle.trail.proofs.Theorems.{Sound, thin-sound, flush-sound, MayKeep, noth
 use Rattle.trail.proofs.Theorems as trail
 use Rattle.follow.specs.Engage.{forgotten}
 use Rattle.joining.specs.Join.{retraceFixes, withRetrace}
-use Rattle.retrace.specs.Retrace.{lenBefore}
+use Rattle.joining.specs.Retrace.{lenBefore}
 use Rattle.calls.specs.Questions.{placesFit, retraceFits}
 use Rattle.taken.proofs.Tests.{one-of}
 use Rattle.taken.proofs.Bounds.{place-fits}

@@ -10,7 +10,7 @@ use Rattle.plane.specs.Place.{Place}
 use Rattle.plane.proofs.Places.{share-share, project-place}
 use Rattle.crumbs.specs.declared.Crumb.{Crumb}
 use Rattle.crumbs.specs.Crumb.{point}
-use Rattle.costs.specs.declared.Nearest.{Nearest}
+use Rattle.segments.specs.declared.costs.Nearest.{Nearest}
 use Rattle.search.specs.declared.Range.{Range}
 use Rattle.segments.specs.Line.{at}
 use Rattle.segments.specs.Segment.{meets, nearestOn}

@@ -13,14 +13,14 @@ use Rattle.plane.specs.Plane.{turn, distance, bearing}
 use Rattle.plane.specs.Place.{Place}
 use Rattle.plane.proofs.Theorems.{bearing-below}
 use Rattle.crumbs.specs.declared.Crumb.{Crumb}
-use Rattle.costs.specs.declared.Nearest.{Nearest}
+use Rattle.segments.specs.declared.costs.Nearest.{Nearest}
 use Rattle.segments.specs.declared.Best.{Best}
 use Rattle.segments.specs.declared.Best.the-variants.{Nothing, Found}
 use Rattle.search.specs.declared.Range.{Range}
 use Rattle.segments.specs.Constants.{dropM}
 use Rattle.search.proofs.Theorems.{breadcrumb-met}
-use Rattle.course_match.proofs.Theorems.{course-met}
-use Rattle.along.specs.Along.{startOf}
+use Rattle.search.proofs.course_match.Theorems.{course-met}
+use Rattle.crumbs.specs.Along.{startOf}
 use Rattle.state.specs.declared.Line.{Line}
 use Rattle.state.specs.declared.Line.the-variants as line
 use Rattle.state.specs.declared.Event.{Event}
@@ -30,11 +30,11 @@ use Rattle.state.specs.declared.Course.{Course}
 use Rattle.state.specs.declared.Shown.the-variants as shown
 use Rattle.state.specs.State.{State}
 use Rattle.state.specs.Rule.{Done}
-use Rattle.followed.specs.declared.Way.{Way}
+use Rattle.matching.specs.declared.followed.Way.{Way}
 use Rattle.guide.specs.Guide.{leaveM, arriveM, offCleared, arrivalFrom, guideAt, finished, direct}
-use Rattle.goal.specs.Goal.{goalOn, longEnough}
+use Rattle.guide.specs.Goal.{goalOn, longEnough}
 use Rattle.matching.specs.Match.{onCourse, onLine, aroundSegment, nearer, offM, smaller, followMatched, courseMatched}
-use Rattle.followed.specs.Followed.{followedOn, followed, progress, nearest, widened}
+use Rattle.matching.specs.Followed.{followedOn, followed, progress, nearest, widened}
 use Rattle.update.specs.Update.{begun, matchedAt, endedWith, atCourseEnd, matchedTo, matchFrom, followOn, update}
 use Rattle.calls.specs.Questions.{guideFits, shownFits}
 use Rattle.taken.proofs.Tests.{either, one-of, and-right}

@@ -9,8 +9,8 @@ use Rattle.binary32.specs.Root.{root}
 use Rattle.plane.specs.declared.Point.{Point}
 use Rattle.plane.specs.declared.Projection.{Projection}
 use Rattle.plane.specs.Plane.{distance, project, offSegment}
-use Rattle.roots.proofs.Monotone.{clear, square-clear, sum-clear}
-use Rattle.roots.proofs.Bounds.{root-accept, root-reject}
+use Rattle.binary32.proofs.roots.Monotone.{clear, square-clear, sum-clear}
+use Rattle.binary32.proofs.roots.Bounds.{root-accept, root-reject}
 use Rattle.thin.specs.Bounds.{square, Under, Over}
 
 never : {A : Type 0} → false ≡ true → A

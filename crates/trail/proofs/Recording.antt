@@ -19,7 +19,7 @@ use Rattle.trail.specs.Notes.{thinnedIn}
 use Rattle.trail.specs.Trail.{windowPlaces, minStepM, Track, withWindow, become, thin, put, keep, flush, wait, strays, simplify, add}
 use Rattle.trail.specs.View.{placeAt, places, track, Fit, Follows, Records, Changes}
 use Rattle.trail.proofs.Window.{length-places, last-places, none-places}
-use Rattle.along.proofs.Line.{last-crumbs, last-none}
+use Rattle.crumbs.proofs.along.Line.{last-crumbs, last-none}
 use Rattle.trail.proofs.Rules.{keep-full, keep-room, flush-none, flush-some, bends, simplify-bends, simplify-straight, add-first, near, add-near, add-far}
 use Rattle.trail.proofs.Theorems.{thin-room, flush-empties}
 use Rattle.trail.proofs.Tracks.{sound-of, records-then, records-as, records-still}

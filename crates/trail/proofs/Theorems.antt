@@ -13,8 +13,8 @@ use lib.Ieee.{Float, binary32, ofInt, le}
 use lib.Ieee.Bits.{is-true}
 use Rattle.binary32.specs.Arithmetic.{constant}
 use Rattle.binary32.specs.Limits.{plusZero}
-use Rattle.magnitude.proofs.Laws.{passed}
-use Rattle.magnitude.proofs.More.{double-least}
+use Rattle.binary32.proofs.magnitude.Laws.{passed}
+use Rattle.binary32.proofs.magnitude.More.{double-least}
 use Rattle.plane.specs.declared.Point.{Point}
 use Rattle.crumbs.specs.declared.Crumb.{Crumb}
 use Rattle.crumbs.specs.Crumb.{point}
@@ -23,7 +23,7 @@ use Rattle.crumbs.proofs.Choices.{choice-map, first-map}
 use Rattle.thin.specs.Crumb.{measuringPass, doubled, target, Thinning, passesFrom, thinning}
 use Rattle.thin.proofs.Theorems.{thins-any}
 use Rattle.trail.specs.Notes.{Note, Kept, Thinned}
-use Rattle.along.specs.Along.{realongBehind, realong}
+use Rattle.crumbs.specs.Along.{realongBehind, realong}
 use Rattle.trail.specs.Trail.{windowPlaces, Track, thin, put, keep, flush, wait, strays, simplify, add}
 use Rattle.trail.proofs.Rules.{keep-full, keep-room, flush-none, flush-some, bends, simplify-bends, simplify-straight, add-first, near, add-near, add-far}
 

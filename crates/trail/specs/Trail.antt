@@ -14,7 +14,7 @@ use Rattle.crumbs.specs.declared.Crumb.{Crumb}
 use Rattle.crumbs.specs.Crumb.{point}
 use Rattle.crumbs.specs.Choice.{last}
 use Rattle.thin.specs.Crumb.{thinning}
-use Rattle.along.specs.Along.{crumbOf, recordedM, realong}
+use Rattle.crumbs.specs.Along.{crumbOf, recordedM, realong}
 use Rattle.trail.specs.Notes.{Note, Kept, Thinned, Reset}
 
 -- "Points wait in a window of 48 places"

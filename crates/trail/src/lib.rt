@@ -3,6 +3,7 @@
 // full the line is thinned in place, so a ride of any length fits.
 
 use crumbs::Crumb;
+use crumbs::along;
 use plane::Point;
 use thin::Thinned;
 ghost use mathlib.Core.Path.{_≡_};

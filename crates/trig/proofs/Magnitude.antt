@@ -16,11 +16,11 @@ use lib.Ieee.Nearest.{div-same}
 use lib.Ieee.Scale.{grid, round-under}
 use Rattle.binary32.specs.Arithmetic.{_⊕_, _⊖_, _⊗_}
 use Rattle.binary32.specs.Limits.{sizeOf, one, plusZero}
-use Rattle.magnitude.specs.Size.{Within}
-use Rattle.magnitude.proofs.Laws.{passed, within-refl, widen, add-within, sub-within, mul-within}
-use Rattle.magnitude.proofs.More.{sub-between}
-use Rattle.magnitude.proofs.Round.{held, units-held, round-value}
-use Rattle.magnitude.proofs.Tests.{size→within, past→within}
+use Rattle.binary32.specs.Size.{Within}
+use Rattle.binary32.proofs.magnitude.Laws.{passed, within-refl, widen, add-within, sub-within, mul-within}
+use Rattle.binary32.proofs.magnitude.More.{sub-between}
+use Rattle.binary32.proofs.magnitude.Round.{held, units-held, round-value}
+use Rattle.binary32.proofs.magnitude.Tests.{size→within, past→within}
 use Rattle.trig.specs.Fix.{halfPi, quarterPi, half, cos8, cos6, cos4, sin7, sin5, sin3, nearCos, farCos, cos, larger}
 
 -- ---- a value that a format holds is its own rounding

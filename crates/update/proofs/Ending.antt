@@ -9,8 +9,8 @@ use Rattle.plane.specs.declared.Point.{Point}
 use Rattle.plane.specs.declared.Spot.{Spot}
 use Rattle.plane.specs.declared.Spot.the-variants.{At, Nowhere}
 use Rattle.crumbs.specs.Crumb.{capacity, crumbs, behind}
-use Rattle.costs.specs.declared.Nearest.{Nearest}
-use Rattle.costs.specs.Constants.{onM}
+use Rattle.segments.specs.declared.costs.Nearest.{Nearest}
+use Rattle.segments.specs.CostConstants.{onM}
 use Rattle.trail.specs.declared.Trail.{Trail}
 use Rattle.trail.specs.View as trail
 use Rattle.state.specs.declared.Line.{Line}
@@ -19,14 +19,14 @@ use Rattle.state.specs.declared.Event.{Event}
 use Rattle.state.specs.declared.Homing.{Homing}
 use Rattle.state.specs.State.{State, stateOf}
 use Rattle.follow.specs.Record.{recordedIn, recorded, keep}
-use Rattle.follow_parts.specs.Parts.{heldOff}
+use Rattle.follow.specs.Parts.{heldOff}
 use Rattle.follow.specs.Engage.{cutTo, leaveAt, stopNothing, stopCourse, stopBreadcrumb, stopOn, stop}
 use Rattle.follow.specs.View.{Fit, courseOf, Changes, Follows}
 use Rattle.guide.specs.declared.Told.{Told}
 use Rattle.matching.specs.Match.{onCourse}
 use Rattle.guide.specs.Guide.{arriveM, direct}
 use Rattle.update.specs.Update.{begun, atCourseEnd, endedWith}
-use Rattle.followed.specs.View.{Room}
+use Rattle.matching.specs.View.{Room}
 use Rattle.guide.specs.View.{Tells}
 use Rattle.update.specs.View.{Updates}
 

@@ -12,7 +12,7 @@ use Rattle.plane.specs.declared.Spot.the-variants.{Nowhere}
 use Rattle.crumbs.specs.declared.Crumb.{Crumb}
 use Rattle.crumbs.specs.Crumb.{crumbs}
 use Rattle.crumbs.proofs.Crumbs.{length-crumbs}
-use Rattle.costs.specs.declared.Nearest.{Nearest}
+use Rattle.segments.specs.declared.costs.Nearest.{Nearest}
 use Rattle.segments.specs.declared.Best.{Best}
 use Rattle.segments.specs.declared.Best.the-variants.{Nothing, Found}
 use Rattle.segments.specs.Constants.{dropM}
@@ -25,10 +25,10 @@ use Rattle.state.specs.declared.Homing.{Homing}
 use Rattle.state.specs.State.{State, stateOf, withFollow, withArrived}
 use Rattle.state.specs.Rule.{Done, done}
 use Rattle.follow.specs.Engage.{leaveAt, forgotten, stopNothing, stopCourse, stopBreadcrumb, stopOn, stop}
-use Rattle.followed.specs.declared.Way.{Way}
+use Rattle.matching.specs.declared.followed.Way.{Way}
 use Rattle.guide.specs.declared.Told.{Told}
 use Rattle.matching.specs.Match.{onLine}
-use Rattle.followed.specs.Followed.{followed, widened}
+use Rattle.matching.specs.Followed.{followed, widened}
 use Rattle.guide.specs.Guide.{arriveM, leaveM, offCleared, arrivalFrom, finished, direct}
 use Rattle.update.specs.Update.{begun, matchedAt, endedWith, atCourseEnd, matchedTo, matchFrom, followOn, update}
 use Rattle.update.specs.View.{Updates}

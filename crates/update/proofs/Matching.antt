@@ -6,7 +6,7 @@ use mathlib.Core.List.{List}
 use lib.Ieee.{Float}
 use Rattle.plane.specs.declared.Point.{Point}
 use Rattle.crumbs.specs.Crumb.{crumbs}
-use Rattle.costs.specs.declared.Nearest.{Nearest}
+use Rattle.segments.specs.declared.costs.Nearest.{Nearest}
 use Rattle.state.specs.declared.Event.{Event}
 use Rattle.state.specs.declared.Follow.{Follow}
 use Rattle.state.specs.declared.Course.{Course}
@@ -14,9 +14,9 @@ use Rattle.state.specs.declared.Homing.{Homing}
 use Rattle.state.specs.State.{State, stateOf, withFollow, withCourse}
 use Rattle.state.specs.Rule.{Done}
 use Rattle.follow.specs.View.{courseOf}
-use Rattle.followed.specs.declared.Way.{Way}
+use Rattle.matching.specs.declared.followed.Way.{Way}
 use Rattle.guide.specs.declared.Told.{Told}
-use Rattle.followed.specs.Followed.{followed, wayOn}
+use Rattle.matching.specs.Followed.{followed, wayOn}
 use Rattle.matching.specs.Match.{offNow, offEvent, due, followMatched, courseMatched}
 use Rattle.guide.specs.Guide.{finished}
 use Rattle.update.specs.Update.{matchedAt}

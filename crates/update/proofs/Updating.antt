@@ -8,7 +8,7 @@ use lib.ListN.{length}
 use lib.Ieee.{Float, lt}
 use borrow.Author.Tests.{leb-true}
 use Rattle.plane.specs.declared.Point.{Point}
-use Rattle.costs.specs.declared.Nearest.{Nearest}
+use Rattle.segments.specs.declared.costs.Nearest.{Nearest}
 use Rattle.segments.specs.Constants.{dropM}
 use Rattle.crumbs.specs.declared.Crumb.{Crumb}
 use Rattle.crumbs.specs.Crumb.{capacity, crumbs, behind}
@@ -24,14 +24,14 @@ use Rattle.state.specs.Rule.{Done}
 use Rattle.follow.specs.View.{Fit, courseOf, Changes}
 use Rattle.guide.specs.declared.Told.{Told}
 use Rattle.matching.specs.Match.{onLine}
-use Rattle.followed.specs.Followed.{followed}
+use Rattle.matching.specs.Followed.{followed}
 use Rattle.update.specs.Update.{begun, matchedAt, endedWith, atCourseEnd, matchedTo, followOn, update}
 use Rattle.guide.specs.Guide.{direct}
-use Rattle.followed.specs.View.{Room, followedLen}
+use Rattle.matching.specs.View.{Room, followedLen}
 use Rattle.guide.specs.View.{Tells}
 use Rattle.update.specs.View.{Updates}
 use Rattle.matching.proofs.Choosing.{picked, passed-by}
-use Rattle.followed.proofs.Lines.{followed-long}
+use Rattle.matching.proofs.followed.Lines.{followed-long}
 
 -- the crumbs and the line fit
 pub roomy : (h : Homing) (room lineRoom : ℕ) → Fit h room lineRoom → Room h room lineRoom

@@ -8,8 +8,8 @@ use lib.Ieee.{lt, le}
 use Rattle.plane.specs.declared.Point.{Point}
 use Rattle.crumbs.specs.declared.Crumb.{Crumb}
 use Rattle.lap.specs.Lap.{stepPass}
-use Rattle.costs.specs.declared.Nearest.{Nearest}
-use Rattle.costs.specs.Constants.{onM}
+use Rattle.segments.specs.declared.costs.Nearest.{Nearest}
+use Rattle.segments.specs.CostConstants.{onM}
 use Rattle.segments.specs.declared.Best.{Best}
 use Rattle.segments.specs.declared.Best.the-variants.{Nothing, Found}
 use Rattle.segments.specs.Constants.{dropM}
@@ -19,7 +19,7 @@ use Rattle.state.specs.State.{State, withFollow, withCourse, withLap, withUpdat
 use Rattle.state.specs.Rule.{Done, done, andThen}
 use Rattle.follow.specs.Engage.{stop}
 use Rattle.matching.specs.Match.{aroundSegment, courseMatched, due, followMatched, offEvent, offNow, onCourse, onLine}
-use Rattle.followed.specs.Followed.{followed, nearest, wayOn, widened}
+use Rattle.matching.specs.Followed.{followed, nearest, wayOn, widened}
 use Rattle.guide.specs.Guide.{arriveM, direct, finished}
 
 -- every update begins so: it is timed, and the lap is stepped

@@ -1,10 +1,12 @@
 // The guide after a fix.
 
-use costs::Nearest;
 use guide::Told;
+use matching::followed;
 use plane::Point;
 use search::Range;
 use segments::Best;
+use segments::costs;
+use segments::costs::Nearest;
 use state::Event;
 use state::Homing;
 ghost use mathlib.Core.Path.{_≡_};
@@ -19,7 +21,7 @@ ghost use Rattle.follow.specs.View.{Fit, courseOf, Changes};
 ghost use Rattle.segments.specs.Segment.{InLine};
 ghost use Rattle.matching.specs.Match.{onLine};
 ghost use Rattle.update.specs.Update.{begun, matchedAt, atCourseEnd, endedWith, matchedTo, matchFrom, followOn, update};
-ghost use Rattle.followed.specs.View.{Room, followedLen, OnFollowed};
+ghost use Rattle.matching.specs.View.{Room, followedLen, OnFollowed};
 ghost use Rattle.guide.specs.View.{Tells};
 ghost use Rattle.update.specs.View.{Updates};
 

@@ -1,6 +1,6 @@
 //! Where the fields of a guide's state stand among its words and numbers, by the table in
 //! crates/stored/specs/Stored.antt, and those of a rebuild's among its words, by that in
-//! crates/stored_rebuild/specs/Rebuilt.antt.
+//! crates/stored/specs/Rebuilt.antt.
 
 // ---- a guide's words
 pub const LEN: usize = 1;

@@ -6,7 +6,7 @@ use borrow.Author.Tests.{not-false}
 use Rattle.answers.specs.Answers.{saysAngle}
 use Rattle.answering.proofs.Answers.{not-held, answered}
 use Rattle.answering.proofs.GuideWords.{guide-read, no-guide}
-use Rattle.numbering.specs.Through.{numberOf}
+use Rattle.answering.specs.Through.{numberOf}
 use borrow.Author.Tests.{not-false}
 use borrow.Author.Tests.{not-false}
 use borrow.Author.Tests.{not-false}

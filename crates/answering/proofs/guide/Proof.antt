@@ -5,7 +5,7 @@ use Prim.Native.Nat.{ℕ}
 use Rattle.answers.specs.Answers.{saysShowing}
 use Rattle.answering.specs.Answers.{guideValues, showing}
 use Rattle.answering.proofs.Answers.{loaded, unloaded, roomy, no-room, not-held, answered, answered-with}
-use Rattle.numbering.specs.Through.{numberOf}
+use Rattle.answering.specs.Through.{numberOf}
 use borrow.Author.Needs.{needs}
 use Rattle.answering.proofs.guide.Statement.{statement}
 use Rattle.answering.proofs.guide.Tie as tie

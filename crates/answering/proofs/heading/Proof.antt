@@ -2,7 +2,7 @@
 use mathlib.Core.Path.{refl}
 use Rattle.answers.specs.Answers.{saysRiding}
 use Rattle.answering.proofs.Answers.{loaded, unloaded, not-held, answered, answered-with}
-use Rattle.numbering.specs.Through.{numberOf}
+use Rattle.answering.specs.Through.{numberOf}
 use borrow.Author.Needs.{needs}
 use Rattle.answering.proofs.heading.Statement.{statement}
 use Rattle.answering.proofs.heading.Tie as tie

@@ -2,7 +2,7 @@
 use mathlib.Core.Path.{refl}
 use Rattle.answers.specs.Answers.{saysCount}
 use Rattle.answering.proofs.Answers.{loaded, unloaded, not-held, answered}
-use Rattle.numbering.specs.Through.{numberOf}
+use Rattle.answering.specs.Through.{numberOf}
 use borrow.Author.Needs.{needs}
 use Rattle.answering.proofs.len.Statement.{statement}
 use Rattle.answering.proofs.len.Tie as tie

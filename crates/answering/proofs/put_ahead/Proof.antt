@@ -4,7 +4,7 @@ use Rattle.answers.specs.Answers.{saysAhead}
 use Rattle.answers.specs.declared.Ahead.{Ahead}
 use Rattle.answering.specs.Answers.{valuesOf, SpotValues, AheadValues, aheadValues, ahead}
 use denote.Ref.{now}
-use Rattle.numbering.specs.Through.{numberOf}
+use Rattle.answering.specs.Through.{numberOf}
 use borrow.Author.Needs.{needs}
 use Rattle.answering.proofs.put_ahead.Statement.{statement}
 use Rattle.answering.proofs.put_ahead.Tie as tie

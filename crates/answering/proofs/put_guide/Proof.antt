@@ -6,7 +6,7 @@ use lib.ListN.{length-set}
 use denote.Ref.{now}
 use Rattle.answering.specs.GuideWords.{guideWords}
 use Rattle.answering.proofs.GuideWords.{ten-written}
-use Rattle.numbering.specs.Through.{written}
+use Rattle.answering.specs.Through.{written}
 use borrow.Author.Needs.{needs}
 use Rattle.answering.proofs.put_guide.Statement.{statement}
 use Rattle.answering.proofs.put_guide.Tie as tie

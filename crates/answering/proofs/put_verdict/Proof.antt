@@ -4,7 +4,7 @@ use Rattle.answers.specs.Answers.{saysVerdict}
 use Rattle.answers.specs.declared.Verdict.{Verdict}
 use Rattle.answering.specs.Answers.{valuesOf, flagged}
 use denote.Ref.{now}
-use Rattle.numbering.specs.Through.{numberOf}
+use Rattle.answering.specs.Through.{numberOf}
 use borrow.Author.Needs.{needs}
 use Rattle.answering.proofs.put_verdict.Statement.{statement}
 use Rattle.answering.proofs.put_verdict.Tie as tie

@@ -2,7 +2,7 @@
 use Rattle.answers.specs.Answers.{saysBack}
 use Rattle.answering.specs.Answers.{back}
 use Rattle.answering.proofs.Answers.{loaded, unloaded, not-held, answered}
-use Rattle.numbering.specs.Through.{numberOf}
+use Rattle.answering.specs.Through.{numberOf}
 use borrow.Author.Needs.{needs}
 use Rattle.answering.proofs.way_back.Statement.{statement}
 use Rattle.answering.proofs.way_back.Tie as tie

@@ -5,12 +5,12 @@ use Rattle.binary32.specs.Limits.{plusZero}
 use lib.Ieee.{Float, ofBits}
 use Rattle.plane.specs.declared.Point.{Point}
 use Rattle.crumbs.specs.Crumb.{crumbs}
-use Rattle.along.specs.Along.{recordedM, startOf}
+use Rattle.crumbs.specs.Along.{recordedM, startOf}
 use Rattle.trail.specs.View.{track}
 use Rattle.state.specs.declared.Mode.the-variants as mode
 use Rattle.state.specs.declared.Event.the-variants as event
 use Rattle.follow.specs.View.{courseOf}
-use Rattle.followed.specs.declared.Way.{Way}
+use Rattle.matching.specs.declared.followed.Way.{Way}
 use Rattle.guide.specs.Guide.{finished, direct}
 use Rattle.guide.specs.View.{Tells}
 use borrow.Author.Needs.{needs}

@@ -8,7 +8,7 @@ use Rattle.plane.specs.declared.Point.{Point}
 use Rattle.crumbs.specs.Crumb.{capacity, crumbs}
 use Rattle.state.specs.State.{State, stateOf}
 use Rattle.follow.specs.View.{courseOf}
-use Rattle.goal.specs.Goal.{goalOn, longEnough}
+use Rattle.guide.specs.Goal.{goalOn, longEnough}
 use Rattle.guide.proofs.Arriving.{same-course}
 use Rattle.guide.proofs.Showing.{shows}
 use borrow.Author.Needs.{needs}

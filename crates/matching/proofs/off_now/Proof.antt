@@ -1,7 +1,7 @@
 -- `matching::off_now` meets its contract. Assumes nothing.
 use lib.Ieee.{ofBits}
 use Rattle.binary32.specs.Arithmetic.{constant}
-use Rattle.costs.specs.Constants.{onM}
+use Rattle.segments.specs.CostConstants.{onM}
 use Rattle.matching.specs.Match.{offM, offNow}
 use Rattle.matching.proofs.off_now.Statement.{statement}
 use Rattle.matching.proofs.off_now.Tie as tie

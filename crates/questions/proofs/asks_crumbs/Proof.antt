@@ -1,7 +1,7 @@
 -- `questions::asks_crumbs` meets its contract: question 1 is put before question 10. Assumes nothing.
 use borrow.Author.Tests.{not-true, not-false}
 use Rattle.calls.specs.Questions.{asksCrumbs}
-use Rattle.questions.proofs.Counts.{held-counted}
+use Rattle.questions.proofs.Counted.{held-counted}
 use borrow.Author.Needs.{needs}
 use Rattle.questions.proofs.asks_crumbs.Statement.{statement}
 use Rattle.questions.proofs.asks_crumbs.Tie as tie

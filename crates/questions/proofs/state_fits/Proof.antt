@@ -2,7 +2,7 @@
 use mathlib.Core.Path.{sym, _∙_}
 use mathlib.Core.List.{[]}
 use Rattle.calls.specs.Questions.{stateFits}
-use Rattle.questions.proofs.Counts.{window-counted}
+use Rattle.questions.proofs.Counted.{window-counted}
 use borrow.Author.Needs.{needs}
 use Rattle.questions.proofs.state_fits.Statement.{statement}
 use Rattle.questions.proofs.state_fits.Tie as tie

@@ -3,7 +3,7 @@ use borrow.Author.Needs.{needs}
 use lib.Ieee.{ofBits}
 use Rattle.binary32.specs.Arithmetic.{constant}
 use Rattle.crumbs.specs.Crumb.{point}
-use Rattle.costs.specs.Constants.{onM}
+use Rattle.segments.specs.CostConstants.{onM}
 use Rattle.segments.proofs.Ranging.{not-on, flip}
 use Rattle.search.specs.Course.{joins}
 use Rattle.search.proofs.joins.Statement.{statement}

@@ -5,7 +5,7 @@ use native.Mathlib.Omega.{arith}
 use borrow.Author.Needs.{needs}
 use lib.Ieee.{ofBits}
 use Rattle.crumbs.specs.Crumb.{crumbs}
-use Rattle.costs.specs.declared.Ranking.the-variants.{Plain}
+use Rattle.segments.specs.declared.costs.Ranking.the-variants.{Plain}
 use Rattle.segments.specs.Constants.{lowest, largest}
 use Rattle.segments.specs.Segment.{considered, costWithin, found}
 use Rattle.search.specs.Search.{nearestOnBreadcrumb}

@@ -1,7 +1,7 @@
 -- `steer::off_course` meets its contract. Assumes nothing.
 use mathlib.Core.Path.{refl}
 use Rattle.state.specs.declared.Line.the-variants as line
-use Rattle.follow_parts.specs.Parts.{stopped, heldOff}
+use Rattle.follow.specs.Parts.{stopped, heldOff}
 use Rattle.follow.specs.Engage.{stopCourse}
 use Rattle.calls.specs.Line.{offCourse}
 use Rattle.steer.proofs.Setting.{off-by}

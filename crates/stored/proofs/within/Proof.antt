@@ -1,8 +1,8 @@
 -- `stored::within` meets its contract. Assumes nothing.
 use denote.Ref.{now}
 use native.Mathlib.Omega.{arith}
-use Rattle.fields.proofs.Limits.{within-short, within-over, within-on, within-end}
-use Rattle.fields.specs.Fields.{within}
+use Rattle.stored.proofs.fields.Limits.{within-short, within-over, within-on, within-end}
+use Rattle.stored.specs.Fields.{within}
 use Rattle.stored.specs.Stored.{mosts}
 use Prim.Native.Nat.{_-_, _≤_}
 use mathlib.Core.Path.{_≡_, refl, sym, _∙_}

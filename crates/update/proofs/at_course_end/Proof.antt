@@ -2,7 +2,7 @@
 use mathlib.Core.Path.{_≡_, sym, _∙_}
 use lib.Ieee.{ofBits}
 use Rattle.binary32.specs.Arithmetic.{constant}
-use Rattle.costs.specs.Constants.{onM}
+use Rattle.segments.specs.CostConstants.{onM}
 use Rattle.state.specs.State.{stateOf}
 use Rattle.guide.specs.Guide.{arriveM}
 use Rattle.update.proofs.Ending.{course-ends, far-from-course, no-course}

@@ -10,11 +10,11 @@ use Rattle.search.specs.declared.Range.{Range}
 use Rattle.state.specs.State.{stateOf}
 use Rattle.follow.specs.View.{courseOf}
 use Rattle.segments.specs.Segment.{InLine}
-use Rattle.followed.specs.Followed.{nearest}
+use Rattle.matching.specs.Followed.{nearest}
 use Rattle.matching.specs.Match.{aroundSegment}
 use Rattle.update.specs.Update.{matchFrom, followOn}
-use Rattle.followed.specs.View.{followedLen}
-use Rattle.followed.proofs.Lines.{followed-long, nearest-in, on-followed, low-end, high-end}
+use Rattle.matching.specs.View.{followedLen}
+use Rattle.matching.proofs.followed.Lines.{followed-long, nearest-in, on-followed, low-end, high-end}
 use Rattle.update.proofs.Updating.{roomy, updates-as}
 use borrow.Author.Needs.{needs}
 use Rattle.update.proofs.follow_on.Statement.{statement}

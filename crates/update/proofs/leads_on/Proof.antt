@@ -3,7 +3,7 @@ use mathlib.Core.Path.{_≡_, sym, ap, _∙_}
 use Prim.Native.Nat.{ℕ}
 use mathlib.Core.Bool.{Bool, _&&_}
 use lib.Dec.{leb}
-use Rattle.followed.specs.View.{followedLen}
+use Rattle.matching.specs.View.{followedLen}
 use borrow.Author.Needs.{needs}
 use Rattle.update.proofs.leads_on.Statement.{statement}
 use Rattle.update.proofs.leads_on.Tie as tie

@@ -3,17 +3,17 @@ use denote.Ref.{now}
 use mathlib.Core.Path.{_≡_, refl, sym, ap, _∙_, subst}
 use lib.ListN.{length}
 use Rattle.crumbs.specs.Crumb.{capacity}
-use Rattle.costs.specs.declared.Nearest.{Nearest}
+use Rattle.segments.specs.declared.costs.Nearest.{Nearest}
 use Rattle.segments.specs.declared.Best.{Best}
 use Rattle.state.specs.declared.Event.the-variants as event
 use Rattle.state.specs.State.{stateOf}
 use Rattle.state.specs.Rule.{done}
 use Rattle.follow.specs.View.{courseOf}
 use Rattle.segments.specs.Segment.{InLine}
-use Rattle.followed.specs.Followed.{widened}
+use Rattle.matching.specs.Followed.{widened}
 use Rattle.update.specs.Update.{matchedTo, matchFrom}
-use Rattle.followed.specs.View.{followedLen, OnFollowed}
-use Rattle.followed.proofs.Lines.{widened-in}
+use Rattle.matching.specs.View.{followedLen, OnFollowed}
+use Rattle.matching.proofs.followed.Lines.{widened-in}
 use Rattle.update.proofs.Updating.{roomy, updates-as, updates-still}
 use borrow.Author.Needs.{needs}
 use Rattle.update.proofs.match_from.Statement.{statement}

@@ -1,1 +1,0 @@
-// Whatever lines a guide was lent, a state that passes question 10 passes it after `replay` and `reset` too: the laws are in proofs/.

@@ -1,0 +1,11 @@
+-- Laws on the size of floats: all is in specs/ and proofs/.
+-- What rounding, the operations, a root, `clamp` and the tests do to the size and the sign of a value.
+pub mod Round
+pub mod Laws
+pub mod Units
+pub mod Between
+pub mod Shares
+pub mod Signs
+pub mod Tests
+pub mod Roots
+pub mod More

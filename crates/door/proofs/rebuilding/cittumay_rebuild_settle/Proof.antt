@@ -1,0 +1,77 @@
+-- `door::rebuilding::cittumay_rebuild_settle` meets its contract. Assumes nothing.
+use mathlib.Core.Path.{refl, _∙_}
+use Rattle.stored.proofs.Holding.{has-room, rebuild-has-room}
+use Rattle.answering.proofs.Answers.{loaded, unloaded}
+use Rattle.door.proofs.rebuilding.Rebuild.{begun, not-begun, without-rebuild, without-guide, with-both, settled-at}
+use borrow.Author.Needs.{needs}
+use Rattle.door.proofs.rebuilding.cittumay_rebuild_settle.Statement.{statement}
+use Rattle.door.proofs.rebuilding.cittumay_rebuild_settle.Tie as tie
+
+load-rebuild-requires : tie.Need-load-rebuild-requires
+load-rebuild-requires c κs = search needs
+
+same-length : tie.Need-same-length
+same-length c = search needs
+
+returns : tie.Need-returns
+returns c = without-rebuild (not-begun (c .before .before .load-rebuild .ensures) (c .if1 .taken)) refl refl
+
+load-requires : tie.Need-load-requires
+load-requires c κs = search needs
+
+same-length-2 : tie.Need-same-length-2
+same-length-2 c = search needs
+
+same-length-3 : tie.Need-same-length-3
+same-length-3 c = search needs
+
+same-length-4 : tie.Need-same-length-4
+same-length-4 c = search needs
+
+returns-2 : tie.Need-returns-2
+returns-2 c = without-guide (unloaded (c .before .before .load .ensures) (c .if2 .taken)) refl refl
+
+utc-of-requires : tie.Need-utc-of-requires
+utc-of-requires c κs = search needs
+
+settle-requires : tie.Need-settle-requires
+settle-requires c κs = search needs
+
+number-of-reply-requires : tie.Need-number-of-reply-requires
+number-of-reply-requires c κs = search needs
+
+keep-both-requires : tie.Need-keep-both-requires
+keep-both-requires c κs = (rebuild-has-room _ _ (begun (c .before .before .before .before .before .before .before .before .before .before .before .before .before .before .before .before .before .load-rebuild .ensures) (c .before .before .before .before .before .before .before .before .before .before .before .before .before .before .before .if1 .left)), has-room _ _ _ (loaded (c .before .before .before .before .before .before .before .before .before .before .before .before .load .ensures) (c .before .before .before .before .before .before .before .before .before .before .if2 .left)))
+
+same-length-5 : tie.Need-same-length-5
+same-length-5 c = search needs
+
+same-length-6 : tie.Need-same-length-6
+same-length-6 c = search needs
+
+same-length-7 : tie.Need-same-length-7
+same-length-7 c = search needs
+
+returns-3 : tie.Need-returns-3
+returns-3 c = let kept = c .before .before .before .before .before .before .keep-both .ensures in with-both _ _ (begun (c .before .before .before .before .before .before .before .before .before .before .before .before .before .before .before .before .before .before .before .before .before .before .before .before .load-rebuild .ensures) (c .before .before .before .before .before .before .before .before .before .before .before .before .before .before .before .before .before .before .before .before .before .before .if1 .left)) (loaded (c .before .before .before .before .before .before .before .before .before .before .before .before .before .before .before .before .before .before .before .load .ensures) (c .before .before .before .before .before .before .before .before .before .before .before .before .before .before .before .before .before .if2 .left)) (record { call = c .before .before .before .before .before .before .before .before .before .before .before .before .before .settle .result; promised = settled-at (c .before .before .before .before .before .before .before .before .before .before .before .before .before .before .utc-of .ensures) (c .before .before .before .before .before .before .before .before .before .before .before .before .before .settle .ensures); refusal = kept .0 ∙ c .before .before .before .before .before .before .before .before .before .before .number-of-reply .ensures; rebuilt = kept .1 .0; state = kept .1 .1 })
+
+pub cittumay-rebuild-settle-spec : {M : Type 1} → statement M
+cittumay-rebuild-settle-spec =
+    tie.close
+    (tie.spec
+    load-rebuild-requires
+    same-length
+    returns
+    load-requires
+    same-length-2
+    same-length-3
+    same-length-4
+    returns-2
+    utc-of-requires
+    settle-requires
+    number-of-reply-requires
+    keep-both-requires
+    same-length-5
+    same-length-6
+    same-length-7
+    returns-3)

@@ -1,2 +1,0 @@
-pub mod Questions
-pub mod Theorems

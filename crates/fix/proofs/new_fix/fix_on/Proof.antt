@@ -1,0 +1,72 @@
+-- `fix::new_fix::fix_on` meets its contract. Assumes nothing.
+use denote.Ref.{now}
+use Rattle.state.specs.declared.Line.the-variants as lines
+use Rattle.calls.specs.Fix.{fixOn}
+use Rattle.fix.proofs.recording.Turning.{course-grows, by-line}
+use borrow.Author.Needs.{needs}
+use Rattle.fix.proofs.new_fix.fix_on.Statement.{statement}
+use Rattle.fix.proofs.new_fix.fix_on.Tie as tie
+
+enum-told : tie.Need-enum-told
+enum-told c = search needs
+
+update-requires : tie.Need-update-requires
+update-requires c κs = c .before .before .before .before .before .before .pre .fit
+
+enum-told-2 : tie.Need-enum-told-2
+enum-told-2 c = search needs
+
+add-update-requires : tie.Need-add-update-requires
+add-update-requires c κs = (c .before .before .before .before .before .before .pre .fit, course-grows (c .before .before .before .before .before .before .args .h) (c .before .enum-told2 .given .1))
+
+enum-told-3 : tie.Need-enum-told-3
+enum-told-3 c = search needs
+
+unfollowed-requires : tie.Need-unfollowed-requires
+unfollowed-requires c κs = (c .before .before .before .before .before .before .pre, c .before .enum-told3 .given .1)
+
+same-length : tie.Need-same-length
+same-length c = search needs
+
+returns : tie.Need-returns
+unfolding fixOn
+returns c =
+    let g = c .before .before .before .before .before .before .before .before .before .args in
+    let u = c .before .before .update in
+    by-line (g .h) lines.Breadcrumb (now (g .line)) (now (g .crumbs)) (u .last .1 .0) (g .p) (g .now-ms) (u .result) (c .before .before .before .before .enum-told .given .1) (u .ensures)
+
+same-length-2 : tie.Need-same-length-2
+same-length-2 c = search needs
+
+returns-2 : tie.Need-returns-2
+unfolding fixOn
+returns-2 c =
+    let g = c .before .before .before .before .before .before .before .before .before .args in
+    let u = c .before .before .add-update in
+    by-line (g .h) lines.Course (now (g .line)) (now (g .crumbs)) (u .last .1 .0) (g .p) (g .now-ms) (u .result) (c .before .before .before .before .enum-told2 .given .1) (u .ensures)
+
+same-length-3 : tie.Need-same-length-3
+same-length-3 c = search needs
+
+returns-3 : tie.Need-returns-3
+returns-3 c =
+    let g = c .before .before .before .before .before .before .before .before .before .args in
+    let u = c .before .before .unfollowed in
+    by-line (g .h) lines.Nothing (now (g .line)) (now (g .crumbs)) (u .last .1 .0) (g .p) (g .now-ms) (u .result) (c .before .before .before .before .enum-told3 .given .1) (u .ensures)
+
+pub fix-on-spec : {M : Type 1} → statement M
+fix-on-spec =
+    tie.close
+    (tie.spec
+    enum-told
+    update-requires
+    enum-told-2
+    add-update-requires
+    enum-told-3
+    unfollowed-requires
+    same-length
+    returns
+    same-length-2
+    returns-2
+    same-length-3
+    returns-3)

@@ -1,0 +1,83 @@
+-- `fix::observe::still_at` meets its contract. Assumes nothing.
+use denote.Ref.{now}
+use mathlib.Core.Path.{_≡_, refl, sym, ap, _∙_, subst}
+use borrow.Author.Tests.{lt-ltb, le-ltb}
+use Prim.Native.Nat.{ℕ}
+use mathlib.Core.Bool.{Bool}
+use lib.Dec.{ltb}
+use lib.ListN.{length}
+use Rattle.crumbs.specs.Crumb.{capacity}
+use Rattle.state.specs.State.{State, stateOf}
+use Rattle.follow.specs.View.{courseOf}
+use Rattle.update.specs.Update.{update}
+use Rattle.calls.specs.Fix.{stillMs, stillAt}
+use Rattle.fix.proofs.recording.Moving.{updates-after, updates-nothing, same-len}
+use Rattle.fix.proofs.observe.Seeing.{still-nowhere, still-early, still-due, headed-fit, headed-course}
+use borrow.Author.Needs.{needs}
+use Rattle.fix.proofs.observe.still_at.Statement.{statement}
+use Rattle.fix.proofs.observe.still_at.Tie as tie
+
+enum-known-here : tie.Need-enum-known-here
+enum-known-here c = search needs
+
+enum-told : tie.Need-enum-told
+enum-told c = search needs
+
+returns : tie.Need-returns
+returns c =
+    let s = c .before .before .before .before in
+    let g = s .args in
+    let l = courseOf (g .h) (now (g .line)) in
+    updates-nothing (λ C. stillAt (g .here) C l (g .now-ms)) (g .h) (now (g .crumbs)) (s .pre .trail)
+    (still-nowhere (g .here) (capacity (length (now (g .crumbs)))) l (g .now-ms) (stateOf (g .h) (now (g .crumbs))) (c .enum-told .given .1))
+
+elapsed-requires : tie.Need-elapsed-requires
+elapsed-requires c κs = search needs
+
+returns-2 : tie.Need-returns-2
+returns-2 c =
+    let s = c .before .before .before .before .before .before .before in
+    let g = s .args in
+    let l = courseOf (g .h) (now (g .line)) in
+    updates-nothing (λ C. stillAt (g .here) C l (g .now-ms)) (g .h) (now (g .crumbs)) (s .pre .trail)
+    (still-early (g .here) (capacity (length (now (g .crumbs)))) l (g .now-ms) (stateOf (g .h) (now (g .crumbs))) (c .before .before .before .here .given .0 .0) (c .before .before .before .here .given .1)
+    (ap (λ (n : ℕ). ltb n stillMs) (sym (c .before .elapsed .ensures)) ∙ lt-ltb _ _ (c .if1 .taken)))
+
+headed-requires : tie.Need-headed-requires
+headed-requires c κs = search needs
+
+update-requires : tie.Need-update-requires
+update-requires c κs = let s = c .before .before .before .before .before .before .before .before .before in let g = s .args in headed-fit (c .before .before .before .before .before .here .given .0 .0) (g .now-ms) (g .h) (c .before .headed .result) _ _ (c .before .headed .ensures) (s .pre)
+
+same-length : tie.Need-same-length
+same-length c = search needs
+
+returns-3 : tie.Need-returns-3
+returns-3 c =
+    let s = c .before .before .before .before .before .before .before .before .before .before .before .before in
+    let g = s .args in
+    let b = now (g .crumbs) in
+    let l = courseOf (g .h) (now (g .line)) in
+    let p = c .before .before .before .before .before .before .before .before .here .given .0 .0 in
+    let on = c .before .before .before .before .headed .result in
+    let u = c .before .before .update in
+    let C = capacity (length b) in
+    updates-after (λ C. stillAt (g .here) C l (g .now-ms)) (λ C. update C (courseOf on (now (g .line))) p (g .now-ms)) (g .h) on b (u .last .1 .0) (u .result) (same-len (g .h) on (c .before .before .before .before .headed .ensures .trail))
+    (still-due (g .here) C l (g .now-ms) (stateOf (g .h) b) p (c .before .before .before .before .before .before .before .before .here .given .1) (ap (λ (n : ℕ). ltb n stillMs) (sym (c .before .before .before .before .before .before .elapsed .ensures)) ∙ le-ltb _ _ (c .before .before .before .before .before .if1 .left))
+    ∙ ap (λ (x : State). update C l p (g .now-ms) x) (sym (c .before .before .before .before .headed .ensures .same b))
+    ∙ ap (λ k. update C k p (g .now-ms) (stateOf on b)) (sym (headed-course p (g .now-ms) (g .h) on (c .before .before .before .before .headed .ensures) (now (g .line)))))
+    (u .ensures)
+
+pub still-at-spec : {M : Type 1} → statement M
+still-at-spec =
+    tie.close
+    (tie.spec
+    enum-known-here
+    enum-told
+    returns
+    elapsed-requires
+    returns-2
+    headed-requires
+    update-requires
+    same-length
+    returns-3)

@@ -1,0 +1,93 @@
+// A fix that is there, repeated or new, once the questions are answered.
+
+use guide::Told;
+use plane::Spot;
+use state::Event;
+use state::Homing;
+use state::Place;
+ghost use mathlib.Core.Path.{_≡_};
+ghost use lib.ListN.{length};
+ghost use Rattle.follow.specs.View.{Fit, courseOf};
+ghost use Rattle.update.specs.View.{Updates};
+ghost use Rattle.calls.specs.Fix.{sameFix, stillAt, newFix, seen};
+ghost use Rattle.fix.specs.Ready.{Ready};
+ghost use Rattle.fix.specs.Arrives.{Arrives};
+
+// A repeated fix is acted on this long after the last update.
+const STILL_MS: u64 = 1_000;
+
+// ---- a repeated fix
+
+fn same_fix(fed: Place, lat: i32, lon: i32) -> bool
+    ensures { λ r. ⌜ r ≡ sameFix fed (record { lat = lat; lon = lon }) ⌝ }
+{
+    let Place::At(fed_lat, fed_lon) = fed else {
+        return false;
+    };
+    if fed_lat == lat {
+        return fed_lon == lon;
+    }
+    false
+}
+
+// Time still passes, for the heading and the reminders, but nothing is recorded.
+fn still_at(h: Homing, crumbs: &mut [f32], line: &[f32], here: Spot, now_ms: u64) -> Told
+    requires { ⌜ Fit h (length (now crumbs)) (length (now line)) ⌝ }
+    ensures { λ r. ⌜ Updates (λ C. stillAt here C (courseOf h (now (line .entry))) «now_ms») h (now (crumbs .entry)) r (now (crumbs .exit)) ⌝ }
+{
+    let Spot::At(p) = here else {
+        return Told {
+            homing: h,
+            event: Event::Nothing,
+        };
+    };
+    if motion::elapsed(now_ms, h.updated_ms) < STILL_MS {
+        return Told {
+            homing: h,
+            event: Event::Nothing,
+        };
+    }
+    let on = crate::headed(h, p, now_ms);
+    update::update(on, crumbs, line, p, now_ms)
+}
+
+// The state at a new fix, before anything is made of it.
+fn arrived_at(h: Homing, lat: i32, lon: i32, now_ms: u64) -> Homing
+    ensures { λ r. ⌜ Arrives h (record { lat = lat; lon = lon }) «now_ms» r ⌝ }
+{
+    let was = h.frame;
+    let frame = course::located(was, lat, lon);
+    let p = course::framed(frame, lat, lon);
+    let there = Homing {
+        here: Spot::At(p),
+        fed: Place::At(lat, lon),
+        frame,
+        ..h
+    };
+    crate::headed(there, p, now_ms)
+}
+
+fn new_fix(h: Homing, crumbs: &mut [f32], line: &[f32], lat: i32, lon: i32, now_ms: u64) -> Told
+    requires { ⌜ Ready h (length (now crumbs)) (length (now line)) ⌝ }
+    ensures { λ r. ⌜ Updates (λ C. newFix C (courseOf h (now (line .entry))) (record { lat = lat; lon = lon }) «now_ms») h (now (crumbs .entry)) r (now (crumbs .exit)) ⌝ }
+{
+    let there = arrived_at(h, lat, lon, now_ms);
+    let frame = there.frame;
+    let p = course::framed(frame, lat, lon);
+    crate::new_fix::fix_on(there, crumbs, line, p, now_ms)
+}
+
+// A fix that is there: repeated, or new.
+pub fn seen(h: Homing, crumbs: &mut [f32], line: &[f32], lat: i32, lon: i32, now_ms: u64) -> Told
+    requires { ⌜ Ready h (length (now crumbs)) (length (now line)) ⌝ }
+    ensures { λ r. ⌜ Updates (λ C. seen C (courseOf h (now (line .entry))) (record { lat = lat; lon = lon }) «now_ms») h (now (crumbs .entry)) r (now (crumbs .exit)) ⌝ }
+{
+    let mut on = h;
+    on.here_ms = now_ms;
+    let fed = h.fed;
+    if same_fix(fed, lat, lon) {
+        let here = h.here;
+        return still_at(on, crumbs, line, here, now_ms);
+    }
+    new_fix(on, crumbs, line, lat, lon, now_ms)
+}

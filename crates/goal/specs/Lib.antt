@@ -1,2 +1,0 @@
-pub mod Goal
-pub mod Near

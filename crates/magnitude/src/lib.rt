@@ -1,1 +1,0 @@
-// Laws on the size of floats: all is in specs/ and proofs/.

@@ -1,0 +1,148 @@
+// What the questions put to a call ask of the buffers, of what they hold, and of the counts. A count is
+// tested before anything is read by it, and the numbers behind what is held are never read.
+
+use crate::limits;
+use state::Line;
+use trail::Trail;
+ghost use mathlib.Core.Path.{_≡_};
+ghost use mathlib.Core.Bool.{true, _&&_};
+ghost use mathlib.Core.List.{List};
+ghost use Prim.Native.Nat.{_+_, _≤_, _<_};
+ghost use lib.Dec.{leb};
+ghost use lib.Ieee.{Float};
+ghost use lib.ListN.{length};
+ghost use Rattle.crumbs.specs.Crumb.{capacity, crumbs as heldCrumbs};
+ghost use Rattle.trail.specs.Trail.{windowPlaces};
+ghost use Rattle.trail.specs.View.{places, track};
+ghost use Rattle.calls.specs.Questions.{question1, placesFit, crumbsFit, segmentFits, followFits, retraceFits, question4, unless, _orElse_};
+ghost use Rattle.questions.specs.FourFit.{FourFit, Sure};
+
+// The least and the most crumbs that a crumb buffer may have room for.
+const LEAST: usize = 8;
+
+const MOST: usize = 4096;
+
+// ---- 1 and 4: the buffers
+
+pub fn question1(size: usize) -> bool
+    ensures { λ r. ⌜ r ≡ question1 size ⌝ }
+{
+    let room = crumbs::capacity(size);
+    crumbs::whole(size) & (LEAST <= room) & (room <= MOST)
+}
+
+pub fn question4(size: usize, n: usize) -> bool
+    ensures { λ r. ⌜ r ≡ question4 size n ⌝ }
+{
+    let room = crumbs::capacity(size);
+    crumbs::whole(size) & (room <= course::POINTS) & (n <= room)
+}
+
+// ---- 10: what is held. Every one is looked at, so that the loops have no branch.
+
+pub fn window_fits(window: &[f32; 96], window_len: usize) -> bool
+    requires { ⌜ «window_len» ≤ windowPlaces ⌝ }
+    ensures { λ r. ⌜ r ≡ placesFit (places «window_len» (now (window .entry))) ⌝ }
+{
+    let mut ok = true;
+    for i in 0..window_len {
+        ok = ok & limits::place_fits(trail::waiting(window, i));
+    }
+    ok
+}
+
+// Whether the four crumbs from place `i` on surely fit.
+fn four_fit(buf: &[f32], i: usize) -> bool
+    requires { ⌜ i + 3 < capacity (length (now buf)) ⌝ }
+    ensures { λ r. ⌜ (r ≡ true → FourFit (now (buf .entry)) i) ⌝ }
+{
+    let a = crumbs::crumb_at(buf, i);
+    let b = crumbs::crumb_at(buf, i + 1);
+    let c = crumbs::crumb_at(buf, i + 2);
+    let d = crumbs::crumb_at(buf, i + 3);
+    let low = limits::none_below(a)
+        & limits::none_below(b)
+        & limits::none_below(c)
+        & limits::none_below(d);
+    let high = limits::none_above(a)
+        & limits::none_above(b)
+        & limits::none_above(c)
+        & limits::none_above(d);
+    low & high
+}
+
+// How many leading crumbs surely fit, by fours.
+fn sure(buf: &[f32], len: usize) -> usize
+    requires { ⌜ len ≤ capacity (length (now buf)) ⌝ }
+    ensures { λ r. ⌜ Sure len (now (buf .entry)) r ⌝ }
+{
+    let mut i = 0;
+    while 4 <= len - i {
+        if !four_fit(buf, i) {
+            return i;
+        }
+        i += 4;
+    }
+    i
+}
+
+fn crumbs_fit(buf: &[f32], len: usize) -> bool
+    requires { ⌜ len ≤ capacity (length (now buf)) ⌝ }
+    ensures { λ r. ⌜ r ≡ crumbsFit (heldCrumbs len (now (buf .entry))) ⌝ }
+{
+    let first = sure(buf, len);
+    let mut ok = true;
+    for i in first..len {
+        ok = ok & limits::crumb_fits(crumbs::crumb_at(buf, i));
+    }
+    ok
+}
+
+// Whether the buffer has room for `len` crumbs, and each of these fits.
+pub fn held_fits(buf: &[f32], len: usize) -> bool
+    ensures { λ r. ⌜ r ≡ (leb len (capacity (length (now (buf .entry)))) && crumbsFit (heldCrumbs len (now (buf .entry)))) ⌝ }
+{
+    if len <= crumbs::capacity(buf.len()) {
+        return crumbs_fit(buf, len);
+    }
+    false
+}
+
+// ---- 10: the counts
+
+fn segment_fits(segment: usize, len: usize) -> bool
+    ensures { λ r. ⌜ r ≡ segmentFits segment len ⌝ }
+{
+    (1 <= segment) & (segment < len)
+}
+
+pub fn follow_fits(on: Line, segment: usize, len: usize, line_len: usize) -> bool
+    ensures { λ r. ⌜ r ≡ followFits on segment len «line_len» ⌝ }
+{
+    match on {
+        Line::Nothing => true,
+        Line::Breadcrumb => segment_fits(segment, len),
+        Line::Course => segment_fits(segment, line_len),
+    }
+}
+
+pub fn retrace_fits(t: Trail) -> bool
+    ensures { λ r. ⌜ ((b : List Float) → r ≡ retraceFits (track t b)) ⌝ }
+{
+    (t.retrace < joining::RETRACE_FIXES) & ((t.retrace == 0) | (t.retrace_len <= t.len))
+}
+
+// ---- 10, then 4
+
+// The answer of question 10 and, where that is a yes, of question 4.
+pub fn ten_then_four(ten: bool, four: bool) -> u8
+    ensures { λ r. ⌜ r ≡ (unless ten 10 orElse unless four 4) ⌝ }
+{
+    if !ten {
+        return 10;
+    }
+    if !four {
+        return 4;
+    }
+    0
+}

@@ -1,0 +1,25 @@
+-- The segment whose square is the least. These rules serve the functions inside: what the search gives is `nearestOnBreadcrumb`.
+use Prim.Native.Nat.{ℕ, zero, suc, _-_}
+use mathlib.Core.Bool.{Bool, not, _||_, cond}
+use mathlib.Core.List.{List}
+use lib.Dec.{eqb}
+use lib.Ieee.{Float, lt}
+use Rattle.plane.specs.declared.Point.{Point}
+use Rattle.crumbs.specs.declared.Crumb.{Crumb}
+use Rattle.segments.specs.declared.Stretch.{Stretch}
+use Rattle.segments.specs.Line.{at}
+use Rattle.segments.specs.Square.{squareOn}
+use Rattle.search.specs.declared.quick.Lead.{Lead}
+
+-- whether segment `end` reaches into a stretch
+unfoldable pub reaches : List Crumb → Stretch → ℕ → Bool
+reaches line within end = not (lt (at line end .along) (within .floor) || lt (within .ceiling) (at line (end - 1) .along))
+
+-- segment `end` with its square, after the one in the lead
+unfoldable pub overtakes : ℕ → Float → Lead → Lead
+overtakes end s lead =
+    cond (eqb (lead .best) 0) (record { best = end; least = s; before = lead .before })
+    (cond (lt s (lead .least)) (record { best = end; least = s; before = lead .least }) lead)
+
+unfoldable pub leads : List Crumb → Point → Stretch → ℕ → Lead → Lead
+leads line p within end lead = cond (reaches line within end) (overtakes end (squareOn line p end) lead) lead

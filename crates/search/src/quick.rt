@@ -1,0 +1,135 @@
+// The nearest segment of the breadcrumb, with two roots in all: squares are compared on the way.
+
+use crate::Range;
+use plane::Point;
+use segments::Best;
+use segments::Stretch;
+use segments::costs::Ranking;
+ghost use mathlib.Core.Path.{_≡_};
+ghost use Prim.Native.Nat.{_≤_, _<_};
+ghost use lib.ListN.{length};
+ghost use Rattle.crumbs.specs.Crumb.{capacity, crumbs};
+ghost use Rattle.search.specs.Search.{nearestOnBreadcrumb, nearestWithin};
+ghost use Rattle.segments.specs.declared.costs.Ranking.the-variants.{Plain};
+ghost use Rattle.search.specs.Square.{reaches, overtakes, leads};
+
+// The segment with the least square so far, 0 where there is none, that square, and the least of those tried before it.
+struct Lead {
+    best: usize,
+    least: f32,
+    before: f32,
+}
+
+// Whether segment `end` reaches into the stretch.
+fn reaches(line: &[f32], len: usize, within: Stretch, end: usize) -> bool
+    requires { ⌜ (1 ≤ end) × (end < len) × (len ≤ capacity (length (now line))) ⌝ }
+    ensures { λ r. ⌜ r ≡ reaches (crumbs len (now (line .entry))) within end ⌝ }
+{
+    let ends = segments::crumb(line, len, end).along < within.floor;
+    let begins = segments::crumb(line, len, end - 1).along > within.ceiling;
+    !(ends | begins)
+}
+
+// Segment `end` in the lead where its square is less, or where none was.
+fn overtake(lead: Lead, end: usize, square: f32) -> Lead
+    ensures { λ r. ⌜ r ≡ overtakes end square lead ⌝ }
+{
+    if lead.best == 0 {
+        return Lead {
+            best: end,
+            least: square,
+            before: lead.before,
+        };
+    }
+    if square < lead.least {
+        return Lead {
+            best: end,
+            least: square,
+            before: lead.least,
+        };
+    }
+    lead
+}
+
+fn consider(line: &[f32], len: usize, p: Point, within: Stretch, end: usize, lead: Lead) -> Lead
+    requires { ⌜ (1 ≤ end) × (end < len) × (len ≤ capacity (length (now line))) ⌝ }
+    ensures { λ r. ⌜ r ≡ leads (crumbs len (now (line .entry))) p within end lead ⌝ }
+{
+    if reaches(line, len, within, end) {
+        return overtake(lead, end, segments::square_on(line, len, p, end));
+    }
+    lead
+}
+
+// The nearest segment of the breadcrumb; on a tie the one nearer home. Where the root of the least square tried before the
+// best is larger than the best's, the best is the one that the roots give. Else there may be a tie, and the roots decide.
+pub fn nearest_on_breadcrumb(line: &[f32], len: usize, p: Point, ends: Range) -> Best
+    requires { ⌜ (1 ≤ ends .from) × (ends .to < len) × (len ≤ capacity (length (now line))) ⌝ }
+    ensures { λ r. ⌜ r ≡ nearestOnBreadcrumb (crumbs len (now (line .entry))) p ends ⌝ }
+{
+    let anywhere = Stretch {
+        floor: segments::LOWEST,
+        ceiling: segments::LARGEST,
+    };
+    let mut lead = Lead {
+        best: 0,
+        least: 0.0,
+        before: segments::LARGEST,
+    };
+    let mut end = ends.from;
+    while end <= ends.to {
+        lead = consider(line, len, p, anywhere, end, lead);
+        end += 1;
+    }
+    if lead.best == 0 {
+        return Best::Nothing;
+    }
+    if binary32::sqrtf(lead.least) < binary32::sqrtf(lead.before) {
+        let near = segments::nearest_on(line, len, p, lead.best);
+        return Best::Found(near);
+    }
+    crate::nearest_on_breadcrumb(line, len, p, ends)
+}
+
+// The nearest segment of the course reaching into the stretch; on a tie the earlier ridden.
+fn plainly_within(line: &[f32], len: usize, p: Point, ends: Range, within: Stretch) -> Best
+    requires { ⌜ (1 ≤ ends .from) × (ends .to < len) × (len ≤ capacity (length (now line))) ⌝ }
+    ensures { λ r. ⌜ r ≡ nearestWithin (crumbs len (now (line .entry))) p ends within Plain ⌝ }
+{
+    let mut lead = Lead {
+        best: 0,
+        least: 0.0,
+        before: segments::LARGEST,
+    };
+    let mut end = ends.to;
+    while ends.from <= end {
+        lead = consider(line, len, p, within, end, lead);
+        end -= 1;
+    }
+    if lead.best == 0 {
+        return Best::Nothing;
+    }
+    if binary32::sqrtf(lead.least) < binary32::sqrtf(lead.before) {
+        let near = segments::nearest_on(line, len, p, lead.best);
+        return Best::Found(near);
+    }
+    crate::nearest_within(line, len, p, ends, within, Ranking::Plain)
+}
+
+// The segment of the course reaching into the stretch that costs least; on a tie the earlier ridden.
+pub fn nearest_within(
+    line: &[f32],
+    len: usize,
+    p: Point,
+    ends: Range,
+    within: Stretch,
+    by: Ranking,
+) -> Best
+    requires { ⌜ (1 ≤ ends .from) × (ends .to < len) × (len ≤ capacity (length (now line))) ⌝ }
+    ensures { λ r. ⌜ r ≡ nearestWithin (crumbs len (now (line .entry))) p ends within by ⌝ }
+{
+    if let Ranking::Plain = by {
+        return plainly_within(line, len, p, ends, within);
+    }
+    crate::nearest_within(line, len, p, ends, within, by)
+}
