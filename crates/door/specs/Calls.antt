@@ -17,7 +17,7 @@ use Rattle.homing.specs.declared.Followed.{Followed}
 use Rattle.homing.specs.Answers.{saysReply, saysSight}
 use Rattle.homing.specs.Promises.{MakesNew, DoesReset, EndsReplay, SetsCourse, SetsAuto, Observes, Replays, SetsFollowing}
 use Rattle.stored.specs.Stored.{room}
-use Rattle.answering.specs.Through.{numberOf, written, isSet, flagOf, noState, noStateWith, Leaves, Changes}
+use Rattle.door.specs.Through.{numberOf, written, isSet, flagOf, noState, noStateWith, Leaves, Changes}
 
 -- ---- what a call gives, as numbers
 unfoldable pub numberOfEvent : Event → ℕ

@@ -19,8 +19,8 @@ use Rattle.restart.specs.declared.Settled.{Settled}
 use Rattle.restart.specs.Promises.{Steps, SettlesBreadcrumb}
 use Rattle.stored.specs.Stored.{stored}
 use Rattle.stored.specs.Rebuilt.{rebuildCount, storedRebuild, StoresRebuild}
-use Rattle.answering.specs.Through.{numberOf, flagOf, noState, noStateWith, Leaves}
-use Rattle.answering.specs.Answers.{valuesOf, flagged}
+use Rattle.door.specs.Through.{numberOf, flagOf, noState, noStateWith, Leaves}
+use Rattle.door.specs.Answers.{valuesOf, flagged}
 
 -- ---- a rebuild's words
 -- What becomes of the words v when a call gives the rebuild r: taken, they hold that rebuild, and what lies behind it is as it was; refused, they are as

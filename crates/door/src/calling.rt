@@ -1,7 +1,7 @@
 // The calls that change the guide.
 
-use answering::numbering;
-use answering::numbering::NO_STATE;
+use crate::numbering;
+use crate::numbering::NO_STATE;
 use answers::Verdict;
 use homing::Changed;
 use homing::Sight;
@@ -16,7 +16,7 @@ ghost use Rattle.course.specs.Course.{fixes};
 ghost use Rattle.answers.specs.Answers.{saysVerdict};
 ghost use Rattle.homing.specs.Answers.{saysReply, saysSight};
 ghost use Rattle.stored.specs.Stored.{wordCount, numberCount};
-ghost use Rattle.answering.specs.Through.{numberOf, written, flagOf, Leaves};
+ghost use Rattle.door.specs.Through.{numberOf, written, flagOf, Leaves};
 ghost use Rattle.door.specs.Calls.{numberOfEvent, New, Reset, EndReplay, SetCourse, SetAutoFollow, Observe, Replay, SetFollowing};
 
 // ---- answers as numbers

@@ -1,8 +1,9 @@
 // The calls of a rebuild, whose state lives in words of its own. Words that hold no rebuild, and slices
 // that hold no state, are refused with 10.
 
-use answering::numbering;
-use answering::numbering::NO_STATE;
+use crate::answering;
+use crate::numbering;
+use crate::numbering::NO_STATE;
 use log::Utc;
 use rebuild::Rebuild;
 use state::Homing;
@@ -11,7 +12,7 @@ ghost use Prim.Native.Nat.{_≤_};
 ghost use lib.ListN.{length};
 ghost use Rattle.stored.specs.Stored.{wordCount, numberCount};
 ghost use Rattle.stored.specs.Rebuilt.{rebuildCount, utcOf};
-ghost use Rattle.answering.specs.Through.{isSet, Leaves};
+ghost use Rattle.door.specs.Through.{isSet, Leaves};
 ghost use Rattle.door.specs.Rebuild.{LeavesRebuild, RebuildNew, RebuildCaughtUp, slices, RebuildStep, RebuildSettle};
 
 // ---- the rebuild alone

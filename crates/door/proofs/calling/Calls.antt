@@ -22,9 +22,9 @@ use Rattle.homing.specs.declared.Changed.{Changed}
 use Rattle.homing.specs.Answers.{saysReply}
 use Rattle.homing.specs.Promises.{MakesNew, Replays}
 use Rattle.stored.specs.Stored.{room, wordCount, numberCount}
-use Rattle.answering.specs.Through.{numberOf, noState, noStateWith, Leaves}
+use Rattle.door.specs.Through.{numberOf, noState, noStateWith, Leaves}
 use Rattle.door.specs.Calls.{New, Observe}
-use Rattle.answering.proofs.numbering.Through.{was-false, was-true}
+use Rattle.door.proofs.numbering.Through.{was-false, was-true}
 
 -- the number of an answer is that of the question
 number-asked : {A : Type 0} (number : ℕ) (a : A) → numberOf (answer number a) ≡ number

@@ -17,9 +17,9 @@ use Rattle.restart.specs.declared.Settled.{Settled}
 use Rattle.restart.specs.Promises.{SettlesBreadcrumb}
 use Rattle.stored.specs.Stored.{stored, Stores}
 use Rattle.stored.specs.Rebuilt.{rebuildCount, storedRebuild, StoresRebuild, LoadsRebuild}
-use Rattle.answering.specs.Through.{flagOf, noState, Leaves}
+use Rattle.door.specs.Through.{flagOf, noState, Leaves}
 use Rattle.door.specs.Rebuild.{LeavesRebuild, RebuildNew, RebuildCaughtUp, OnBoth}
-use Rattle.answering.proofs.Answers.{held-same, held-none}
+use Rattle.door.proofs.answering.Answers.{held-same, held-none}
 
 pub begun : {v : List ℕ} {r : Rebuild} {b : Bool} → LoadsRebuild v r b → not b ≡ false → storedRebuild v ≡ some r
 begun l e = l .there (not-false _ e)

@@ -1,6 +1,6 @@
 -- `door::calling::cittumay_end_replay` meets its contract. Assumes nothing.
 use mathlib.Core.Path.{refl}
-use Rattle.answering.proofs.numbering.Through.{room-read, not-held, on-held}
+use Rattle.door.proofs.numbering.Through.{room-read, not-held, on-held}
 use borrow.Author.Needs.{needs}
 use Rattle.door.proofs.calling.cittumay_end_replay.Statement.{statement}
 use Rattle.door.proofs.calling.cittumay_end_replay.Tie as tie

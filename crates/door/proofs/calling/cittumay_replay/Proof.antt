@@ -1,7 +1,7 @@
 -- `door::calling::cittumay_replay` meets its contract. Assumes nothing.
 use mathlib.Core.Path.{refl}
 use Rattle.door.proofs.calling.Calls.{replayed}
-use Rattle.answering.proofs.numbering.Through.{room-read, not-held, on-held}
+use Rattle.door.proofs.numbering.Through.{room-read, not-held, on-held}
 use borrow.Author.Needs.{needs}
 use Rattle.door.proofs.calling.cittumay_replay.Statement.{statement}
 use Rattle.door.proofs.calling.cittumay_replay.Tie as tie

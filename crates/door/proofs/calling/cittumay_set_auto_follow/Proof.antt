@@ -1,7 +1,7 @@
 -- `door::calling::cittumay_set_auto_follow` meets its contract. Assumes nothing.
 use mathlib.Core.Path.{refl}
-use Rattle.answering.specs.Through.{isSet}
-use Rattle.answering.proofs.numbering.Through.{room-read, not-held, on-held}
+use Rattle.door.specs.Through.{isSet}
+use Rattle.door.proofs.numbering.Through.{room-read, not-held, on-held}
 use borrow.Author.Needs.{needs}
 use Rattle.door.proofs.calling.cittumay_set_auto_follow.Statement.{statement}
 use Rattle.door.proofs.calling.cittumay_set_auto_follow.Tie as tie

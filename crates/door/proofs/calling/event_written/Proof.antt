@@ -2,7 +2,7 @@
 use mathlib.Core.Path.{sym, ap, _∙_}
 use Rattle.homing.specs.declared.Sight.{Sight}
 use Rattle.homing.specs.Answers.{saysSight}
-use Rattle.answering.specs.Through.{written}
+use Rattle.door.specs.Through.{written}
 use Rattle.door.specs.Calls.{numberOfEvent}
 use borrow.Author.Needs.{needs}
 use Rattle.door.proofs.calling.event_written.Statement.{statement}

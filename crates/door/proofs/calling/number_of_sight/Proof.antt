@@ -2,7 +2,7 @@
 use mathlib.Core.Path.{sym, ap}
 use Rattle.homing.specs.declared.Sight.{Sight}
 use Rattle.homing.specs.Answers.{saysSight}
-use Rattle.answering.specs.Through.{numberOf}
+use Rattle.door.specs.Through.{numberOf}
 use borrow.Author.Needs.{needs}
 use Rattle.door.proofs.calling.number_of_sight.Statement.{statement}
 use Rattle.door.proofs.calling.number_of_sight.Tie as tie

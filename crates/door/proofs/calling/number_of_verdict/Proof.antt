@@ -2,7 +2,7 @@
 use mathlib.Core.Path.{sym, ap}
 use Rattle.answers.specs.declared.Verdict.{Verdict}
 use Rattle.answers.specs.Answers.{saysVerdict}
-use Rattle.answering.specs.Through.{numberOf}
+use Rattle.door.specs.Through.{numberOf}
 use borrow.Author.Needs.{needs}
 use Rattle.door.proofs.calling.number_of_verdict.Statement.{statement}
 use Rattle.door.proofs.calling.number_of_verdict.Tie as tie

@@ -1,6 +1,6 @@
 -- `door::calling::observe_place` meets its contract. Assumes nothing.
 use mathlib.Core.Path.{refl, _∙_}
-use Rattle.answering.proofs.numbering.Through.{room-read, not-held, on-held}
+use Rattle.door.proofs.numbering.Through.{room-read, not-held, on-held}
 use borrow.Author.Needs.{needs}
 use Rattle.door.proofs.calling.observe_place.Statement.{statement}
 use Rattle.door.proofs.calling.observe_place.Tie as tie

@@ -1,7 +1,7 @@
 -- `door::rebuilding::cittumay_rebuild_settle` meets its contract. Assumes nothing.
 use mathlib.Core.Path.{refl, _∙_}
 use Rattle.stored.proofs.Holding.{has-room, rebuild-has-room}
-use Rattle.answering.proofs.Answers.{loaded, unloaded}
+use Rattle.door.proofs.answering.Answers.{loaded, unloaded}
 use Rattle.door.proofs.rebuilding.Rebuild.{begun, not-begun, without-rebuild, without-guide, with-both, settled-at}
 use borrow.Author.Needs.{needs}
 use Rattle.door.proofs.rebuilding.cittumay_rebuild_settle.Statement.{statement}

@@ -2,7 +2,7 @@
 use mathlib.Core.Bool.{not}
 use borrow.Author.Tests.{ne-eqb, eq-eqb}
 use Rattle.stored.specs.Rebuilt.{utcOf}
-use Rattle.answering.specs.Through.{isSet}
+use Rattle.door.specs.Through.{isSet}
 use borrow.Author.Tests.{ne-eqb, eq-eqb}
 use borrow.Author.Tests.{ne-eqb, eq-eqb}
 use Rattle.door.proofs.rebuilding.utc_of.Statement.{statement}

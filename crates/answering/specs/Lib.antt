@@ -1,3 +1,0 @@
-pub mod GuideWords
-pub mod Answers
-pub mod Through
