@@ -3,8 +3,8 @@
 // does, and answers 0, or the number of the question that refused it; a refusal changes nothing that is lent.
 // Slices that hold no state are refused with 10. A flag that comes in is yes unless it is 0.
 //
-// Each export hands on to the function of its name in `calling`, `answering` or `rebuilding`, which says what
-// it does.
+// `calling` has the calls that change the guide, `answering` those that only answer, `rebuilding` those of a
+// rebuild, `thinning` the thinning of a line by itself; `numbering` says how an answer becomes a number.
 
 mod answering;
 mod calling;

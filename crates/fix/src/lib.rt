@@ -1,4 +1,5 @@
-// A fix that is missing, and one from before a restart, once the questions are answered.
+// What a fix does once the questions are answered. Here: one that is missing, and one from before a restart.
+// `observe` has one that is there, `new_fix` what it does if it is new, `recording` how the breadcrumb grows by it.
 
 mod new_fix;
 pub mod observe;

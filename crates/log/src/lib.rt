@@ -1,5 +1,5 @@
 // The ride log: entries of up to four samples, and the chain file that holds them. What a file has is
-// read where it stands; a byte behind its end counts as 0.
+// read where it stands; a byte behind its end counts as 0. `file_questions` has the questions put to it.
 
 pub mod file_questions;
 

@@ -1,4 +1,5 @@
-// Searches on a whole line of crumbs: the segment nearest a position, the place a way along.
+// Searches on a whole line of crumbs: the segment nearest a position, the place a way along. `quick` finds the
+// nearest one with two roots in all, `course_match` the segment of the followed course that the rider is on.
 
 pub mod course_match;
 pub mod quick;

@@ -1,5 +1,6 @@
 // Segments of a line: where a position meets one, and whether it is better than the best so far. A line is a lent buffer and a
 // count of the crumbs held in it. A segment is named by its far end: it runs from the crumb before to the one at `end`.
+// `costs` says what a match costs by each ranking, `turns` which way a line runs.
 
 pub mod costs;
 pub mod turns;

@@ -1,4 +1,4 @@
--- Whatever lines a guide was lent, a state that passes question 10 passes it after `replay` and `reset` too: the laws are in proofs/.
+-- Whatever lines a guide was lent, a state that passes question 10 passes it after `replay` and `reset` too.
 pub mod Bounds
 pub mod Recording
 pub mod State
