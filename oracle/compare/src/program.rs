@@ -1,4 +1,4 @@
-//! A program that reads standard input to its end.
+//! A program that reads standard input.
 use std::io::{ErrorKind, Write};
 use std::path::Path;
 use std::process::{Command, Stdio};

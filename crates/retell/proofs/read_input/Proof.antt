@@ -20,34 +20,43 @@ read-behind-requires : tie.Need-read-behind-requires Inv-loop μ-loop
 read-behind-requires c κs = omega arith
 
 same-length : tie.Need-same-length Inv-loop μ-loop
-same-length c = c .before .before .before .read-behind .kept .0 ∙ c .before .before .before .before .before .before .loop .inv .0
+same-length c =
+    let same = c .before .before .before .before .read-behind .kept .0 in
+    let held = c .before .before .before .before .before .before .before .loop .inv in
+    same ∙ held .0
 
 returns : tie.Need-returns Inv-loop μ-loop
-returns c = (omega (arith, c .before .before .before .read-behind .kept .0, c .before .before .before .before .before .before .loop .inv .1), sym (length-take-le _ _ (omega (arith, c .before .before .before .read-behind .kept .0, c .before .before .before .before .before .before .loop .inv .1))))
-
-same-length-2 : tie.Need-same-length-2 Inv-loop μ-loop
-same-length-2 c = c .before .before .before .before .before .read-behind .kept .0 ∙ c .before .before .before .before .before .before .before .before .loop .inv .0
-
-returns-2 : tie.Need-returns-2 Inv-loop μ-loop
-returns-2 c = (omega (arith, c .before .before .before .before .before .read-behind .kept .0, c .before .before .before .before .before .before .before .before .loop .inv .1), sym (length-take-le _ _ (omega (arith, c .before .before .before .before .before .read-behind .kept .0, c .before .before .before .before .before .before .before .before .loop .inv .1))))
+returns c =
+    let same = c .before .before .before .before .read-behind .kept .0 in
+    let held = c .before .before .before .before .before .before .before .loop .inv in
+    (omega (arith, same, held .1), sym (length-take-le _ _ (omega (arith, same, held .1))))
 
 add-kept : tie.Need-add-kept Inv-loop μ-loop
-add-kept c = omega (arith, c .before .before .before .before .before .before .read-behind .kept .0, c .before .before .before .before .before .before .read-behind .ensures, c .before .before .before .before .before .before .before .before .before .loop .inv .1)
+add-kept c =
+    let same = c .before .before .before .before .before .read-behind .kept .0 in
+    let more = c .before .before .before .before .before .read-behind .ensures in
+    let held = c .before .before .before .before .before .before .before .before .loop .inv in
+    omega (arith, same, more, held .1)
 
 loop-less : tie.Need-loop-less Inv-loop μ-loop
-loop-less c = omega (arith, c .before .before .before .before .before .before .read-behind .kept .0, c .before .before .before .before .before .before .read-behind .ensures, c .before .before .before .before .before .before .before .before .before .loop .inv .1)
+loop-less c =
+    let same = c .before .before .before .before .before .read-behind .kept .0 in
+    let more = c .before .before .before .before .before .read-behind .ensures in
+    let held = c .before .before .before .before .before .before .before .before .loop .inv in
+    omega (arith, same, more, held .1)
 
 loop-again : tie.Need-loop-again Inv-loop μ-loop
-loop-again c = (c .before .before .before .before .before .before .read-behind .kept .0 ∙ c .before .before .before .before .before .before .before .before .before .loop .inv .0, omega (arith, c .before .before .before .before .before .before .read-behind .kept .0, c .before .before .before .before .before .before .read-behind .ensures, c .before .before .before .before .before .before .before .before .before .loop .inv .1))
+loop-again c =
+    let same = c .before .before .before .before .before .read-behind .kept .0 in
+    let more = c .before .before .before .before .before .read-behind .ensures in
+    let held = c .before .before .before .before .before .before .before .before .loop .inv in
+    (same ∙ held .0, omega (arith, same, more, held .1))
 
-read-rest-requires : tie.Need-read-rest-requires Inv-loop μ-loop
-read-rest-requires c κs = tt
+same-length-2 : tie.Need-same-length-2 Inv-loop μ-loop
+same-length-2 c = c .before .loop .inv .0
 
-same-length-3 : tie.Need-same-length-3 Inv-loop μ-loop
-same-length-3 c = c .before .before .loop .inv .0
-
-returns-3 : tie.Need-returns-3 Inv-loop μ-loop
-returns-3 c = (c .before .before .loop .inv .1, sym (length-take-le _ _ (c .before .before .loop .inv .1)))
+returns-2 : tie.Need-returns-2 Inv-loop μ-loop
+returns-2 c = (c .before .loop .inv .1, sym (length-take-le _ _ (c .before .loop .inv .1)))
 
 pub read-input-spec : {M : Type 1} → statement M
 read-input-spec =
@@ -59,11 +68,8 @@ read-input-spec =
     read-behind-requires
     same-length
     returns
-    same-length-2
-    returns-2
     add-kept
     loop-less
     loop-again
-    read-rest-requires
-    same-length-3
-    returns-3)
+    same-length-2
+    returns-2)
