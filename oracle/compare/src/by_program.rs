@@ -43,7 +43,7 @@ fn answers(script: &Script, coverage: &mut Coverage) -> String {
     out
 }
 
-/// `None` where the program says that every call agrees. Where the script is too long with the dumps it
+/// `None` where the program says that every call agrees; a program that fails says why. Where the script is too long with the dumps it
 /// is compared without them, and where it is still too long it is left out.
 pub fn difference(script: &Script, program: &Path, coverage: &mut Coverage) -> Option<Difference> {
     let fits = |given: &Given| given.text().len() <= LONGEST;
@@ -51,7 +51,7 @@ pub fn difference(script: &Script, program: &Path, coverage: &mut Coverage) -> O
     answers(script, coverage);
     let said = match program::run(program, given.text().as_bytes()) {
         Ok(printed) => String::from_utf8_lossy(&printed).into_owned(),
-        Err(error) => panic!("{error}"),
+        Err(error) => error,
     };
     (said != format!("{} calls agree\n", given.numbers.len())).then(|| unlike(&said, &given))
 }

@@ -1,41 +1,67 @@
-//! Compares the proved program `retell` with the Rust on random chain files, byte for byte:
-//! `chains [--files N] [--full] [--seed N] [--program PATH]`. With `--self-test` mistakes stand in
-//! the place of the program, and each has to be found. `--show K` only writes file K.
+//! Compares the proved program `retell` with the Rust on random chain files, byte for byte.
 use compare::chains::bent::RULES;
 use compare::chains::classes::Met;
 use compare::chains::seen::Seen;
 use compare::chains::{files, mistakes};
 use compare::inputs::Inputs;
-use compare::options::Options;
+use compare::options::{self, Options, Words, unknown};
 use compare::program;
 use compare::retelling::retell;
 use compare::value::{Difference, Value, difference};
 use std::fmt;
-use std::io::{self, Write};
 use std::path::{Path, PathBuf};
 use std::process::ExitCode;
 
 const PROGRAM: &str = concat!(env!("CARGO_MANIFEST_DIR"), "/../../target/bin/retell");
 
-fn main() -> ExitCode {
-    let (mut count, mut shown, mut program) = (None, None, PathBuf::from(PROGRAM));
-    let Options { full, seed, self_test } = Options::read_with(|word, words| match word {
-        "--files" => count = Some(number(words.next(), "--files N")),
-        "--show" => shown = Some(number(words.next(), "--show K")),
-        "--program" => program = words.next().expect("--program PATH").into(),
-        _ => panic!("unknown: {word}"),
-    });
-    if let Some(k) = shown {
-        let written = io::stdout().write_all(&files::file(seed, k));
-        return written.map_or(ExitCode::FAILURE, |()| ExitCode::SUCCESS);
-    }
-    let count = count.unwrap_or(if full { 100_000 } else { 2_000 });
-    let good = if self_test { mistakes(seed) } else { retellings(&program, seed, count) };
-    if good { ExitCode::SUCCESS } else { ExitCode::FAILURE }
+const USAGE: &str = "\
+usage: chains [--files N] [--full] [--seed N] [--program PATH] [--show N] [--self-test]
+Compares the proved program `retell` with the Rust on random chain files, byte for byte.
+  --files N        on so many files (2000)
+  --full           on 100,000
+  --seed N         other files (1)
+  --program PATH   another program (target/bin/retell of the project)
+  --show N         only writes file N
+  --self-test      mistakes in the place of the program; each has to be found
+";
+
+/// What is asked for: `count` files compared, or one `shown`.
+struct Asked {
+    options: Options,
+    count: Option<u64>,
+    shown: Option<u64>,
+    program: PathBuf,
 }
 
-fn number(word: Option<String>, usage: &str) -> u64 {
-    word.and_then(|word| word.parse().ok()).expect(usage)
+fn main() -> ExitCode {
+    options::program(USAGE, read, run)
+}
+
+fn read(words: &mut Words) -> Result<Asked, String> {
+    let (mut count, mut shown, mut program) = (None, None, PathBuf::from(PROGRAM));
+    let options = Options::read_with(words, |word, words| {
+        match word {
+            "--files" => count = Some(words.number(word)?),
+            "--show" => shown = Some(words.number(word)?),
+            "--program" => program = words.path()?,
+            _ => unknown(word)?,
+        }
+        Ok(())
+    })?;
+    Ok(Asked { options, count, shown, program })
+}
+
+fn run(asked: Asked) -> Result<bool, String> {
+    let Asked { options: Options { full, seed, self_test }, count, shown, program } = asked;
+    if let Some(k) = shown {
+        return options::print(files::file(seed, k)).map(|()| true);
+    }
+    if self_test {
+        return Ok(mistakes(seed));
+    }
+    // A program that cannot be run is no difference.
+    program::run(&program, &[])?;
+    Ok(retellings(&program, seed, count.unwrap_or(if full { 100_000 } else { 2_000 })))
 }
 
 /// A file and its number.
@@ -93,10 +119,6 @@ fn some_files(seed: u64, len: u64) -> Inputs<impl Fn(u64) -> File + Sync> {
 
 /// Whether the program prints what the Rust does, and every class of files is met.
 fn retellings(program: &Path, seed: u64, count: u64) -> bool {
-    if let Err(error) = program::run(program, &[]) {
-        println!("retell: {error}");
-        return false;
-    }
     let met = Met::default();
     let ours = |File(_, file)| Printed(program::run(program, &file));
     let theirs = |File(_, file)| Printed(Ok(rust(&file, &met)));

@@ -1,24 +1,21 @@
-//! Reads scripts and prints the transcript by the proved code: `drive-rattle < scripts`.
+//! Reads scripts and prints the transcript by the proved code.
 use compare::driver::drive_by;
+use compare::options::{input_text, none, print, program};
 use compare::script;
 use compare::stored::Stored;
-use std::io::{self, Read, Write};
 use std::process::ExitCode;
 
+const USAGE: &str = "\
+usage: drive-rattle < SCRIPTS
+Prints the transcript of scripts by the proved code.
+";
+
 fn main() -> ExitCode {
-    let mut text = String::new();
-    io::stdin().read_to_string(&mut text).expect("standard input");
-    let scripts = match script::read(&text) {
-        Ok(scripts) => scripts,
-        Err(error) => {
-            eprintln!("{error}");
-            return ExitCode::FAILURE;
+    program(USAGE, none, |()| {
+        let mut out = String::new();
+        for script in script::read(&input_text()?)? {
+            drive_by(&mut Stored::new(&script), &script, &mut out);
         }
-    };
-    let mut out = String::new();
-    for script in scripts {
-        drive_by(&mut Stored::new(&script), &script, &mut out);
-    }
-    io::stdout().write_all(out.as_bytes()).expect("standard output");
-    ExitCode::SUCCESS
+        print(out).map(|()| true)
+    })
 }

@@ -1,40 +1,46 @@
-//! Reads scripts and prints the transcript by the Rust: `drive [--coverage] [--domain] < scripts`.
-//! `--coverage` prints on standard error how many calls met each class. Outside the domain of
-//! comparison the Rust has document 01's additions; with `--domain` a script that gets there is an error.
+//! Reads scripts and prints the transcript by the Rust.
 use compare::coverage::Coverage;
 use compare::driver::drive;
+use compare::options::{Words, input_text, print, program, unknown};
 use compare::script;
-use std::io::{self, Read, Write};
 use std::process::ExitCode;
 
-fn main() -> ExitCode {
-    let (mut tell_coverage, mut beyond) = (false, true);
-    for word in std::env::args().skip(1) {
-        match word.as_str() {
-            "--coverage" => tell_coverage = true,
-            "--domain" => beyond = false,
-            _ => panic!("unknown: {word}"),
-        }
-    }
-    let (mut coverage, mut out) = (Coverage::default(), String::new());
-    let driven = read().and_then(|scripts| {
-        scripts.iter().try_for_each(|script| drive(script, beyond, &mut coverage, &mut out))
-    });
-    io::stdout().write_all(out.as_bytes()).expect("standard output");
-    if tell_coverage {
-        coverage.print();
-    }
-    match driven {
-        Ok(()) => ExitCode::SUCCESS,
-        Err(error) => {
-            eprintln!("{error}");
-            ExitCode::FAILURE
-        }
-    }
+const USAGE: &str = "\
+usage: drive [--coverage] [--domain] < SCRIPTS
+Prints the transcript of scripts by the Rust, outside the domain of comparison with document 01's additions.
+  --coverage   tells on standard error how many calls met each class
+  --domain     a script that leaves the domain is an error
+";
+
+struct Options {
+    coverage: bool,
+    beyond: bool,
 }
 
-fn read() -> Result<Vec<script::Script>, String> {
-    let mut text = String::new();
-    io::stdin().read_to_string(&mut text).map_err(|error| error.to_string())?;
-    script::read(&text)
+fn main() -> ExitCode {
+    program(USAGE, read, run)
+}
+
+fn read(words: &mut Words) -> Result<Options, String> {
+    let mut options = Options { coverage: false, beyond: true };
+    for word in words {
+        match word.as_str() {
+            "--coverage" => options.coverage = true,
+            "--domain" => options.beyond = false,
+            _ => unknown(&word)?,
+        }
+    }
+    Ok(options)
+}
+
+fn run(options: Options) -> Result<bool, String> {
+    let (mut coverage, mut out) = (Coverage::default(), String::new());
+    let mut scripts = script::read(&input_text()?)?.into_iter();
+    let driven =
+        scripts.try_for_each(|script| drive(&script, options.beyond, &mut coverage, &mut out));
+    print(out)?;
+    if options.coverage {
+        coverage.print();
+    }
+    driven.map(|()| true)
 }

@@ -1,6 +1,7 @@
 //! The time of a guide's calls through the door and of the Rust's on the same rides, as Markdown
 //! tables.
 use compare::guide::Guide;
+use compare::options::{none, program};
 use compare::retelling::{self, CRUMBS};
 use compare::script::{Call, Script};
 use compare::transcript::Answer;
@@ -9,6 +10,7 @@ use std::f64::consts::TAU;
 use std::fs;
 use std::hint::black_box;
 use std::path::Path;
+use std::process::ExitCode;
 use std::time::Instant;
 use vana::ride::homing::{Crumb, Homing, rebuild};
 
@@ -30,18 +32,31 @@ struct Trial {
     fixes: Vec<Call>,
 }
 
-fn main() {
+const USAGE: &str = "\
+usage: guide-speed
+Prints the time of a guide's calls through the door and of a rebuild, and the Rust's, as Markdown tables.
+";
+
+fn main() -> ExitCode {
+    program(USAGE, none, |()| {
+        let file = longest()?;
+        let equal = rides();
+        rebuilds(&file);
+        Ok(equal)
+    })
+}
+
+/// Prints the time of the fixes, as long as the two sides answer the same.
+fn rides() -> bool {
     println!("| `observe` | proved, ns | Rust, ns | proved / Rust | questions, ns | share |");
     println!("|---|--:|--:|--:|--:|--:|");
-    let trials = [60, 600, 4_000].map(recording).into_iter().chain([
+    let mut trials = [60, 600, 4_000].map(recording).into_iter().chain([
         following("a course of 2,048 points followed, on it", 0.0),
         following("the same, 120 m off it", 120.0),
         riding(false),
         riding(true),
     ]);
-    trials.for_each(|trial| row(&trial));
-    println!();
-    rebuilds();
+    trials.all(|trial| row(&trial))
 }
 
 // ---- the rides
@@ -108,7 +123,7 @@ fn riding(joining: bool) -> Trial {
 
 // ---- their time
 
-fn row(trial: &Trial) {
+fn row(trial: &Trial) -> bool {
     let (mut ours, mut theirs, mut asked) = (f64::INFINITY, f64::INFINITY, f64::INFINITY);
     for _ in 0..ROUNDS {
         let mut lent = door::Lent::to(&trial.script);
@@ -122,10 +137,14 @@ fn row(trial: &Trial) {
         let mut guide = Homing::new(&mut lent.crumbs).with_line(&mut lent.line);
         ridden(&mut guide, &trial.script);
         theirs = theirs.min(nanoseconds(&mut guide, &trial.fixes));
-        assert!(told == guide.answers(), "{}: the two sides differ", trial.name);
+        if told != guide.answers() {
+            println!("{}: the two sides differ", trial.name);
+            return false;
+        }
     }
     let (name, ratio, share) = (&trial.name, ours / theirs, 100.0 * asked / ours);
     println!("| {name} | {ours:.0} | {theirs:.0} | {ratio:.1} | {asked:.0} | {share:.0} % |");
+    true
 }
 
 /// As many fixes that are asked everything and refused.
@@ -156,14 +175,13 @@ fn performed(guide: &mut impl Guide, call: &Call) -> Answer {
 
 // ---- a rebuild
 
-fn rebuilds() {
-    let file = longest();
-    let chain = chain::read(&file).expect("a good file");
+fn rebuilds(file: &[u8]) {
+    let chain = chain::read(file).expect("a good file");
     let upper = chain.entries.len();
     let (mut ours, mut theirs, mut asked) = (f64::INFINITY, f64::INFINITY, f64::INFINITY);
     for _ in 0..REBUILDS {
-        asked = asked.min(rebuilt(&file, chain.recovered, upper, 0));
-        ours = ours.min(rebuilt(&file, chain.recovered, upper, upper));
+        asked = asked.min(rebuilt(file, chain.recovered, upper, 0));
+        ours = ours.min(rebuilt(file, chain.recovered, upper, upper));
 
         let mut crumbs = vec![Crumb::default(); CRUMBS];
         let mut guide = Homing::new(&mut crumbs);
@@ -174,7 +192,7 @@ fn rebuilds() {
         theirs = theirs.min(begun.elapsed().as_nanos() as f64 / 1_000.0);
     }
     let (ratio, share) = (ours / theirs, 100.0 * asked / ours);
-    println!("| rebuild | proved, µs | Rust, µs | proved / Rust | questions, µs | share |");
+    println!("\n| rebuild | proved, µs | Rust, µs | proved / Rust | questions, µs | share |");
     println!("|---|--:|--:|--:|--:|--:|");
     println!("| 682 records | {ours:.0} | {theirs:.0} | {ratio:.1} | {asked:.0} | {share:.0} % |");
 }
@@ -190,15 +208,16 @@ fn rebuilt(file: &[u8], recovered: u32, upper: usize, budget: usize) -> f64 {
 }
 
 /// The sample ride, and its entries again from the first, until there are 682 records.
-fn longest() -> Vec<u8> {
+fn longest() -> Result<Vec<u8>, String> {
     let sample = Path::new(env!("CARGO_MANIFEST_DIR")).join("../../examples/ride.chain");
-    let file = fs::read(&sample).unwrap_or_else(|error| panic!("{}: {error}", sample.display()));
-    let chain = chain::read(&file).expect("a good file");
+    let file = fs::read(&sample).map_err(|error| format!("{}: {error}", sample.display()))?;
+    let refused = |number| format!("{}: refused {number}", sample.display());
+    let chain = chain::read(&file).map_err(refused)?;
     let mut records = vec![chain::Record { ride: chain.recovered, ..chain::Record::default() }];
     records.extend(chain.entries.iter().cycle().take(chain::MOST - 1).copied());
     let last = records.len() - 1;
     for (k, record) in records.iter_mut().enumerate() {
         record.next = if k == last { 0 } else { k as u32 + 1 };
     }
-    records.iter().flat_map(chain::Record::bytes).collect()
+    Ok(chain::file(&records))
 }

@@ -1,15 +1,22 @@
-//! Compares the functions on numbers: `numbers [--full] [--seed N]`. With `--self-test` mistakes
-//! stand in the place of the Rust, and each has to be found.
-use compare::options::Options;
+//! Compares the functions on numbers.
+use compare::options::{Options, program};
 use compare::value::equal;
 use compare::{inputs, proved, reference};
 use std::f32::consts::FRAC_PI_2;
 use std::process::ExitCode;
 
+const USAGE: &str = "\
+usage: numbers [--full] [--seed N] [--self-test]
+Compares each proved function on numbers with the Rust's.
+  --full        on all 2^32 patterns and every latitude, in place of a spread
+  --seed N      other random inputs (1)
+  --self-test   mistakes in the place of the Rust; each has to be found
+";
+
 fn main() -> ExitCode {
-    let Options { full, seed, self_test } = Options::read();
-    let good = if self_test { mistakes(seed) } else { functions(full, seed) };
-    if good { ExitCode::SUCCESS } else { ExitCode::FAILURE }
+    program(USAGE, Options::read, |Options { full, seed, self_test }| {
+        Ok(if self_test { mistakes(seed) } else { functions(full, seed) })
+    })
 }
 
 /// Whether each proved function equals the Rust's.

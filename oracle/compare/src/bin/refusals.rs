@@ -1,12 +1,22 @@
-//! Makes each call through the door with each bad input, alone and in pairs with another question's, and
-//! with what is just allowed: `refusals`. A refusal has to carry the number of the first question that
-//! says no, and to change nothing.
+//! Makes each call through the door with each bad input. A refusal has to carry the number of the first
+//! question that says no, and to change nothing.
+use compare::options::{none, program};
 use compare::refusals::calls::{CALLS, Call, Part};
 use compare::refusals::faults::{Fault, faults, limits};
 use compare::refusals::{check, given::Given};
 use std::process::ExitCode;
 
+const USAGE: &str = "\
+usage: refusals
+Makes each call through the door with each bad input, alone and in pairs, and with what is just allowed.
+";
+
 fn main() -> ExitCode {
+    program(USAGE, none, |()| Ok(refusals()))
+}
+
+/// Whether each call is refused as it has to be.
+fn refusals() -> bool {
     let (good, faults, limits) = (Given::good(), faults(), limits());
     let mut wrong = 0;
     let mut made = |case: Result<(), String>| {
@@ -40,7 +50,7 @@ fn main() -> ExitCode {
         );
     }
     println!("refusals: {wrong} wrong");
-    if wrong == 0 { ExitCode::SUCCESS } else { ExitCode::FAILURE }
+    wrong == 0
 }
 
 /// `new` reads no state, so a bad one in its slices is none of its questions.

@@ -1,9 +1,13 @@
-//! What the program `retell` has to print of the chain file on standard input, by the Rust.
+//! What the program `retell` has to print of a chain file, by the Rust.
+use compare::options::{input, none, print, program};
 use compare::retelling::retell;
-use std::io::{self, Read, Write};
+use std::process::ExitCode;
 
-fn main() -> io::Result<()> {
-    let mut file = Vec::new();
-    io::stdin().read_to_end(&mut file)?;
-    io::stdout().write_all(retell(&file).as_bytes())
+const USAGE: &str = "\
+usage: retell < FILE
+Prints by the Rust what the program `retell` has to print of a chain file.
+";
+
+fn main() -> ExitCode {
+    program(USAGE, none, |()| print(retell(&input()?)).map(|()| true))
 }

@@ -1,12 +1,14 @@
-//! Writes sample chain files, good and damaged, each beside what `retell` has to print of it:
-//! `rides FOLDER`. Fails where a file is not what its name says.
+//! Writes sample chain files, good and damaged, each beside what `retell` has to print of it. Fails where
+//! a file is not what its name says.
 use compare::chain::{self, HALF_TURN, POLE, RECORD, Record, SAMPLES, Sample};
 use compare::chains::files::scattered;
 use compare::chains::seen::Seen;
+use compare::options::{Words, program};
 use compare::random::Random;
 use compare::retelling::retell;
 use std::fs;
 use std::path::Path;
+use std::process::ExitCode;
 
 /// Metres east and north of where the road begins.
 type Spot = (f64, f64);
@@ -28,27 +30,39 @@ const RESUME: u8 = 4;
 const FINISH: u8 = 5;
 const RECOVERED: u8 = 6;
 
-fn main() {
-    let folder = std::env::args().nth(1).expect("rides FOLDER");
-    let folder = Path::new(&folder);
-    fs::create_dir_all(folder.join("damaged")).expect("a folder");
-    for (name, file, holds) in good() {
-        assert!(holds(&Seen::of(&file)), "{name} is not what its name says");
-        write(folder, name, &file);
-    }
-    for (name, number, file) in damaged() {
-        assert_eq!(retell(&file), format!("refused {number}\n"), "{name}");
-        write(&folder.join("damaged"), name, &file);
-    }
+const USAGE: &str = "\
+usage: rides FOLDER
+Writes sample chain files, good and damaged, each beside what `retell` has to print of it.
+";
+
+fn main() -> ExitCode {
+    program(USAGE, Words::path, |folder| write_all(&folder).map(|()| true))
 }
 
-fn write(folder: &Path, name: &str, file: &[u8]) {
+fn write_all(folder: &Path) -> Result<(), String> {
+    let bad = folder.join("damaged");
+    fs::create_dir_all(&bad).map_err(|error| format!("{}: {error}", bad.display()))?;
+    let as_named = |name, holds| {
+        if holds { Ok(()) } else { Err(format!("{name} is not what its name says")) }
+    };
+    for (name, file, holds) in good() {
+        as_named(name, holds(&Seen::of(&file)))?;
+        write(folder, name, &file)?;
+    }
+    for (name, number, file) in damaged() {
+        as_named(name, retell(&file) == format!("refused {number}\n"))?;
+        write(&bad, name, &file)?;
+    }
+    Ok(())
+}
+
+fn write(folder: &Path, name: &str, file: &[u8]) -> Result<(), String> {
     let put = |end: &str, bytes: &[u8]| {
         let path = folder.join(format!("{name}.{end}"));
-        fs::write(&path, bytes).unwrap_or_else(|error| panic!("{}: {error}", path.display()));
+        fs::write(&path, bytes).map_err(|error| format!("{}: {error}", path.display()))
     };
-    put("chain", file);
-    put("expected", retell(file).as_bytes());
+    put("chain", file)?;
+    put("expected", retell(file).as_bytes())
 }
 
 // ---- good files

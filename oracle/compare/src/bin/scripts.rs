@@ -1,14 +1,13 @@
-//! Compares whole guides on random scripts: `scripts [--scripts N] [--full] [--seed S] [--first K]
-//! [--program PATH]`. With `--program` the other side is a program that is given the script with the Rust's
-//! answers, else the proved code behind the door. A class that no call meets is a failure. With `--self-test` mistakes stand in the place of the Rust, and each has to be found.
+//! Compares whole guides on random scripts. A class that no call meets is a failure.
 use compare::compared::{self, Difference};
 use compare::coverage::Coverage;
 use compare::homing::{Lent, Rebuilt};
+use compare::options::{self, Words, unknown};
 use compare::questions::Asked;
 use compare::script::Script;
 use compare::shorten::shortened;
 use compare::stored::Stored;
-use compare::{by_program, riders};
+use compare::{by_program, program, riders};
 use std::ops::Range;
 use std::path::PathBuf;
 use std::process::ExitCode;
@@ -17,6 +16,18 @@ use std::{env, fs, thread};
 use vana::mistaken::homing::Homing;
 use vana::mistaken::homing::rebuild::Rebuild;
 use vana::{copies, mistakes};
+
+const USAGE: &str = "\
+usage: scripts [--scripts N] [--full] [--seed N] [--first N] [--program PATH] [--print] [--self-test]
+Compares whole guides on random scripts after every call, the proved code behind the door with the Rust.
+  --scripts N      so many scripts (2000)
+  --full           200,000
+  --seed N         other scripts (1)
+  --first N        from this one on (0)
+  --program PATH   with a program that is given each script with the Rust's answers
+  --print          only prints the scripts
+  --self-test      mistakes in the place of the Rust; each has to be found
+";
 
 struct Options {
     scripts: u64,
@@ -28,7 +39,7 @@ struct Options {
 }
 
 impl Options {
-    fn read() -> Self {
+    fn read(words: &mut Words) -> Result<Self, String> {
         let mut options = Self {
             scripts: 2_000,
             seed: 1,
@@ -37,25 +48,23 @@ impl Options {
             print: false,
             program: None,
         };
-        let mut words = env::args().skip(1);
         while let Some(word) = words.next() {
-            let mut number = || words.next().and_then(|n| n.parse().ok()).expect("a number");
             match word.as_str() {
                 "--full" => options.scripts = 200_000,
-                "--scripts" => options.scripts = number(),
-                "--seed" => options.seed = number(),
-                "--first" => options.first = number(),
+                "--scripts" => options.scripts = words.number(&word)?,
+                "--seed" => options.seed = words.number(&word)?,
+                "--first" => options.first = words.number(&word)?,
                 "--self-test" => options.self_test = true,
                 "--print" => options.print = true,
-                "--program" => options.program = words.next().map(PathBuf::from),
-                _ => panic!("unknown: {word}"),
+                "--program" => options.program = Some(words.path()?),
+                _ => unknown(&word)?,
             }
         }
-        options
+        Ok(options)
     }
 
     fn numbers(&self) -> Range<u64> {
-        self.first..self.first + self.scripts
+        self.first..self.first.saturating_add(self.scripts)
     }
 }
 
@@ -63,21 +72,22 @@ impl Options {
 type Differs<'a> = &'a (dyn Fn(&Script, &mut Coverage) -> Option<Difference> + Sync);
 
 fn main() -> ExitCode {
-    let options = Options::read();
-    let good = match (&options.program, options.self_test) {
+    options::program(USAGE, Options::read, |options| match (&options.program, options.self_test) {
         _ if options.print => print(&options),
-        (_, true) => mistakes_found(&options),
+        (_, true) => Ok(mistakes_found(&options)),
         (Some(path), _) => {
+            // A program that cannot be run is no difference.
+            program::run(path, &[])?;
             equal(&options, &|script, coverage| by_program::difference(script, path, coverage))
         }
         (None, _) => equal(&options, &proved),
-    };
-    if good { ExitCode::SUCCESS } else { ExitCode::FAILURE }
+    })
 }
 
-fn print(options: &Options) -> bool {
-    options.numbers().for_each(|k| print!("{}", riders::script(options.seed, k)));
-    true
+fn print(options: &Options) -> Result<bool, String> {
+    let script = |k| riders::script(options.seed, k).to_string();
+    options.numbers().try_for_each(|k| options::print(script(k)))?;
+    Ok(true)
 }
 
 /// The proved guide, through the door.
@@ -110,7 +120,7 @@ fn search(options: &Options, differs: Differs) -> (Option<(u64, Script)>, Covera
         (None, coverage)
     };
     let Range { start, end } = options.numbers();
-    let middle = start + options.scripts / 2;
+    let middle = start + (end - start) / 2;
     thread::scope(|scope| {
         let lower = scope.spawn(|| half(start..middle));
         let (upper, mut coverage) = half(middle..end);
@@ -120,12 +130,12 @@ fn search(options: &Options, differs: Differs) -> (Option<(u64, Script)>, Covera
     })
 }
 
-fn equal(options: &Options, differs: Differs) -> bool {
+fn equal(options: &Options, differs: Differs) -> Result<bool, String> {
     let (found, coverage) = search(options, differs);
     let (scripts, calls) = coverage.size();
     if let Some((k, script)) = found {
-        show(options.seed, k, &script, &|script| differs(script, &mut Coverage::default()));
-        return false;
+        show(options.seed, k, &script, &|script| differs(script, &mut Coverage::default()))?;
+        return Ok(false);
     }
     println!("{}", coverage.per_thousand());
     println!("scripts: {scripts} scripts, {calls} calls, equal (seed {})", options.seed);
@@ -133,17 +143,23 @@ fn equal(options: &Options, differs: Differs) -> bool {
     // The scripts that meet this are too long for a program.
     unmet.retain(|class| options.program.is_none() || class != "thinning of 4,096 crumbs");
     unmet.iter().for_each(|class| println!("no call met: {class}"));
-    unmet.is_empty()
+    Ok(unmet.is_empty())
 }
 
-fn show(seed: u64, k: u64, script: &Script, differs: &dyn Fn(&Script) -> Option<Difference>) {
+fn show(
+    seed: u64,
+    k: u64,
+    script: &Script,
+    differs: &dyn Fn(&Script) -> Option<Difference>,
+) -> Result<(), String> {
     let short = shortened(script, differs);
     let file = env::temp_dir().join(format!("scripts-{seed}-{k}.txt"));
-    fs::write(&file, short.to_string()).expect("a file for the script");
+    fs::write(&file, short.to_string()).map_err(|error| format!("{}: {error}", file.display()))?;
     let difference = differs(&short).expect("it differs still");
     let calls = short.calls.len();
     println!("script {k} of seed {seed}, cut down to {calls} calls in {}", file.display());
     print!("{difference}");
+    Ok(())
 }
 
 /// Whether each mistake is found, and none where none is made.

@@ -1,9 +1,11 @@
 //! The time of a call of the proved functions and the Rust's on the same inputs, as Markdown tables.
 use compare::lines::{road, straight, zigzag};
+use compare::options::{none, program};
 use compare::random::Random;
 use compare::thinning::Line;
 use compare::{Place, Point, proved, reference};
 use std::hint::black_box;
+use std::process::ExitCode;
 use std::time::Instant;
 
 const INPUTS: u64 = 4_096;
@@ -11,10 +13,18 @@ const ROUNDS: u64 = 10_000;
 const CRUMBS: usize = 4_096;
 const THINNINGS: u64 = 300;
 
-fn main() {
-    functions();
-    println!();
-    thinnings();
+const USAGE: &str = "\
+usage: speed
+Prints the time of a call of each function and of a thinning, proved and the Rust's, as Markdown tables.
+";
+
+fn main() -> ExitCode {
+    program(USAGE, none, |()| {
+        functions();
+        println!();
+        thinnings();
+        Ok(true)
+    })
 }
 
 fn functions() {

@@ -1,20 +1,27 @@
-//! Compares `thin` on lines of crumbs: `thinning [--full] [--seed N]`. With `--self-test` mistakes
-//! stand in the place of the Rust, and each has to be found.
+//! Compares `thin` on lines of crumbs.
 use compare::classes::Met;
 use compare::inputs::Inputs;
 use compare::lines::lines;
-use compare::options::Options;
+use compare::options::{Options, program};
 use compare::reference::may_thin;
 use compare::thinning::{Answer, Line};
 use compare::value::{difference, equal};
 use compare::{Point, proved, reference};
 use std::process::ExitCode;
 
+const USAGE: &str = "\
+usage: thinning [--full] [--seed N] [--self-test]
+Compares the proved `thin` with the Rust's on lines of crumbs.
+  --full        on 2^24 lines, in place of 2^20
+  --seed N      other random lines (1)
+  --self-test   mistakes in the place of the Rust; each has to be found
+";
+
 fn main() -> ExitCode {
-    let Options { full, seed, self_test } = Options::read();
-    let lines = lines(full, seed);
-    let good = if self_test { mistakes(&lines) } else { thinnings(&lines) };
-    if good { ExitCode::SUCCESS } else { ExitCode::FAILURE }
+    program(USAGE, Options::read, |Options { full, seed, self_test }| {
+        let lines = lines(full, seed);
+        Ok(if self_test { mistakes(&lines) } else { thinnings(&lines) })
+    })
 }
 
 /// Whether the proved thinning equals the Rust's, and every class of calls is met.

@@ -6,7 +6,9 @@ mod restarts;
 use compare::Place;
 use compare::coverage::Coverage;
 use compare::driver::drive;
+use compare::options::{none, print, program};
 use compare::script::{Call, Script};
+use std::process::ExitCode;
 
 /// Metres east and north of where a ride begins.
 type Spot = (i64, i64);
@@ -25,13 +27,21 @@ struct Rider {
     replays: bool,
 }
 
-fn main() {
+const USAGE: &str = "\
+usage: recorded
+Prints the script of the stored ride, which the proved program `recorded` is run on.
+";
+
+fn main() -> ExitCode {
+    program(USAGE, none, |()| print(script()?.to_string()).map(|()| true))
+}
+
+fn script() -> Result<Script, String> {
     let script = Script { capacity: 16, room: 24, calls: rides() };
     let mut coverage = Coverage::default();
-    let driven = drive(&script, false, &mut coverage, &mut String::new());
-    assert_eq!(driven, Ok(()));
-    assert_eq!(coverage.unmet(), [""; 0], "classes that no call meets");
-    print!("{script}");
+    drive(&script, false, &mut coverage, &mut String::new())?;
+    let unmet = coverage.unmet();
+    if unmet.is_empty() { Ok(script) } else { Err(format!("no call met: {}", unmet.join("; "))) }
 }
 
 fn rides() -> Vec<Call> {
