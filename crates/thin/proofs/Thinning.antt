@@ -53,13 +53,13 @@ answer-refused size t l h = rw (h, answer)
 
 -- ---- the code, a pass at a time
 module _ {p n r : ℕ} {t : Float} {entry exit : List Float} (d : Passed (ltb 17 p) t n entry exit r) where
-  measured : p ≤ 17 → crumbs r exit ≡ measuringPass t (crumbs n entry)
+  was-measured : p ≤ 17 → crumbs r exit ≡ measuringPass t (crumbs n entry)
   unfolding step measuringPass
-  measured h = d .kept ∙ rw (le-ltb 17 p h, step)
+  was-measured h = d .kept ∙ rw (le-ltb 17 p h, step)
 
-  halved : 17 < p → crumbs r exit ≡ halvingPass (crumbs n entry)
+  was-halved : 17 < p → crumbs r exit ≡ halvingPass (crumbs n entry)
   unfolding step halvingPass
-  halved h = d .kept ∙ rw (lt-ltb 17 p h, step)
+  was-halved h = d .kept ∙ rw (lt-ltb 17 p h, step)
 
 -- what the loop carries on: the passes from here on are the thinning
 pub record Going (len : ℕ) (t : Float) (most : ℕ) (buf₀ buf : List Float) (kept : ℕ) (d : Float) (passes : ℕ) : Type 0 where
@@ -112,14 +112,14 @@ module _ {len : ℕ} {t : Float} {most : ℕ} {buf₀ buf : List Float} {kept : 
         decide (no h) =
             absurd
             (let a = asked (length buf₀) len t (g .admitted) in
-            let e = count (halved {p = p} q (omega arith)) in
+            let e = count (was-halved {p = p} q (omega arith)) in
             let few = halving-room (capacity (length buf₀)) (crumbs kept buf) (a .least) (omega (arith, length-crumbs kept buf, g .fewer, a .fits)) in
             omega (arith, g .aim))
 
     pub going-on : most < r → Going len t most buf₀ exit r (doubled d) (p + 1)
     going-on more =
         let early = not-last more in
-        let e = measured q early in
+        let e = was-measured q early in
         record {
           same =
               ap (passesFrom most (p + 1) (18 - (p + 1)) (doubled d)) e
@@ -138,12 +138,12 @@ module _ {len : ℕ} {t : Float} {most : ℕ} {buf₀ buf : List Float} {kept : 
         decide : Dec (p ≤ 17) → thinned len t buf₀ ≡ record { left = crumbs r exit; tolerance = d; passes = p }
         decide (yes h) =
             sym (g .same)
-            ∙ (rule-stop most p d (crumbs kept buf) h (omega (arith, count (measured q h)))
-            ∙ ap (λ l. record { left = l; tolerance = d; passes = p }) (sym (measured q h)))
+            ∙ (rule-stop most p d (crumbs kept buf) h (omega (arith, count (was-measured q h)))
+            ∙ ap (λ l. record { left = l; tolerance = d; passes = p }) (sym (was-measured q h)))
         decide (no h) =
             sym (g .same)
             ∙ (rule-last most p d (crumbs kept buf) (omega (arith, g .high))
-            ∙ ap (λ l. record { left = l; tolerance = d; passes = p }) (sym (halved {p = p} q (omega arith))))
+            ∙ ap (λ l. record { left = l; tolerance = d; passes = p }) (sym (was-halved {p = p} q (omega arith))))
 
     pub thin-done : r ≤ most → ThinDone len t buf₀ exit (Left r d p)
     thin-done few =
