@@ -6,11 +6,11 @@ use mathlib.Core.Logic.{_≢_}
 use native.Mathlib.Omega.{arith}
 use native.Mathlib.Numerals.{add-one}
 use native.Mathlib.Decide.{ℕ-discrete}
-use lib.ListN.{length, getD, take, drop, set, length-set, length-take, length-drop}
+use lib.ListN.{length, getD, take, drop, set, length-set, length-take}
 use lib.Seq.{drop-cons, drop-drop, getD-drop, getD-take, getD-set-same, getD-set-other, drop-set-lt, take-suc-set, take-all, ext-getD}
 use lib.Ieee.{Float, nan}
 use Rattle.crumbs.specs.declared.Crumb.{Crumb}
-use Rattle.crumbs.specs.Crumb.{stride, capacity, crumbAt, putAt, crumbs, inFront, behind, between, Front}
+use Rattle.crumbs.specs.Crumb.{stride, capacity, crumbAt, putAt, crumbs, inFront, behind, Front}
 
 crumb-path : {x y : Crumb} → x .east ≡ y .east → x .north ≡ y .north → x .along ≡ y .along → x ≡ y
 crumb-path p q r = λ i. record { east = p i; north = q i; along = r i }
@@ -171,9 +171,21 @@ behind-more n m a b h e =
     ∙ (sym (drop-drop (stride * (m - n)) (stride * n) a)
     ∙ (ap (drop (stride * (m - n))) e ∙ (drop-drop (stride * (m - n)) (stride * n) b ∙ ap (λ i. drop i b) k)))
 
-pub length-between : (k n : ℕ) (a b : List Float) → length a ≡ length b → length (between k n a) ≡ length (between k n b)
-unfolding between inFront behind
-length-between k n a b e = simp (length-take, length-drop, e)
+-- and so is each crumb there
+number-behind : (n k : ℕ) (a b : List Float) → stride * n ≤ k → behind n a ≡ behind n b → getD a k nan ≡ getD b k nan
+unfolding behind
+number-behind n k a b h e =
+    let j : stride * n + (k - stride * n) ≡ k = omega arith in
+    sym (getD-drop (stride * n) a (k - stride * n) nan ∙ ap (λ i. getD a i nan) j)
+    ∙ (ap (λ m. getD m (k - stride * n) nan) e ∙ (getD-drop (stride * n) b (k - stride * n) nan ∙ ap (λ i. getD b i nan) j))
+
+pub crumb-behind : (n i : ℕ) (a b : List Float) → n ≤ i → behind n a ≡ behind n b → crumbAt a i ≡ crumbAt b i
+unfolding crumbAt
+crumb-behind n i a b h e =
+    crumb-path
+    (number-behind n (stride * i) a b (omega arith) e)
+    (number-behind n (stride * i + 1) a b (omega arith) e)
+    (number-behind n (stride * i + 2) a b (omega arith) e)
 
 -- ---- the front part that is returned
 pub front-whole : (n : ℕ) (b : List Float) → n ≤ capacity (length b) → Front n b (inFront n b)

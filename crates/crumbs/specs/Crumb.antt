@@ -1,6 +1,6 @@
 -- Document 01, "Crumb": "A crumb is east, north and along, three f32 in metres. The caller lends one f32 buffer, three numbers a crumb."
 -- How crumbs lie in a buffer, and the list of crumbs that a buffer holds.
-use Prim.Native.Nat.{ℕ, zero, suc, _+_, _-_, _*_, _/_, _%_, _≤_, _<_}
+use Prim.Native.Nat.{ℕ, zero, suc, _+_, _*_, _/_, _%_, _≤_, _<_}
 use mathlib.Core.Path.{_≡_}
 use mathlib.Core.Bool.{Bool}
 use mathlib.Core.List.{List, [], _∷_}
@@ -42,10 +42,6 @@ inFront n b = take (stride * n) b
 -- the numbers behind the first n crumbs
 unfoldable pub behind : ℕ → List Float → List Float
 behind n b = drop (stride * n) b
-
--- the numbers from place k up to place n
-unfoldable pub between : ℕ → ℕ → List Float → List Float
-between k n b = inFront (n - k) (behind k b)
 
 -- where a crumb lies in the plane
 abbrev pub point : Crumb → Point

@@ -17,7 +17,7 @@ use Rattle.journal.proofs.History.{holds}
 use Rattle.journal.proofs.Programs.{history-of, run-last}
 use Rattle.homing.specs.declared.Changed.{Changed}
 use Rattle.homing.specs.Promises.{MakesNew}
-use Rattle.history.specs.History.{front, held, Holds, Ran, new, called}
+use Rattle.history.specs.History.{front, held, Holds, Ran, new, called, EveryHistory}
 
 -- the places of the front part are those of the crumbs held
 held-crumbs : (h : Homing) (b : List Float) → h .trail .len ≤ capacity (length b) → held h b ≡ map point (stateOf h b .track .crumbs)
@@ -38,7 +38,12 @@ module _ (C : ℕ) (least : 8 ≤ C) (most : C ≤ 4096) (cs : List Call) (h : H
   holds-same long e =
       let room : h .trail .len ≤ C = few e in
       let within : h .trail .len ≤ capacity (length b) = omega arith in
-      record { same = e; within = within; claim = rw (held-crumbs h b within) (history-of C least most cs (stateOf h b) e) }
+      record {
+        same = e;
+        within = within;
+        places = held-crumbs h b within ∙ ap (λ (s : State). map point (s .track .crumbs)) e;
+        claim = rw (held-crumbs h b within) (history-of C least most cs (stateOf h b) e);
+      }
 
 -- the guide that `new` makes begins one
 pub made : {C : ℕ} {b : List Float} {r : Changed} → length b ≡ stride * C → MakesNew b r → Ran C [] (r .homing) b
@@ -61,5 +66,5 @@ as-journal {C} (new size empty) = empty ∙ sym (none-yet C)
 as-journal {C} (called {cs} c ran did) =
     did .same ∙ (ap₂ (λ (n : ℕ) (s : State). turn n c s .state) (long ran) (as-journal ran) ∙ one-more C cs c)
 
-pub ran-holds : (C : ℕ) → 8 ≤ C → C ≤ 4096 → (cs : List Call) (h : Homing) (b : List Float) → Ran C cs h b → Holds C cs h b
+pub ran-holds : EveryHistory
 ran-holds C least most cs h b ran = holds-same C least most cs h b (long ran) (as-journal ran)

@@ -28,6 +28,8 @@ pub record Holds (C : ℕ) (cs : List Call) (h : Homing) (b : List Float) : Type
   pub same : stateOf h b ≡ journal C cs .state
   -- those all lie in the buffer
   pub within : h .trail .len ≤ capacity (length b)
+  -- the places held are, in order and to the bit, those that the journal then holds
+  pub places : held h b ≡ map point (journal C cs .state .track .crumbs)
   pub claim : Claim C (journal C cs .notes) (held h b)
 
 -- `Ran C cs h b`: a new guide on a buffer for C crumbs, whatever that held, came by the calls cs, in this order, to the state h and the buffer b. Each
@@ -35,3 +37,7 @@ pub record Holds (C : ℕ) (cs : List Call) (h : Homing) (b : List Float) : Type
 pub data Ran (C : ℕ) : List Call → Homing → List Float → Type 0 where
   new : {h : Homing} {b : List Float} → length b ≡ stride * C → stateOf h b ≡ rule.new → Ran C [] h b
   called : {cs : List Call} {h r : Homing} {b b′ : List Float} (c : Call) → Ran C cs h b → Called c h b r b′ → Ran C (cs ++ c ∷ []) r b′
+
+-- every way to come by calls to a state and a buffer, of every capacity a guide may have
+abbrev pub EveryHistory : Type 0
+EveryHistory = (C : ℕ) → 8 ≤ C → C ≤ 4096 → (cs : List Call) (h : Homing) (b : List Float) → Ran C cs h b → Holds C cs h b

@@ -16,6 +16,7 @@ use Rattle.segments.specs.declared.Best.{Best}
 use Rattle.segments.specs.declared.Best.the-variants.{Nothing, Found}
 use Rattle.trail.specs.Trail.{toleranceM}
 use Rattle.trail.specs.Trail as trail
+use Rattle.trail.proofs.Theorems.{Holding, holding}
 use Rattle.state.specs.declared.Line.{Line}
 use Rattle.state.specs.declared.Line.the-variants as line
 use Rattle.state.specs.State.{State, withAutoFollow}
@@ -97,7 +98,7 @@ module _ {C : ℕ} where
             };
       }
 
-  off-course : (l : Line) (s : State) → Holds C s → Quiet C (s .track .crumbs) (offCourse l s)
+  off-course : (l : Line) (s : State) → Holds C s → Quiet C (holding (s .track)) (offCourse l s)
   unfolding offCourse
   off-course line.Course s h = stop-course s h
   off-course line.Nothing s h = record { same = refl; sound = h }
@@ -107,7 +108,7 @@ module _ {C : ℕ} where
   unfolding setCourse
   set-course xs s h = let q = off-course (s .follow .line) s h in quiet tt (record { same = q .same; sound = q .sound })
 
-  silenced : {A : Type 0} {l : List Crumb} (d : Done A) → Ran C l d → Ran C l (silent d)
+  silenced : {A : Type 0} {x : Holding} (d : Done A) → Ran C x d → Ran C x (silent d)
   silenced d r = record { trace = r .trace; sound = r .sound }
 
 -- ---- all of them

@@ -10,6 +10,7 @@ use Rattle.plane.specs.declared.Spot.{Spot}
 use Rattle.plane.specs.declared.Spot.the-variants as spot
 use Rattle.crumbs.specs.declared.Crumb.{Crumb}
 use Rattle.motion.specs.Heading.{elapsed}
+use Rattle.trail.proofs.Theorems.{Holding, holding}
 use Rattle.state.specs.declared.Place.{Place}
 use Rattle.state.specs.declared.Place.the-variants as place
 use Rattle.state.specs.declared.Line.{Line}
@@ -34,11 +35,11 @@ module _ {C : ℕ} where
   unfolding missing cleared
   missing-good now s h = by (isAt (s .here) && ltb fixLostMs (elapsed now (s .hereMs)))
     where
-      by : (b : Bool) → Ran C (s .track .crumbs) (done event.Nothing (cond b (cleared s) s))
+      by : (b : Bool) → Ran C (holding (s .track)) (done event.Nothing (cond b (cleared s) s))
       by true = still event.Nothing (cleared s) h
       by false = still event.Nothing s h
 
-  tells : {l : List Crumb} (d : Done Event) → Ran C l d → Ran C l (tellFollowing d)
+  tells : {x : Holding} (d : Done Event) → Ran C x d → Ran C x (tellFollowing d)
   unfolding tellFollowing
   tells d r = record { trace = r .trace; sound = r .sound }
 
@@ -77,10 +78,11 @@ module _ (C : ℕ) (least : 3 ≤ C) (course : List Crumb) (now : ℕ) where
     engaged-back true s h = tells _ (update-good C least course p now s h)
     engaged-back false s h = add-update s h
 
-    retraced-good : (b : Bool) (s : State) → Holds C s → (b ≡ true → 1 ≤ s .track .retraceLen) → Ran C (s .track .crumbs) (retraced b C course p now s)
+    retraced-good : (b : Bool) (s : State) → Holds C s → (b ≡ true → 1 ≤ s .track .retraceLen)
+        → Ran C (holding (s .track)) (retraced b C course p now s)
     unfolding retraced turnedBack forgotten cutTo
     retraced-good true s h some =
-        cut-then (s .track .retraceLen) (s .track .crumbs) _ (some refl)
+        cut-then (s .track .retraceLen) (holding (s .track)) _ (some refl)
         (then (engage-good course now (turnedBack s) (turned-holds s h)) λ b after k. engaged-back b after k)
     retraced-good false s h some = add-update s h
 

@@ -1,24 +1,24 @@
 -- Following begun and ended: the breadcrumb is followed from a segment of it, and cut to a crumb or more. Assumes nothing.
-use Prim.Native.Nat.{ℕ, zero, suc, _-_, _≤_}
-use mathlib.Core.Path.{_≡_, refl, sym, ap}
+use Prim.Native.Nat.{ℕ, _-_, _≤_}
+use mathlib.Core.Path.{_≡_, refl, sym}
 use mathlib.Core.Bool.{Bool, true, false, _&&_, cond}
-use mathlib.Core.List.{List, [], _∷_, map}
+use mathlib.Core.List.{List}
 use native.Mathlib.Omega.{arith}
 use borrow.Author.Tests.{leb-true}
-use lib.ListN.{length, take, length-take}
+use lib.ListN.{length, length-take}
 use Rattle.plane.specs.declared.Spot.{Spot}
 use Rattle.plane.specs.declared.Spot.the-variants.{At, Nowhere}
 use Rattle.crumbs.specs.declared.Crumb.{Crumb}
-use Rattle.crumbs.specs.Crumb.{point}
 use Rattle.trail.specs.Trail.{Track}
 use Rattle.trail.proofs.Theorems as track
+use Rattle.trail.proofs.Theorems.{Holding, holding}
 use Rattle.state.specs.declared.Line.{Line}
 use Rattle.state.specs.declared.Line.the-variants as line
 use Rattle.state.specs.State.{State}
 use Rattle.state.specs.Rule.{Done, done}
 use Rattle.follow.specs.Parts.{leads, stopped}
 use Rattle.follow.specs.Engage.{engageAt, engage, cutTo, leaveAt, forgotten, stopNothing, stopCourse, stopBreadcrumb, stopOn, stop}
-use Rattle.journal.proofs.Trace.{impossible, cut}
+use Rattle.journal.proofs.Trace.{impossible, front, cut}
 use Rattle.journal.proofs.Sound.{Holds, Ran, Good, Quiet, still, quiet}
 use Rattle.journal.proofs.Recording.{keep-good}
 
@@ -34,7 +34,7 @@ last-segment l e = omega (arith, leb-true 2 (length l) (and-left _ _ e))
 
 module _ {C : ℕ} where
   pub engaged : (course : List Crumb) (on : Line) (end now : ℕ) (s : State) → Holds C s → (on ≡ line.Breadcrumb → 1 ≤ end)
-      → Quiet C (s .track .crumbs) (engageAt course on end now s)
+      → Quiet C (holding (s .track)) (engageAt course on end now s)
   unfolding engageAt
   engaged course on end now s h some = record { same = refl; sound = record { track = h .track; segment = some; back = h .back } }
 
@@ -43,7 +43,8 @@ module _ {C : ℕ} where
   engage-good course now s h = by (leads (s .track .crumbs)) refl
     where
       by : (b : Bool) → leads (s .track .crumbs) ≡ b
-          → Ran C (s .track .crumbs) (cond b (done true (engageAt course line.Breadcrumb (length (s .track .crumbs) - 1) now s)) (done false s))
+          → Ran C (holding (s .track))
+          (cond b (done true (engageAt course line.Breadcrumb (length (s .track .crumbs) - 1) now s)) (done false s))
       by true e = quiet true (engaged course line.Breadcrumb _ now s h (λ _. last-segment (s .track .crumbs) e))
       by false e = still false s h
 
@@ -55,17 +56,12 @@ pub course-followed : {A : Type 0} → line.Course ≡ line.Breadcrumb → A
 course-followed e = impossible (cc)
 
 -- ---- ended
-map-take : (n : ℕ) (l : List Crumb) → map point (take n l) ≡ take n (map point l)
-map-take zero l = refl
-map-take (suc n) [] = refl
-map-take (suc n) (a ∷ l) = ap (λ r. point a ∷ r) (map-take n l)
-
 module _ {C : ℕ} where
-  pub stop-nothing : (s : State) → Holds C s → Quiet C (s .track .crumbs) (stopNothing s)
+  pub stop-nothing : (s : State) → Holds C s → Quiet C (holding (s .track)) (stopNothing s)
   unfolding stopNothing stopped
   stop-nothing s h = record { same = refl; sound = record { track = h .track; segment = nothing-followed; back = h .back } }
 
-  pub stop-course : (s : State) → Holds C s → Quiet C (s .track .crumbs) (stopCourse s)
+  pub stop-course : (s : State) → Holds C s → Quiet C (holding (s .track)) (stopCourse s)
   unfolding stopCourse stopped
   stop-course s h = record { same = refl; sound = record { track = h .track; segment = nothing-followed; back = h .back } }
 
@@ -89,23 +85,23 @@ module _ {C : ℕ} where
   forgotten-sound t h = record { held = h .held; waiting = omega arith; tolerance = h .tolerance }
 
   -- a cut to a crumb or more, and then what is done to what is left
-  pub cut-then : {A : Type 0} (n : ℕ) (l : List Crumb) (d : Done A) → 1 ≤ n → Ran C (take n l) d → Ran C l d
-  cut-then n l d some r = record { trace = cut n some (rw map-take at (r .trace)); sound = r .sound }
+  pub cut-then : {A : Type 0} (n : ℕ) (x : Holding) (d : Done A) → 1 ≤ n → Ran C (front n x) d → Ran C x d
+  cut-then n x d some r = record { trace = cut n some (r .trace); sound = r .sound }
 
 module _ (C : ℕ) (least : 3 ≤ C) where
   leave-good : (matched : Spot) (segment : ℕ) → 1 ≤ segment → Good C (leaveAt C matched segment)
   unfolding leaveAt cutTo
   leave-good Nowhere segment some s h = still tt s h
   leave-good (At p) segment some s h =
-      cut-then segment (s .track .crumbs) _ some (keep-good C least p (cutTo segment s) (cut-sound segment s h))
+      cut-then segment (holding (s .track)) _ some (keep-good C least p (cutTo segment s) (cut-sound segment s h))
 
-  stop-breadcrumb : (s : State) → Holds C s → 1 ≤ s .follow .segment → Ran C (s .track .crumbs) (stopBreadcrumb C s)
+  stop-breadcrumb : (s : State) → Holds C s → 1 ≤ s .follow .segment → Ran C (holding (s .track)) (stopBreadcrumb C s)
   unfolding stopBreadcrumb stopped forgotten
   stop-breadcrumb s h some =
       leave-good (s .follow .matched) (s .follow .segment) some _
       (record { track = forgotten-sound (s .track) (h .track); segment = nothing-followed; back = λ n. absurd (omega arith) })
 
-  stop-on : (l : Line) (s : State) → l ≡ s .follow .line → Holds C s → Ran C (s .track .crumbs) (stopOn l C s)
+  stop-on : (l : Line) (s : State) → l ≡ s .follow .line → Holds C s → Ran C (holding (s .track)) (stopOn l C s)
   unfolding stopOn
   stop-on line.Nothing s e h = quiet tt (stop-nothing s h)
   stop-on line.Course s e h = quiet tt (stop-course s h)

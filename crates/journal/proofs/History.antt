@@ -1,4 +1,4 @@
--- Demand 3: of every list of calls, refused ones among them, whatever their arguments and lent lines, the claim holds. Assumes nothing.
+-- Demand 3: the claim holds of every list of calls. Assumes nothing.
 use Prim.Native.Nat.{ℕ, _*_, _≤_}
 use mathlib.Core.Path.{_≡_}
 use mathlib.Core.List.{List, [], _∷_}
@@ -7,7 +7,7 @@ use Rattle.crumbs.specs.Crumb.{stride, capacity}
 use Rattle.trail.specs.Trail.{fresh}
 use Rattle.calls.specs.Line.{new}
 use Rattle.calls.specs.Calls.{Call}
-use Rattle.journal.specs.Claim.{Claim}
+use Rattle.journal.specs.Claim.{Claim, EveryHistory}
 use Rattle.journal.specs.Journal.{run, journal, held}
 use Rattle.journal.proofs.Trace.{claim}
 use Rattle.journal.proofs.Sound.{Holds, Good, still, then}
@@ -43,6 +43,5 @@ module _ (C : ℕ) (least : 3 ≤ C) where
   unfolding journal new fresh
   claimed calls = claim (run-good calls new (new-holds C) .trace)
 
--- of every capacity a guide may have
-pub history : (C : ℕ) → 8 ≤ C → C ≤ 4096 → (calls : List Call) → Claim C (journal C calls .notes) (held (journal C calls .state))
+pub history : EveryHistory
 history C least most calls = claimed C (omega arith) calls

@@ -14,6 +14,7 @@ use Rattle.crumbs.specs.declared.Crumb.{Crumb}
 use Rattle.search.specs.declared.Join.{Join}
 use Rattle.search.specs.declared.Join.the-variants.{Segment, NoSegment}
 use Rattle.trail.specs.Trail.{Track}
+use Rattle.trail.proofs.Theorems.{Holding, holding}
 use Rattle.state.specs.State.{State, withTrack}
 use Rattle.state.specs.Rule.{Done, done}
 use Rattle.joining.specs.Join.{joinOn, joining, withRetrace, retracing, retraceFixes}
@@ -52,8 +53,8 @@ len-before t two h = by (eqb (t .retrace) 0) refl
     by false e = h (omega (arith, eqb-false (t .retrace) 0 e))
 
 -- Once a turn-round is told, there is a length to go back to.
-pub record Told (C : ℕ) (l : List Crumb) (d : Done Bool) : Type 0 where
-  pub ran : Ran C l d
+pub record Told (C : ℕ) (x : Holding) (d : Done Bool) : Type 0 where
+  pub ran : Ran C x d
   pub some : d .answer ≡ true → 1 ≤ d .state .track .retraceLen
 
 module _ {C : ℕ} where
@@ -66,12 +67,12 @@ module _ {C : ℕ} where
         back = b;
       }
 
-  pub retracing-told : (p : Point) (s : State) → Holds C s → Told C (s .track .crumbs) (retracing p s)
+  pub retracing-told : (p : Point) (s : State) → Holds C s → Told C (holding (s .track)) (retracing p s)
   unfolding retracing withRetrace
   retracing-told p s h = by (ridesBack (s .motion .heading) (s .track .crumbs) p) refl
     where
       by : (b : Bool) → ridesBack (s .motion .heading) (s .track .crumbs) p ≡ b
-          → Told C (s .track .crumbs)
+          → Told C (holding (s .track))
           (cond b
           (done (leb retraceFixes (s .track .retrace + 1)) (withTrack (withRetrace (s .track .retrace + 1) (lenBefore (s .track)) (s .track)) s))
           (done false (withTrack (withRetrace 0 (s .track .retraceLen) (s .track)) s)))

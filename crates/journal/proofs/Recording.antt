@@ -1,12 +1,12 @@
 -- A crumb kept, a place added, the window flushed, in the whole state: each keeps at most one crumb, behind a thinning where there is no room. Assumes nothing.
 use Prim.Native.Nat.{ℕ, _≤_}
-use mathlib.Core.Path.{_≡_, refl, sym, ap, _∙_}
+use mathlib.Core.Path.{_≡_, refl}
 use mathlib.Core.Bool.{Bool, true, false}
-use mathlib.Core.List.{List, [], _∷_, _++_, map, map-append}
+use mathlib.Core.List.{List}
 use mathlib.Core.Option.{Option, none, some}
 use native.Mathlib.Omega.{arith}
 use native.Mathlib.Decide.{ℕ-discrete}
-use lib.ListN.{length, length-map}
+use lib.ListN.{length}
 use Rattle.plane.specs.declared.Point.{Point}
 use Rattle.crumbs.specs.declared.Crumb.{Crumb}
 use Rattle.crumbs.specs.Crumb.{point}
@@ -16,14 +16,14 @@ use Rattle.trail.specs.Trail.{Track, thin, put, wait}
 use Rattle.trail.specs.Trail as trail
 use Rattle.trail.proofs.Rules.{keep-full, keep-room, flush-none, flush-some, bends, simplify-bends, simplify-straight, add-first, near, add-near, add-far}
 use Rattle.trail.proofs.Theorems as track
-use Rattle.trail.proofs.Theorems.{Keeps, room, full, MayKeep, nothing, one}
+use Rattle.trail.proofs.Theorems.{Holding, holding, Keeps, room, full, MayKeep, nothing, one}
 use Rattle.state.specs.declared.Line.{Line}
 use Rattle.state.specs.declared.Line.the-variants.{Nothing, Breadcrumb, Course}
 use Rattle.state.specs.declared.Follow.{Follow}
 use Rattle.state.specs.State.{State}
 use Rattle.follow.specs.Parts.{left}
 use Rattle.follow.specs.Record.{afterThinning, recordedIn, recorded, keep, add, flush}
-use Rattle.journal.proofs.Trace.{impossible, Chooses, Trace, over, kept, thinned, same}
+use Rattle.journal.proofs.Trace.{impossible, Trace, over, kept, thinned}
 use Rattle.journal.proofs.Sound.{Sound, Ran, Good}
 
 -- ---- the turn-round
@@ -79,29 +79,17 @@ after-segment true f h on = left-segment (f .line) f refl h on
 after-segment false f h on = h on
 
 -- ---- the crumbs
-behind : (l : List Crumb) (c : Crumb) (p : Point) → point c ≡ p → map point l ++ p ∷ [] ≡ map point (l ++ c ∷ [])
-behind l c p e = sym (map-append point l (c ∷ []) ∙ ap (λ q. map point l ++ q ∷ []) e)
-
 module _ {C : ℕ} where
-  keeps-trace : {p : Point} {l m : List Crumb} {notes : List Note} → Keeps C p l m notes → Trace C (map point l) notes (map point m)
-  keeps-trace {p} {l} (room c e ne) = kept p (same (behind l c p e))
-  keeps-trace {p} {l} (full m n d e f h) =
-      let c : Chooses C (map point l) n m =
-      record {
-        full = omega (arith, length-map l point);
-        thins = record { some-pass = h .some-pass; few-passes = h .few-passes; few-left = h .few-left };
-        choice = h .choice;
-        begins = h .begins;
-      }
-      in
-      thinned n m p c (same (behind m d p e))
+  keeps-trace : {p : Point} {x y : Holding} {notes : List Note} → Keeps C p x y notes → Trace C x notes y
+  keeps-trace {p} (room c e ne) = kept p c e over
+  keeps-trace {p} (full y n c e f d) = thinned n y p c e f d over
 
-  may-trace : {l m : List Crumb} {notes : List Note} → MayKeep C l m notes → Trace C (map point l) notes (map point m)
+  may-trace : {x y : Holding} {notes : List Note} → MayKeep C x y notes → Trace C x notes y
   may-trace nothing = over
   may-trace (one p k) = keeps-trace k
 
-  records : (d : trail.Done) (s : State) → Sound C (s .track) (s .follow) → MayKeep C (s .track .crumbs) (d .track .crumbs) (d .notes) → track.Sound C (d .track)
-      → Back (d .track) → Ran C (s .track .crumbs) (recorded d s)
+  records : (d : trail.Done) (s : State) → Sound C (s .track) (s .follow) → MayKeep C (holding (s .track)) (holding (d .track)) (d .notes)
+      → track.Sound C (d .track) → Back (d .track) → Ran C (holding (s .track)) (recorded d s)
   unfolding recorded recordedIn
   records d s h k t b =
       record {

@@ -14,6 +14,7 @@ use Rattle.segments.specs.declared.Best.{Best}
 use Rattle.segments.specs.declared.Best.the-variants.{Nothing, Found}
 use Rattle.search.specs.declared.Range.{Range}
 use Rattle.segments.specs.Constants.{dropM}
+use Rattle.trail.proofs.Theorems.{holding}
 use Rattle.search.proofs.Theorems.{breadcrumb-met}
 use Rattle.search.proofs.course_match.Theorems.{course-met}
 use Rattle.state.specs.declared.Line.{Line}
@@ -64,17 +65,19 @@ widened-end course p near s h = by (s .follow .off || lt offM (near .off))
 
 -- ---- the guide made
 module _ {C : ℕ} where
-  arrival : (was long : Bool) (straight : Float) (e : Event) (s : State) → Holds C s → Quiet C (s .track .crumbs) (arrivalFrom was long straight e s .state)
+  arrival : (was long : Bool) (straight : Float) (e : Event) (s : State) → Holds C s
+      → Quiet C (holding (s .track)) (arrivalFrom was long straight e s .state)
   unfolding arrivalFrom offCleared
   arrival true long straight e s h = by (lt leaveM straight)
     where
-      by : (b : Bool) → Quiet C (s .track .crumbs) (elim b as (λ _. Done Event) [ true ↦ done e (withArrived false s) | false ↦ done e s ] .state)
+      by : (b : Bool)
+          → Quiet C (holding (s .track)) (elim b as (λ _. Done Event) [ true ↦ done e (withArrived false s) | false ↦ done e s ] .state)
       by true = record { same = refl; sound = h }
       by false = record { same = refl; sound = h }
   arrival false long straight e s h = by (long && lt straight arriveM)
     where
       by : (b : Bool)
-          → Quiet C (s .track .crumbs)
+          → Quiet C (holding (s .track))
           (elim b as (λ _. Done Event) [ true ↦ done event.Arrived (withArrived true (withFollow (offCleared (s .follow)) s)) | false ↦ done e s ] .state)
       by true = record { same = refl; sound = record { track = h .track; segment = h .segment; back = h .back } }
       by false = record { same = refl; sound = h }

@@ -1,3 +1,3 @@
 pub mod Kept
-pub mod Claim
 pub mod Journal
+pub mod Claim

@@ -20,7 +20,7 @@ use Rattle.crumbs.specs.Choice.{last}
 use Rattle.trail.specs.Notes.{Note, thinnedIn}
 use Rattle.trail.specs.Trail.{Track, withCrumbs, fresh, toleranceM, thin, put, keep, flush, wait, simplify, add, reset}
 use Rattle.trail.proofs.Rules.{keep-full, keep-room, flush-none, flush-some, bends, simplify-bends, simplify-straight, add-first, near, add-near, add-far}
-use Rattle.trail.proofs.Theorems.{Sound, thin-sound, flush-sound, MayKeep, nothing, one, Keeps, full}
+use Rattle.trail.proofs.Theorems.{Sound, thin-sound, flush-sound, Holding, MayKeep, nothing, one, Keeps, full}
 use Rattle.trail.proofs.Theorems as trail
 use Rattle.follow.specs.Engage.{forgotten}
 use Rattle.joining.specs.Join.{retraceFixes, withRetrace}
@@ -213,10 +213,12 @@ retrace-fits t k = rw (lt-ltb _ _ (k .few)) (by (ℕ-discrete (t .retrace) 0))
     by (no ne) = rw (ne-eqb _ _ ne) (le-leb _ _ (k .back ne))
 
 -- ---- where no thinning is noted, no crumb is gone
-keeps-grows : (C : ℕ) (p : Point) (l m : List Crumb) (notes : List Note) → Keeps C p l m notes → thinnedIn notes ≡ false → length l ≤ length m
-keeps-grows C p l m notes (trail.room c e ne) t = simp length-append (omega arith)
-keeps-grows C p l m notes (full left n c e is leaves) t = absurd (true≢false t)
+keeps-grows : (C : ℕ) (p : Point) (x y : Holding) (notes : List Note) → Keeps C p x y notes → thinnedIn notes ≡ false
+    → length (x .crumbs) ≤ length (y .crumbs)
+keeps-grows C p x y notes (trail.room c e ne) t = simp length-append (omega arith)
+keeps-grows C p x y notes (full z n c e is leaves) t = absurd (true≢false t)
 
-pub grows : (C : ℕ) (l m : List Crumb) (notes : List Note) → MayKeep C l m notes → thinnedIn notes ≡ false → length l ≤ length m
-grows C l m notes nothing t = omega arith
-grows C l m notes (one p k) t = keeps-grows C p l m notes k t
+pub grows : (C : ℕ) (x y : Holding) (notes : List Note) → MayKeep C x y notes → thinnedIn notes ≡ false
+    → length (x .crumbs) ≤ length (y .crumbs)
+grows C x y notes nothing t = omega arith
+grows C x y notes (one p k) t = keeps-grows C p x y notes k t

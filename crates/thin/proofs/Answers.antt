@@ -24,7 +24,7 @@ pub record LeftIs (n : ℕ) (t : Float) (entry exit : List Float) (k : ℕ) (d :
   pub tolerance : d ≡ thinned n t entry .tolerance
   pub passes : p ≡ thinned n t entry .passes
   pub fewer : k ≤ n
-  pub rule : Thins (capacity (length entry)) (crumbs n entry) (thinned n t entry)
+  pub rule : Thins (capacity (length entry)) t (crumbs n entry) (thinned n t entry)
 
 says-left : (r : Thinned) (k : ℕ) (d : Float) (p : ℕ) → says r ≡ left k d p → r ≡ Left k d p
 says-left (Left k′ d′ p′) k d p e = cc

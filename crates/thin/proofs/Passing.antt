@@ -5,14 +5,16 @@ use mathlib.Core.Bool.{Bool, true}
 use mathlib.Core.List.{List, [], _∷_, _++_, append-assoc, append-nil}
 use native.Mathlib.Omega.{arith}
 use native.Mathlib.Numerals.{add-one}
+use native.Mathlib.Decide.{ℕ-discrete}
 use lib.ListN.{length, take, drop, set, drop-of-length-le}
 use lib.Seq.{drop-drop, drop-set-lt, take-suc-set}
 use lib.Ieee.{Float}
 use Rattle.crumbs.specs.declared.Crumb.{Crumb}
 use Rattle.crumbs.specs.Crumb.{capacity, crumbAt, putAt, crumbs, behind}
-use Rattle.crumbs.proofs.Crumbs.{length-crumbs, drop-crumbs, take-crumbs, crumbs-put, behind-put, length-put, put-copied}
+use Rattle.crumbs.proofs.Crumbs.{length-crumbs, drop-crumbs, take-crumbs}
+use Rattle.crumbs.proofs.Crumbs.{crumbs-put, behind-put, length-put, put-same, put-other, put-copied}
 use Rattle.thin.specs.Crumb.{twoOn, passBy}
-use Rattle.thin.specs.Promises.{step, Passed}
+use Rattle.thin.specs.Promises.{step, Stood, Passed}
 use Rattle.thin.proofs.Passes.{step-within, pass-drop, pass-none, pass-keep, pass-few}
 use Rattle.thin.proofs.Reaching.{after, length-after}
 
@@ -26,10 +28,27 @@ abbrev toCome : Bool → Float → ℕ → List Float → ℕ → List Crumb
 toCome halve t len buf anchor =
     passBy (step halve t) (step halve t (crumbAt buf anchor) (after buf len anchor) - 1) (after buf len anchor)
 
+-- ---- where each crumb stood before
+pub stood-here : (n : ℕ) (buf : List Float) → Stood n buf buf
+stood-here n buf = record { among = λ i h. (i, (h, refl)) }
+
+pub stood-then : {n : ℕ} {a b c : List Float} → Stood n a b → Stood n b c → Stood n a c
+stood-then p q =
+    record { among = λ i h. let j = q .among i h in let k = p .among (j .0) (j .1 .0) in (k .0, (k .1 .0, j .1 .1 ∙ k .1 .1)) }
+
+-- after a crumb of them was copied to another place of them
+stood-put : (n : ℕ) (buf : List Float) (to from : ℕ) → to < capacity (length buf) → from < n → Stood n buf (putAt buf to (crumbAt buf from))
+stood-put n buf to from fits inside = record { among = λ i h. at i h (ℕ-discrete i to) }
+  where
+    at : (i : ℕ) → i < n → Dec (i ≡ to) → (j : ℕ) × ((j < n) × (crumbAt (putAt buf to (crumbAt buf from)) i ≡ crumbAt buf j))
+    at i h (yes e) = (from, (inside, ap (crumbAt (putAt buf to (crumbAt buf from))) e ∙ put-same buf to (crumbAt buf from) fits))
+    at i h (no ne) = (i, (h, put-other buf to (crumbAt buf from) i ne))
+
 -- What the loop carries on: the crumbs kept so far, and what is still to come, are what the pass leaves.
 pub record Kept (halve : Bool) (t : Float) (len : ℕ) (buf₀ buf : List Float) (kept anchor : ℕ) : Type 0 where
   pub done : take kept (crumbs len buf) ++ toCome halve t len buf anchor ≡ passBy (step halve t) 0 (crumbs len buf₀)
   pub beyond : behind len buf ≡ behind len buf₀
+  pub stood : Stood len buf₀ buf
   pub size : length buf ≡ length buf₀
   pub front : kept ≤ anchor + 1
   pub inside : anchor < len
@@ -42,6 +61,7 @@ module _ {halve : Bool} {t : Float} {len : ℕ} where
       record {
         kept = sym (pass-few (step-within halve t) (crumbs len buf) (omega (arith, length-crumbs len buf)));
         beyond = refl;
+        stood = stood-here len buf;
         size = refl;
       }
 
@@ -53,6 +73,7 @@ module _ {halve : Bool} {t : Float} {len : ℕ} where
             ap (λ l. take 1 l ++ toCome halve t len buf 0) e
             ∙ sym (ap (passBy (step halve t) 0) e ∙ pass-keep (step halve t) (crumbAt buf 0) (after buf len 0));
         beyond = refl;
+        stood = stood-here len buf;
         size = refl;
         front = omega arith;
         inside = h;
@@ -73,6 +94,7 @@ module _ {halve : Bool} {t : Float} {len : ℕ} where
               sym (take-crumbs kept len buf (omega (arith, k)))
               ∙ (sym (append-nil (take kept (crumbs len buf))) ∙ (ap (λ l. take kept (crumbs len buf) ++ l) (sym no-more) ∙ k .done));
           beyond = k .beyond;
+          stood = k .stood;
           size = k .size;
         }
 
@@ -130,6 +152,7 @@ module _ {halve : Bool} {t : Float} {len : ℕ} where
                 ∙ (append-assoc (take kept (crumbs len buf)) (crumbAt buf next ∷ []) (toCome halve t len buf next)
                 ∙ (ap (λ l. take kept (crumbs len buf) ++ l) (sym come) ∙ k .done));
             beyond = behind-put buf kept (crumbAt buf next) len (omega (arith, before, next-inside)) ∙ k .beyond;
+            stood = stood-then (k .stood) (stood-put len buf kept next room next-inside);
             size = length-put buf kept (crumbAt buf next) ∙ k .size;
             front = omega (arith, before);
             inside = next-inside;

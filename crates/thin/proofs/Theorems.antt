@@ -1,19 +1,20 @@
 -- The proof of `specs/Theorems.antt`. Assumes nothing.
-use Prim.Native.Nat.{ℕ, zero, suc, _+_, _≤_}
-use mathlib.Core.Path.{_≡_, refl, _∙_}
+use Prim.Native.Nat.{ℕ, zero, suc, _+_, _-_, _≤_, _<_}
+use mathlib.Core.Path.{_≡_, refl, sym, ap, _∙_}
 use mathlib.Core.Bool.{Bool, true, false}
 use mathlib.Core.List.{List, [], _∷_}
 use native.Mathlib.Omega.{arith}
-use borrow.Author.Tests.{leb-true}
+use native.Mathlib.Decide.{decLe, ℕ-discrete}
+use borrow.Author.Tests.{leb-true, leb-false}
 use lib.Dec.{leb}
 use lib.ListN.{length}
 use lib.Ieee.{Float}
 use Rattle.crumbs.specs.declared.Crumb.{Crumb}
 use Rattle.crumbs.specs.Crumb.{capacity}
 use Rattle.crumbs.specs.Choice.{Choice, first, last}
-use Rattle.crumbs.proofs.Choices.{choice-trans, choice-length}
+use Rattle.crumbs.proofs.Choices.{choice-all, choice-trans, choice-length}
 use Rattle.thin.specs.Crumb.{passBy, measuringPass, halvingPass, doubled, target, Thinning, passesFrom, thinning}
-use Rattle.thin.specs.Theorems.{Thins, EveryThinning, EveryHalving}
+use Rattle.thin.specs.Theorems.{doubledBy, measured, Thins, EveryThinning, EveryHalving}
 use Rattle.thin.proofs.Passes.{Within, reach-within, twoOn-within, pass-choice, pass-first, pass-ends, pass-both, pass-few, halving-length}
 use Rattle.thin.proofs.Asked.{asked}
 
@@ -58,41 +59,115 @@ then p q =
       few = λ h. q .few (omega (arith, choice-length (p .choice))) ∙ p .few h;
     }
 
--- ---- a thinning from pass k on, n more of which may measure
-record From (room k n : ℕ) (l : List Crumb) (w : Thinning) : Type 0 where
-  low : k ≤ w .passes
-  high : w .passes ≤ k + n
-  few-left : length (w .left) ≤ target room
-  line : Passes l (w .left)
+-- ---- measuring passes
+none-made : (l : List Crumb) → Passes l l
+none-made l = record { choice = choice-all l; begins = refl; ends = λ h. refl; both = λ h. h; few = λ h. refl }
 
-module _ (room : ℕ) (least : 3 ≤ room) where
-  from : (k n : ℕ) (t : Float) (l : List Crumb) → length l ≤ room → From room k n l (passesFrom (target room) k n t l)
-  unfolding passesFrom
-  from k zero t l fits = record { low = omega arith; high = omega arith; few-left = halving-room room l least fits; line = halved l }
-  from k (suc n) t l fits =
-      pick (leb (length (measuringPass t l)) (target room)) refl
-      (from (suc k) n (doubled t) (measuringPass t l) (omega (arith, choice-length (measures t l .choice))))
+measured-line : (n : ℕ) (t : Float) (l : List Crumb) → Passes l (measured n t l)
+unfolding measured
+measured-line zero t l = none-made l
+measured-line (suc n) t l = then (measured-line n t l) (measures (doubledBy n t) (measured n t l))
+
+-- ---- a thinning
+module _ (most : ℕ) (t : Float) (l : List Crumb) where
+  -- the thinning w from the line after k measuring passes on, n more of which may measure
+  record From (k n : ℕ) (w : Thinning) : Type 0 where
+    low : suc k ≤ w .passes
+    high : w .passes ≤ suc (k + n)
+    measuring : w .passes ≤ k + n → (w .left ≡ measured (w .passes) t l) × (length (measured (w .passes) t l) ≤ most)
+    halving : w .passes ≡ suc (k + n) → w .left ≡ halvingPass (measured (k + n) t l)
+    above : (j : ℕ) → suc k ≤ j → j < w .passes → most < length (measured j t l)
+    tolerance : w .tolerance ≡ doubledBy (w .passes - 1) t
+
+  -- one more pass measured, and left too many
+  from-failing : {k n : ℕ} {w : Thinning} → most < length (measured (suc k) t l) → From (suc k) n w → From k (suc n) w
+  from-failing {k} {n} {w} more r =
+      let e : k + suc n ≡ suc k + n = omega arith in
+      record {
+        low = omega (arith, r .low);
+        high = omega (arith, r .high);
+        measuring = λ h. r .measuring (omega arith);
+        halving = λ h. r .halving (omega arith) ∙ ap (λ i. halvingPass (measured i t l)) (sym e);
+        above = λ j h b. by j h b (ℕ-discrete j (suc k));
+        tolerance = r .tolerance;
+      }
     where
-      pick : (b : Bool) → leb (length (measuringPass t l)) (target room) ≡ b
-          → From room (suc k) n (measuringPass t l) (passesFrom (target room) (suc k) n (doubled t) (measuringPass t l))
-          → From room k (suc n) l (elim b [
-            | true ↦ record { left = measuringPass t l; tolerance = t; passes = k }
-            | false ↦ passesFrom (target room) (suc k) n (doubled t) (measuringPass t l)
+      by : (j : ℕ) → suc k ≤ j → j < w .passes → Dec (j ≡ suc k) → most < length (measured j t l)
+      by j h b (yes e) = rw e more
+      by j h b (no ne) = r .above j (omega arith) b
+
+  from : (k n : ℕ) → From k n (passesFrom most (suc k) n (doubledBy k t) (measured k t l))
+  unfolding passesFrom measured doubledBy
+  from k zero =
+      let same : k ≡ k + 0 = omega arith in
+      let before : k ≡ suc k - 1 = omega arith in
+      record {
+        low = omega arith;
+        high = omega arith;
+        measuring = λ h. absurd (omega arith);
+        halving = λ h. ap (λ i. halvingPass (measured i t l)) same;
+        above = λ j h b. absurd (omega arith);
+        tolerance = ap (λ i. doubledBy i t) before;
+      }
+  from k (suc n) = pick (leb (length (measured (suc k) t l)) most) refl (from (suc k) n)
+    where
+      pick : (b : Bool) → leb (length (measured (suc k) t l)) most ≡ b
+          → From (suc k) n (passesFrom most (suc (suc k)) n (doubledBy (suc k) t) (measured (suc k) t l))
+          → From k (suc n) (elim b [
+            | true ↦ record { left = measured (suc k) t l; tolerance = doubledBy k t; passes = suc k }
+            | false ↦ passesFrom most (suc (suc k)) n (doubledBy (suc k) t) (measured (suc k) t l)
           ])
-      pick true e r = record { low = omega arith; high = omega arith; few-left = leb-true _ _ e; line = measures t l }
-      pick false e r =
-          record { low = omega (arith, r .low); high = omega (arith, r .high); few-left = r .few-left; line = then (measures t l) (r .line) }
+      pick true e r =
+          let before : k ≡ suc k - 1 = omega arith in
+          record {
+            low = omega arith;
+            high = omega arith;
+            measuring = λ h. (refl, leb-true _ _ e);
+            halving = λ h. absurd (omega arith);
+            above = λ j h b. absurd (omega arith);
+            tolerance = ap (λ i. doubledBy i t) before;
+          }
+      pick false e r = from-failing (leb-false _ _ e) r
+
+module _ (room : ℕ) (least : 3 ≤ room) (t : Float) (l : List Crumb) (fits : length l ≤ room) where
+  -- the line that is left
+  record Remains (m : List Crumb) : Type 0 where
+    few-left : length m ≤ target room
+    line : Passes l m
+
+  left-measured : (n : ℕ) → length (measured n t l) ≤ target room → Remains (measured n t l)
+  left-measured n few = record { few-left = few; line = measured-line n t l }
+
+  left-halved : Remains (halvingPass (measured 17 t l))
+  left-halved =
+      let p = measured-line 17 t l in
+      record {
+        few-left = halving-room room (measured 17 t l) least (omega (arith, choice-length (p .choice)));
+        line = then p (halved (measured 17 t l));
+      }
+
+  remains : (w : Thinning) → From (target room) t l 0 17 w → Remains (w .left)
+  remains w r = by (decLe (w .passes) 17)
+    where
+      by : Dec (w .passes ≤ 17) → Remains (w .left)
+      by (yes h) = rw (r .measuring h .0) (left-measured (w .passes) (r .measuring h .1))
+      by (no h) = rw (r .halving (omega (arith, r .high))) left-halved
 
   -- whatever the tolerance, a NaN too
-  pub thins-any : (t : Float) (l : List Crumb) → length l ≤ room → Thins room l (thinning room t l)
-  unfolding thinning
-  thins-any t l fits =
-      let r = from 1 17 t l fits in
-      let p = r .line in
+  pub thins-any : Thins room t l (thinning room t l)
+  unfolding thinning measured doubledBy
+  thins-any =
+      let r = from (target room) t l 0 17 in
+      let m = remains _ r in
+      let p = m .line in
       record {
         some-pass = r .low;
         few-passes = r .high;
-        few-left = r .few-left;
+        measures = λ h. r .measuring h .0;
+        halves = r .halving;
+        above = r .above;
+        last-tolerance = r .tolerance;
+        few-left = m .few-left;
         choice = p .choice;
         begins = p .begins;
         ends = p .ends;

@@ -5,20 +5,21 @@ use mathlib.Core.Bool.{true, false}
 use mathlib.Core.List.{List}
 use native.Mathlib.Omega.{arith}
 use native.Mathlib.Numerals.{add-one}
-use native.Mathlib.Decide.{decLe}
+use native.Mathlib.Decide.{decLe, decLt}
 use borrow.Author.Tests.{le-leb, lt-leb, lt-ltb, le-ltb}
 use lib.Dec.{ltb}
 use lib.ListN.{length}
 use lib.Ieee.{Float}
 use Rattle.crumbs.specs.declared.Crumb.{Crumb}
-use Rattle.crumbs.specs.Crumb.{capacity, crumbs, behind}
-use Rattle.crumbs.proofs.Crumbs.{length-crumbs, behind-more, length-between}
+use Rattle.crumbs.specs.Crumb.{capacity, crumbAt, crumbs, behind}
+use Rattle.crumbs.proofs.Crumbs.{length-crumbs, behind-more, crumb-behind}
 use Rattle.crumbs.proofs.Choices.{choice-length}
 use Rattle.thin.specs.declared.Thinned.the-variants.{Left, Refused}
 use Rattle.thin.specs.Crumb.{measuringPass, halvingPass, doubled, target, Thinning, passesFrom, thinning}
 use Rattle.thin.specs.Questions.{question9}
-use Rattle.thin.specs.Promises.{step, Passed, left, refused, answer, thinned, ThinDone}
+use Rattle.thin.specs.Promises.{step, Stood, Passed, left, refused, answer, thinned, ThinDone}
 use Rattle.thin.proofs.Passes.{pass-choice}
+use Rattle.thin.proofs.Passing.{stood-here, stood-then}
 use Rattle.thin.proofs.Asked.{true-false, asked}
 use Rattle.thin.proofs.Theorems.{halving-room}
 
@@ -53,13 +54,13 @@ answer-refused size t l h = rw (h, answer)
 
 -- ---- the code, a pass at a time
 module _ {p n r : ℕ} {t : Float} {entry exit : List Float} (d : Passed (ltb 17 p) t n entry exit r) where
-  measured : p ≤ 17 → crumbs r exit ≡ measuringPass t (crumbs n entry)
+  was-measured : p ≤ 17 → crumbs r exit ≡ measuringPass t (crumbs n entry)
   unfolding step measuringPass
-  measured h = d .kept ∙ rw (le-ltb 17 p h, step)
+  was-measured h = d .kept ∙ rw (le-ltb 17 p h, step)
 
-  halved : 17 < p → crumbs r exit ≡ halvingPass (crumbs n entry)
+  was-halved : 17 < p → crumbs r exit ≡ halvingPass (crumbs n entry)
   unfolding step halvingPass
-  halved h = d .kept ∙ rw (lt-ltb 17 p h, step)
+  was-halved h = d .kept ∙ rw (lt-ltb 17 p h, step)
 
 -- what the loop carries on: the passes from here on are the thinning
 pub record Going (len : ℕ) (t : Float) (most : ℕ) (buf₀ buf : List Float) (kept : ℕ) (d : Float) (passes : ℕ) : Type 0 where
@@ -69,6 +70,7 @@ pub record Going (len : ℕ) (t : Float) (most : ℕ) (buf₀ buf : List Float) 
   pub high : passes ≤ 18
   pub fewer : kept ≤ len
   pub beyond : behind len buf ≡ behind len buf₀
+  pub stood : Stood len buf₀ buf
   pub size : length buf ≡ length buf₀
 
 pub going-start : {len : ℕ} {t : Float} {most : ℕ} {buf : List Float} → question9 (length buf) len t ≡ true → most ≡ target (capacity (length buf))
@@ -82,6 +84,7 @@ going-start {len} {t} {most} {buf} a e =
       high = omega arith;
       fewer = omega arith;
       beyond = refl;
+      stood = stood-here len buf;
       size = refl;
     }
 
@@ -92,6 +95,14 @@ module _ {len : ℕ} {t : Float} {most : ℕ} {buf₀ buf : List Float} {kept : 
   module _ {exit : List Float} {r : ℕ} (q : Passed (ltb 17 p) d kept buf exit r) where
     still-beyond : behind len exit ≡ behind len buf₀
     still-beyond = behind-more kept len exit buf (g .fewer) (q .beyond) ∙ g .beyond
+
+    -- the pass moved crumbs of those still kept, and those behind them stay
+    still-stood : Stood len buf₀ exit
+    still-stood = stood-then (g .stood) (record { among = λ i h. at i h (decLt i kept) })
+      where
+        at : (i : ℕ) → i < len → Dec (i < kept) → (j : ℕ) × ((j < len) × (crumbAt exit i ≡ crumbAt buf j))
+        at i h (yes k) = let j = q .stood .among i k in (j .0, (omega (arith, j .1 .0, g .fewer), j .1 .1))
+        at i h (no k) = (i, (h, crumb-behind kept i exit buf (omega arith) (q .beyond)))
 
     pub still-size : length exit ≡ length buf₀
     still-size = q .size ∙ g .size
@@ -112,14 +123,14 @@ module _ {len : ℕ} {t : Float} {most : ℕ} {buf₀ buf : List Float} {kept : 
         decide (no h) =
             absurd
             (let a = asked (length buf₀) len t (g .admitted) in
-            let e = count (halved {p = p} q (omega arith)) in
+            let e = count (was-halved {p = p} q (omega arith)) in
             let few = halving-room (capacity (length buf₀)) (crumbs kept buf) (a .least) (omega (arith, length-crumbs kept buf, g .fewer, a .fits)) in
             omega (arith, g .aim))
 
     pub going-on : most < r → Going len t most buf₀ exit r (doubled d) (p + 1)
     going-on more =
         let early = not-last more in
-        let e = measured q early in
+        let e = was-measured q early in
         record {
           same =
               ap (passesFrom most (p + 1) (18 - (p + 1)) (doubled d)) e
@@ -129,6 +140,7 @@ module _ {len : ℕ} {t : Float} {most : ℕ} {buf₀ buf : List Float} {kept : 
           high = omega arith;
           fewer = omega (arith, fewer-left, g .fewer);
           beyond = still-beyond;
+          stood = still-stood;
           size = still-size;
         }
 
@@ -138,12 +150,12 @@ module _ {len : ℕ} {t : Float} {most : ℕ} {buf₀ buf : List Float} {kept : 
         decide : Dec (p ≤ 17) → thinned len t buf₀ ≡ record { left = crumbs r exit; tolerance = d; passes = p }
         decide (yes h) =
             sym (g .same)
-            ∙ (rule-stop most p d (crumbs kept buf) h (omega (arith, count (measured q h)))
-            ∙ ap (λ l. record { left = l; tolerance = d; passes = p }) (sym (measured q h)))
+            ∙ (rule-stop most p d (crumbs kept buf) h (omega (arith, count (was-measured q h)))
+            ∙ ap (λ l. record { left = l; tolerance = d; passes = p }) (sym (was-measured q h)))
         decide (no h) =
             sym (g .same)
             ∙ (rule-last most p d (crumbs kept buf) (omega (arith, g .high))
-            ∙ ap (λ l. record { left = l; tolerance = d; passes = p }) (sym (halved {p = p} q (omega arith))))
+            ∙ ap (λ l. record { left = l; tolerance = d; passes = p }) (sym (was-halved {p = p} q (omega arith))))
 
     pub thin-done : r ≤ most → ThinDone len t buf₀ exit (Left r d p)
     thin-done few =
@@ -154,7 +166,7 @@ module _ {len : ℕ} {t : Float} {most : ℕ} {buf₀ buf : List Float} {kept : 
           refused = λ b. absurd (true-false (sym (g .admitted) ∙ b));
           held = λ _. rw (e, length-crumbs r exit);
           beyond = still-beyond;
-          free = length-between (length (thinned len t buf₀ .left)) len exit buf₀ still-size;
+          free = still-stood;
           size = still-size;
         }
 
@@ -165,6 +177,6 @@ thin-refused n t b e =
       refused = λ _. refl;
       held = λ h. absurd (true-false (sym h ∙ e));
       beyond = refl;
-      free = refl;
+      free = stood-here n b;
       size = refl;
     }

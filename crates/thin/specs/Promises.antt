@@ -1,12 +1,12 @@
 -- What `thin` and the functions below it promise of a buffer, by the rules.
-use Prim.Native.Nat.{ℕ}
+use Prim.Native.Nat.{ℕ, _<_}
 use mathlib.Core.Path.{_≡_}
 use mathlib.Core.Bool.{Bool, true, false}
 use mathlib.Core.List.{List}
 use lib.ListN.{length}
 use lib.Ieee.{Float}
 use Rattle.crumbs.specs.declared.Crumb.{Crumb}
-use Rattle.crumbs.specs.Crumb.{capacity, crumbs, behind, between}
+use Rattle.crumbs.specs.Crumb.{capacity, crumbAt, crumbs, behind}
 use Rattle.thin.specs.declared.Thinned.{Thinned}
 use Rattle.thin.specs.declared.Thinned.the-variants.{Left, Refused}
 use Rattle.thin.specs.Crumb.{reach, twoOn, passBy, Thinning, thinning}
@@ -17,10 +17,15 @@ unfoldable pub step : Bool → Float → Crumb → List Crumb → ℕ
 step true t = twoOn
 step false t = reach t
 
+-- each of the first n crumbs of a buffer stood among them before
+pub record Stood (n : ℕ) (entry exit : List Float) : Type 0 where
+  pub among : (i : ℕ) → i < n → (j : ℕ) × ((j < n) × (crumbAt exit i ≡ crumbAt entry j))
+
 -- A pass over the first n crumbs of a buffer leaves r crumbs in front, those of the rule, and changes no number behind the n crumbs.
 pub record Passed (halve : Bool) (t : Float) (n : ℕ) (entry exit : List Float) (r : ℕ) : Type 0 where
   pub kept : crumbs r exit ≡ passBy (step halve t) 0 (crumbs n entry)
   pub beyond : behind n exit ≡ behind n entry
+  pub stood : Stood n entry exit
   pub size : length exit ≡ length entry
 
 -- An answer in document 01's terms: the number of the refusal, or how many crumbs are left, the tolerance of the last pass, and the passes made.
@@ -54,6 +59,6 @@ pub record ThinDone (n : ℕ) (t : Float) (entry exit : List Float) (r : Thinned
   pub held : question9 (length entry) n t ≡ true → crumbs (length (thinned n t entry .left)) exit ≡ thinned n t entry .left
   -- the numbers behind the crumbs that came in are unchanged,
   pub beyond : behind n exit ≡ behind n entry
-  -- and the numbers between the crumbs that are left and those are free: only how many they are is said
-  pub free : length (between (length (thinned n t entry .left)) n exit) ≡ length (between (length (thinned n t entry .left)) n entry)
+  -- and the crumbs between those that are left and those that came in are free: each stood among those that came in
+  pub free : Stood n entry exit
   pub size : length exit ≡ length entry

@@ -1,5 +1,5 @@
 -- What holds of the rules, for every capacity and every track. Assumes nothing.
-use Prim.Native.Nat.{ℕ, zero, suc, _≤_, _<_}
+use Prim.Native.Nat.{ℕ, zero, suc, _-_, _≤_, _<_}
 use mathlib.Core.Path.{_≡_, refl, ap}
 use mathlib.Core.Bool.{Bool, true, false, _||_, true≢false}
 use mathlib.Core.List.{List, [], _∷_, _++_, map, append-nil}
@@ -21,6 +21,7 @@ use Rattle.crumbs.specs.Crumb.{point}
 use Rattle.crumbs.specs.Choice.{Choice, first, last}
 use Rattle.crumbs.proofs.Choices.{choice-map, first-map}
 use Rattle.thin.specs.Crumb.{measuringPass, doubled, target, Thinning, passesFrom, thinning}
+use Rattle.thin.specs.Theorems.{doubledBy}
 use Rattle.thin.proofs.Theorems.{thins-any}
 use Rattle.trail.specs.Notes.{Note, Kept, Thinned}
 use Rattle.crumbs.specs.Along.{realongBehind, realong}
@@ -49,26 +50,47 @@ unfolding realong
 length-realong [] = refl
 length-realong (a ∷ l) = ap suc (length-behind a l)
 
+-- ---- what is held
+-- the crumbs, and the tolerance
+pub record Holding : Type 0 where
+  pub crumbs : List Crumb
+  pub tolerance : Float
+
+abbrev pub holding : Track → Holding
+holding t = record { crumbs = t .crumbs; tolerance = t .tolerance }
+
+-- with one crumb more, behind the others
+abbrev pub withCrumb : Crumb → Holding → Holding
+withCrumb c x = record { crumbs = x .crumbs ++ c ∷ []; tolerance = x .tolerance }
+
 -- ---- a thinning
--- of the crumbs l, which leaves the crumbs m after n passes
-pub record Leaves (C : ℕ) (l m : List Crumb) (n : ℕ) : Type 0 where
+-- of x, which leaves y after n passes
+pub record Leaves (C : ℕ) (x y : Holding) (n : ℕ) : Type 0 where
+  pub counted : n ≡ thinning C (x .tolerance) (x .crumbs) .passes
+  pub leaves : y .crumbs ≡ realong (thinning C (x .tolerance) (x .crumbs) .left)
+  pub last-tolerance : y .tolerance ≡ doubledBy (n - 1) (x .tolerance)
   pub some-pass : 1 ≤ n
   pub few-passes : n ≤ 18
-  pub few-left : length m ≤ target C
+  pub few-left : length (y .crumbs) ≤ target C
   -- the places left are a choice from those that were there, beginning with the first
-  pub choice : Choice (map point m) (map point l)
-  pub begins : first (map point m) ≡ first (map point l)
+  pub choice : Choice (map point (y .crumbs)) (map point (x .crumbs))
+  pub begins : first (map point (y .crumbs)) ≡ first (map point (x .crumbs))
 
-leaves : (C : ℕ) (t : Float) (l : List Crumb) → 3 ≤ C → length l ≤ C → Leaves C l (realong (thinning C t l .left)) (thinning C t l .passes)
-leaves C t l least fits =
-    let w = thins-any C least t l fits in
-    let m = thinning C t l .left in
+thin-leaves : (C : ℕ) (t : Track) → 3 ≤ C → length (t .crumbs) ≤ C
+    → Leaves C (holding t) (holding (thin C t .track)) (thinning C (t .tolerance) (t .crumbs) .passes)
+unfolding thin
+thin-leaves C t least fits =
+    let w = thins-any C least (t .tolerance) (t .crumbs) fits in
+    let m = thinning C (t .tolerance) (t .crumbs) .left in
     record {
+      counted = refl;
+      leaves = refl;
+      last-tolerance = w .last-tolerance;
       some-pass = w .some-pass;
       few-passes = w .few-passes;
       few-left = rw length-realong (w .few-left);
       choice = rw realong-places (choice-map point (w .choice));
-      begins = rw realong-places (first-map point m l (w .begins));
+      begins = rw realong-places (first-map point m (t .crumbs) (w .begins));
     }
 
 -- the tolerance stays 0 or more
@@ -97,17 +119,17 @@ thinning-least : (C : ℕ) (t : Float) (l : List Crumb) → le plusZero t ≡ tr
 unfolding thinning
 thinning-least C t l h = is-true _ (from-least (target C) 1 17 t l (passed h))
 
--- ---- what a rule does to the crumbs held, and what it notes
+-- ---- what a rule does to what is held, and what it notes
 -- Keeping p: one crumb at p is put behind those held, or, where there is no room, behind those that a thinning leaves.
-pub data Keeps (C : ℕ) (p : Point) (l : List Crumb) : List Crumb → List Note → Type 0 where
-  room : (c : Crumb) → point c ≡ p → (length l ≡ C → ⊥) → Keeps C p l (l ++ c ∷ []) (Kept p ∷ [])
-  full : (m : List Crumb) (n : ℕ) (c : Crumb) → point c ≡ p → length l ≡ C → Leaves C l m n
-      → Keeps C p l (m ++ c ∷ []) (Thinned n m ∷ Kept p ∷ [])
+pub data Keeps (C : ℕ) (p : Point) (x : Holding) : Holding → List Note → Type 0 where
+  room : (c : Crumb) → point c ≡ p → (length (x .crumbs) ≡ C → ⊥) → Keeps C p x (withCrumb c x) (Kept p ∷ [])
+  full : (y : Holding) (n : ℕ) (c : Crumb) → point c ≡ p → length (x .crumbs) ≡ C → Leaves C x y n
+      → Keeps C p x (withCrumb c y) (Thinned n (y .crumbs) ∷ Kept p ∷ [])
 
 -- Nothing is kept, or one place.
-pub data MayKeep (C : ℕ) (l : List Crumb) : List Crumb → List Note → Type 0 where
-  nothing : MayKeep C l l []
-  one : {m : List Crumb} {notes : List Note} (p : Point) → Keeps C p l m notes → MayKeep C l m notes
+pub data MayKeep (C : ℕ) (x : Holding) : Holding → List Note → Type 0 where
+  nothing : MayKeep C x x []
+  one : {y : Holding} {notes : List Note} (p : Point) → Keeps C p x y notes → MayKeep C x y notes
 
 -- What the rules rest on and keep up.
 pub record Sound (C : ℕ) (t : Track) : Type 0 where
@@ -142,7 +164,7 @@ module _ (C : ℕ) (least : 3 ≤ C) where
   unfolding thin
   thin-sound t s =
       record {
-        held = omega (arith, leaves C (t .tolerance) (t .crumbs) least (s .held) .few-left);
+        held = omega (arith, thin-leaves C t least (s .held) .few-left);
         waiting = s .waiting;
         tolerance = thinning-least C (t .tolerance) (t .crumbs) (s .tolerance);
       }
@@ -150,7 +172,7 @@ module _ (C : ℕ) (least : 3 ≤ C) where
   -- there is room behind a thinning
   pub thin-room : (t : Track) → Sound C t → length (thin C t .track .crumbs) < C
   unfolding thin
-  thin-room t s = omega (arith, leaves C (t .tolerance) (t .crumbs) least (s .held) .few-left)
+  thin-room t s = omega (arith, thin-leaves C t least (s .held) .few-left)
 
   put-sound : (p : Point) (t : Track) → Sound C t → length (t .crumbs) < C → Sound C (put p t .track)
   unfolding put
@@ -163,12 +185,12 @@ module _ (C : ℕ) (least : 3 ≤ C) where
       at (yes e) = rw (keep-full C p t e) (put-sound p (thin C t .track) (thin-sound t s) (thin-room t s))
       at (no ne) = rw (keep-room C p t ne) (put-sound p t s (omega (arith, s .held)))
 
-  pub keep-keeps : (p : Point) (t : Track) → Sound C t → Keeps C p (t .crumbs) (keep C p t .track .crumbs) (keep C p t .notes)
+  pub keep-keeps : (p : Point) (t : Track) → Sound C t → Keeps C p (holding t) (holding (keep C p t .track)) (keep C p t .notes)
   unfolding thin put
   keep-keeps p t s = at (ℕ-discrete (length (t .crumbs)) C)
     where
-      at : Dec (length (t .crumbs) ≡ C) → Keeps C p (t .crumbs) (keep C p t .track .crumbs) (keep C p t .notes)
-      at (yes e) = rw (keep-full C p t e) (full _ _ _ refl e (leaves C (t .tolerance) (t .crumbs) least (s .held)))
+      at : Dec (length (t .crumbs) ≡ C) → Keeps C p (holding t) (holding (keep C p t .track)) (keep C p t .notes)
+      at (yes e) = rw (keep-full C p t e) (full (holding (thin C t .track)) _ _ refl e (thin-leaves C t least (s .held)))
       at (no ne) = rw (keep-room C p t ne) (room _ refl ne)
 
   pub flush-sound : (t : Track) → Sound C t → Sound C (flush C t .track)
@@ -180,10 +202,10 @@ module _ (C : ℕ) (least : 3 ≤ C) where
           let k = keep-sound p t s in
           rw (flush-some C p t e) (record { held = k .held; waiting = omega arith; tolerance = k .tolerance })
 
-  pub flush-keeps : (t : Track) → Sound C t → MayKeep C (t .crumbs) (flush C t .track .crumbs) (flush C t .notes)
+  pub flush-keeps : (t : Track) → Sound C t → MayKeep C (holding t) (holding (flush C t .track)) (flush C t .notes)
   flush-keeps t s = by (last (t .window)) refl
     where
-      by : (o : Option Point) → last (t .window) ≡ o → MayKeep C (t .crumbs) (flush C t .track .crumbs) (flush C t .notes)
+      by : (o : Option Point) → last (t .window) ≡ o → MayKeep C (holding t) (holding (flush C t .track)) (flush C t .notes)
       by none e = rw (flush-none C t e) nothing
       by (some p) e = rw (flush-some C p t e, append-nil) (one p (keep-keeps p t s))
 
@@ -202,11 +224,12 @@ module _ (C : ℕ) (least : 3 ≤ C) where
           not-full f = eqb-false _ _ (or-right (strays (t .tolerance) anchor p (t .window)) (eqb (length (t .window)) windowPlaces) f)
 
   pub simplify-keeps : (anchor p : Point) (t : Track) → Sound C t
-      → MayKeep C (t .crumbs) (simplify C anchor p t .track .crumbs) (simplify C anchor p t .notes)
+      → MayKeep C (holding t) (holding (simplify C anchor p t .track)) (simplify C anchor p t .notes)
   unfolding wait
   simplify-keeps anchor p t s = by (bends C p t anchor) refl
     where
-      by : (b : Bool) → bends C p t anchor ≡ b → MayKeep C (t .crumbs) (simplify C anchor p t .track .crumbs) (simplify C anchor p t .notes)
+      by : (b : Bool) → bends C p t anchor ≡ b
+          → MayKeep C (holding t) (holding (simplify C anchor p t .track)) (simplify C anchor p t .notes)
       by true e = rw (simplify-bends C p t anchor e, append-nil) (flush-keeps t s)
       by false e = rw (simplify-straight C p t anchor e) nothing
 
@@ -221,14 +244,14 @@ module _ (C : ℕ) (least : 3 ≤ C) where
       by none e = rw (add-first C p t e) (keep-sound p t s)
       by (some a) e = far a e (near C p t a) refl
 
-  pub add-keeps : (p : Point) (t : Track) → Sound C t → MayKeep C (t .crumbs) (add C p t .track .crumbs) (add C p t .notes)
+  pub add-keeps : (p : Point) (t : Track) → Sound C t → MayKeep C (holding t) (holding (add C p t .track)) (add C p t .notes)
   add-keeps p t s = by (last (t .crumbs)) refl
     where
       far : (a : Crumb) → last (t .crumbs) ≡ some a → (b : Bool) → near C p t a ≡ b
-          → MayKeep C (t .crumbs) (add C p t .track .crumbs) (add C p t .notes)
+          → MayKeep C (holding t) (holding (add C p t .track)) (add C p t .notes)
       far a e true h = rw (add-near C p t a e h) nothing
       far a e false h = rw (add-far C p t a e h) (simplify-keeps (point a) p t s)
 
-      by : (o : Option Crumb) → last (t .crumbs) ≡ o → MayKeep C (t .crumbs) (add C p t .track .crumbs) (add C p t .notes)
+      by : (o : Option Crumb) → last (t .crumbs) ≡ o → MayKeep C (holding t) (holding (add C p t .track)) (add C p t .notes)
       by none e = rw (add-first C p t e) (one p (keep-keeps p t s))
       by (some a) e = far a e (near C p t a) refl
