@@ -5,7 +5,7 @@ use mathlib.Core.Bool.{Bool, true, false, cond}
 use mathlib.Core.List.{List, [], _∷_, _++_}
 use mathlib.Core.Option.{Option, none, some}
 use lib.Dec.{leb}
-use lib.Ieee.{Float}
+use Rattle.crumbs.specs.declared.Crumb.{Crumb}
 use Rattle.crumbs.specs.Crumb.{capacity}
 use Rattle.state.specs.declared.Place.{Place}
 use Rattle.state.specs.declared.Place.the-variants as place
@@ -38,10 +38,10 @@ pub data Rebuilding : List Call → Type 0 where
 
 -- ---- such calls are not refused
 module _ (size : ℕ) (room : question1 size ≡ true) where
-  pub none-refused : {s : State} {b : List Float} {cs : List Call} → Own size s b → Rebuilding cs → NoneRefused size s cs
+  pub none-refused : {s : State} {l : List Crumb} {cs : List Call} → Own size s l → Rebuilding cs → NoneRefused size s cs
   none-refused own nothing = tt
-  none-refused own (reset m) = (taken size room own Reset tt tt, none-refused (called own Reset tt tt refl) m)
-  none-refused own (replay x now on m) = (taken size room own (Replay x now) tt on, none-refused (called own (Replay x now) tt on refl) m)
+  none-refused own (reset m) = (taken size room _ _ own Reset tt tt, none-refused (called own Reset tt tt) m)
+  none-refused own (replay x now on m) = (taken size room _ _ own (Replay x now) tt on, none-refused (called own (Replay x now) tt on) m)
 
 -- ---- a rebuild makes no others
 both : {xs ys : List Call} → Rebuilding xs → Rebuilding ys → Rebuilding (xs ++ ys)
@@ -133,7 +133,7 @@ unfolding settle
 settle-makes t r = settle-from-makes (r .stage) t r
 
 -- ---- "A call of `Rebuild` counts as the guide's calls it makes": the journal that is fed them has the same state and the same notes
-module _ (size : ℕ) (room : question1 size ≡ true) {s : State} {b : List Float} (own : Own size s b) where
+module _ (size : ℕ) (room : question1 size ≡ true) {s : State} {l : List Crumb} (own : Own size s l) where
   pub walk-counts : (budget upper : ℕ) (slots : ℕ → Option Entry) (r : Rebuild) → ((k : ℕ) → SlotOnGlobe (slots k))
       → run size (walk budget upper slots r .calls) s ≡ perform (capacity size) (walk budget upper slots r .calls) s
   walk-counts budget upper slots r on = journal-same size (walk budget upper slots r .calls) s (none-refused size room own (walk-makes budget upper slots r on))

@@ -48,20 +48,25 @@ use Rattle.restart.specs.declared.Stepped.{Stepped}
 use Rattle.restart.specs.declared.Settled.{Settled}
 use Rattle.restart.specs.Walk.{recordAt}
 use Rattle.restart.specs.Promises.{asksStep, Steps, SettlesBreadcrumb}
-use Rattle.restart.specs.History.{stepCalls, settleCalls, RanOn, new, called, stepped, settled}
+use Rattle.restart.specs.History.{stepCalls, settleCalls, RanOn, new, called, stepped, settled, EveryHistoryWithRebuilds}
 use Rattle.restart.proofs.Slots.{before-at}
 use Rattle.restart.proofs.Calling.{step-crumbs, step-file}
 
 -- ---- a file that no question refuses has its places in range
 place-globe : (p : Place) → asksPlace p ≡ 0 → PlaceOnGlobe p
 unfolding asksPlace
-place-globe (place.At lat lon) e = let l = fix-given (record { lat = lat; lon = lon }) e in record { latitude = l .latitude; longitude = l .longitude }
+place-globe (place.At lat lon) e =
+    let l = fix-given (record { lat = lat; lon = lon }) e in
+    record { latitude = l .latitude; longitude = l .longitude }
 place-globe place.Missing e = tt
 
 samples-globe : (xs : List Sample) → asksSamples xs ≡ 0 → SamplesOnGlobe xs
 unfolding asksSamples
 samples-globe [] e = tt
-samples-globe (x ∷ xs) e = (place-globe (x .place) (first-yes (asksPlace (x .place)) (asksSamples xs) e), samples-globe xs (then-yes (asksPlace (x .place)) (asksSamples xs) e))
+samples-globe (x ∷ xs) e = (
+  place-globe (x .place) (first-yes (asksPlace (x .place)) (asksSamples xs) e),
+  samples-globe xs (then-yes (asksPlace (x .place)) (asksSamples xs) e),
+)
 
 entry-globe : (e : Entry) → asksEntry e ≡ 0 → SamplesOnGlobe (used e)
 unfolding asksEntry
@@ -84,9 +89,13 @@ module _ (size : ℕ) (least : 3 ≤ capacity size) where
   none-refused : (s : State) {ks : List Call} → Measured s → asksCrumbs size s ≡ 0 → Rebuilding ks → NoneRefused size s ks
   unfolding asks
   none-refused s m e nothing = tt
-  none-refused s m e (reset k) = (state-asked size s e, none-refused (turn size Reset s .state) (turn-measured size least Reset s m) (reset-turn size s e) k)
+  none-refused s m e (reset k) =
+      (state-asked size s e, none-refused (turn size Reset s .state) (turn-measured size least Reset s m) (reset-turn size s e) k)
   none-refused s m e (replay x now on k) =
-      (or-else-none _ _ e (fix-asked x on), none-refused (turn size (Replay x now) s .state) (turn-measured size least (Replay x now) s m) (replay-turn size x now s m on e) k)
+      let after = turn size (Replay x now) s .state in (
+        or-else-none _ _ e (fix-asked x on),
+        none-refused after (turn-measured size least (Replay x now) s m) (replay-turn size x now s m on e) k,
+      )
 
 module _ (size : ℕ) (s : State) (e : asksState s ≡ 0) where
   -- and the reset of `settle`, which is asked question 10
@@ -138,7 +147,8 @@ long (stepped budget upper file x run did) = did .size ∙ long run
 long (settled t x run did) = long run
 
 -- ---- a call of a rebuild counts as the guide's calls it makes
-module _ (C : ℕ) (least : 3 ≤ C) (cs : List Call) (h : Homing) (b : List Float) (size : length b ≡ stride * C) (same : stateOf h b ≡ journal C cs .state) where
+module _ (C : ℕ) (least : 3 ≤ C) (cs : List Call) (h : Homing) (b : List Float)
+    (size : length b ≡ stride * C) (same : stateOf h b ≡ journal C cs .state) where
   room : 3 ≤ capacity (length b)
   room = omega (arith, size)
 
@@ -180,12 +190,17 @@ module _ (C : ℕ) (least : 3 ≤ C) (cs : List Call) (h : Homing) (b : List Flo
       (λ u. uncounted (v .homing) b (did .refused b (eqb-false (asksState (stateOf h b)) 0 u) .1) refl)
 
 -- ---- demand 3
-module _ (C : ℕ) (least : 8 ≤ C) (most : C ≤ 4096) where
+module _ (C : ℕ) (least : 8 ≤ C) where
   as-journal : {cs : List Call} {h : Homing} {b : List Float} → RanOn C cs h b → stateOf h b ≡ journal C cs .state
   as-journal (new size e) = e ∙ sym (none-yet C)
-  as-journal (called {cs = cs} c run did) = did .same ∙ ap₂ (λ (n : ℕ) (s : State). turn n c s .state) (long run) (as-journal run) ∙ journal-one C cs c
-  as-journal (stepped {cs = cs} {h = h} {b = b} budget upper file x run did) = step-counts C (omega arith) cs h b (long run) (as-journal run) budget upper file x did
-  as-journal (settled {cs = cs} {h = h} {b = b} t x run did) = settle-counts C (omega arith) cs h b (long run) (as-journal run) t x did
+  as-journal (called {cs = cs} c run did) =
+      did .same ∙ ap₂ (λ (n : ℕ) (s : State). turn n c s .state) (long run) (as-journal run) ∙ journal-one C cs c
+  as-journal (stepped {cs = cs} {h = h} {b = b} budget upper file x run did) =
+      step-counts C (omega arith) cs h b (long run) (as-journal run) budget upper file x did
+      ∙ ap₂ (λ (n : ℕ) (s : State). journal C (cs ++ stepCalls n budget upper file x s) .state) (long run) (as-journal run)
+  as-journal (settled {cs = cs} {h = h} {b = b} t x run did) =
+      settle-counts C (omega arith) cs h b (long run) (as-journal run) t x did
+      ∙ ap (λ (s : State). journal C (cs ++ settleCalls t x s) .state) (as-journal run)
 
-  pub ran-on-holds : {cs : List Call} {h : Homing} {b : List Float} → RanOn C cs h b → Holds C cs h b
-  ran-on-holds {cs = cs} {h = h} {b = b} run = holds-same C least most cs h b (long run) (as-journal run)
+pub ran-on-holds : EveryHistoryWithRebuilds
+ran-on-holds C least most cs h b run = holds-same C least most cs h b (long run) (as-journal C least run)

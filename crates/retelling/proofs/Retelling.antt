@@ -45,7 +45,7 @@ use Rattle.retelling.proofs.Theorems.{retold-refused}
 -- ---- a new guide
 new-taken : asksCrumbs 1536 guide.new ≡ 0
 unfolding asks question1 question4
-new-taken = taken 1536 refl (start [] refl) Crumbs tt tt
+new-taken = taken 1536 refl _ _ start Crumbs tt tt
 
 -- it holds no crumb
 new-len : (h : Homing) (b : List Float) → stateOf h b ≡ guide.new → h .trail .len ≡ 0

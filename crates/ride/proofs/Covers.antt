@@ -1,26 +1,29 @@
--- Every list of calls can be written: it is what its writing is decoded to, where the working line has room for every line. Assumes nothing.
-use Prim.Native.Nat.{ℕ, _+_, _≤_}
-use mathlib.Core.Path.{_≡_, refl, ap, ap₂, _∙_}
+-- Every list of calls of machine size can be written: it is what its writing is decoded to. Assumes nothing.
+use Prim.Native.Nat.{ℕ, _+_, _*_, _^_, _≤_, _<_}
+use mathlib.Core.Path.{_≡_, refl, sym, ap, ap₂, _∙_}
 use mathlib.Core.Bool.{Bool, true, false}
 use mathlib.Core.List.{List, [], _∷_, _++_, map}
 use native.Mathlib.Omega.{arith}
 use borrow.Author.Tests.{le-leb}
+use mir.Syntax.{w8, w64}
+use mir.Val.{Fits}
+use lib.Dec.{lit<}
 use lib.Ieee.{Float}
-use lib.ListN.{length, length-append}
+use lib.ListN.{length, length-append, length-map}
 use lib.Seq.{take-append-seam, drop-append-seam}
-use Rattle.state.specs.declared.Place.{Place}
 use Rattle.state.specs.declared.Place.the-variants.{At, Missing}
 use Rattle.course.specs.Fix.{Fix}
 use Rattle.course.specs.Course.{fixes}
 use Rattle.calls.specs.Calls.{Call, Reset, Len, Following, FollowingCourse, CourseAhead, Crumbs, WayBack, Heading, RouteHome, Guide, EndReplay, Course, SetCourse, SetAutoFollow, Observe, Replay, SetFollowing}
 use Rattle.ride.specs.Script.{Entry, entries, placeIn, fixIn, numbered, callOf, readable, decode}
+use Rattle.ride.specs.Theorems.{arguments, linesOf, pointsOf, Each, SliceOf, Slices, EveryListWritten}
 
 -- ---- how a call is written
 abbrev onOff : ℕ → Bool → ℕ
 onOff off false = off
 onOff off true = off + 1
 
-abbrev pub opOf : Call → ℕ
+abbrev opOf : Call → ℕ
 opOf Reset = 0
 opOf EndReplay = 1
 opOf (SetCourse line points) = 2
@@ -39,88 +42,16 @@ opOf Heading = 16
 opOf RouteHome = 17
 opOf Guide = 18
 
-abbrev pub clockOf : Call → ℕ
-clockOf (Observe line place clock) = clock
-clockOf (Replay point clock) = clock
-clockOf (SetFollowing line on clock) = clock
-clockOf Reset = 0
-clockOf EndReplay = 0
-clockOf (SetCourse line points) = 0
-clockOf (SetAutoFollow on) = 0
-clockOf Len = 0
-clockOf Following = 0
-clockOf FollowingCourse = 0
-clockOf (Course line) = 0
-clockOf CourseAhead = 0
-clockOf Crumbs = 0
-clockOf WayBack = 0
-clockOf Heading = 0
-clockOf RouteHome = 0
-clockOf Guide = 0
+abbrev sizeOf : Call → ℕ
+sizeOf c = length (arguments c .line)
 
-abbrev pub lineOf : Call → List Float
-lineOf (SetCourse line points) = line
-lineOf (Observe line place clock) = line
-lineOf (SetFollowing line on clock) = line
-lineOf (Course line) = line
-lineOf Reset = []
-lineOf EndReplay = []
-lineOf (SetAutoFollow on) = []
-lineOf (Replay point clock) = []
-lineOf Len = []
-lineOf Following = []
-lineOf FollowingCourse = []
-lineOf CourseAhead = []
-lineOf Crumbs = []
-lineOf WayBack = []
-lineOf Heading = []
-lineOf RouteHome = []
-lineOf Guide = []
+abbrev countOf : Call → ℕ
+countOf c = length (arguments c .points)
 
-abbrev pointOf : Place → List Fix
-pointOf (At lat lon) = record { lat = lat; lon = lon } ∷ []
-pointOf Missing = []
+abbrev clockOf : Call → ℕ
+clockOf c = arguments c .clock
 
-abbrev pub pointsOf : Call → List Fix
-pointsOf (SetCourse line points) = points
-pointsOf (Observe line place clock) = pointOf place
-pointsOf (Replay point clock) = point ∷ []
-pointsOf Reset = []
-pointsOf EndReplay = []
-pointsOf (SetAutoFollow on) = []
-pointsOf (SetFollowing line on clock) = []
-pointsOf Len = []
-pointsOf Following = []
-pointsOf FollowingCourse = []
-pointsOf (Course line) = []
-pointsOf CourseAhead = []
-pointsOf Crumbs = []
-pointsOf WayBack = []
-pointsOf Heading = []
-pointsOf RouteHome = []
-pointsOf Guide = []
-
--- ---- and how a list of them is
-abbrev pub sizeOf : Call → ℕ
-sizeOf c = length (lineOf c)
-
-abbrev pub countOf : Call → ℕ
-countOf c = length (pointsOf c)
-
-abbrev pub linesOf : List Call → List Float
-linesOf [] = []
-linesOf (c ∷ cs) = lineOf c ++ linesOf cs
-
-abbrev pub allPoints : List Call → List Fix
-allPoints [] = []
-allPoints (c ∷ cs) = pointsOf c ++ allPoints cs
-
--- no line is longer than there is room for
-abbrev pub Within : ℕ → List Call → Type 0
-Within room [] = Unit {0}
-Within room (c ∷ cs) = (sizeOf c ≤ room) × Within room cs
-
-again : (c : Call) → callOf (opOf c) (clockOf c) (lineOf c) (pointsOf c) ≡ c
+again : (c : Call) → callOf (opOf c) (clockOf c) (arguments c .line) (arguments c .points) ≡ c
 unfolding callOf numbered placeIn fixIn
 again Reset = refl
 again EndReplay = refl
@@ -159,30 +90,111 @@ pairs [] = refl
 pairs (x ∷ points) = ap (λ l. x ∷ l) (pairs points)
 
 fits : (room : ℕ) (c : Call) (lines : List Float) (points : List Fix) → sizeOf c ≤ room
-    → readable (sizeOf c) (countOf c) room (length (lineOf c ++ lines)) (length (pointsOf c ++ points)) ≡ true
+    → readable (sizeOf c) (countOf c) room (length (arguments c .line ++ lines)) (length (arguments c .points ++ points)) ≡ true
 unfolding readable
 fits room c lines points h =
-    let a : sizeOf c ≤ length (lineOf c ++ lines) = omega (arith, length-append (lineOf c) lines) in
-    let b : countOf c ≤ length (pointsOf c ++ points) = omega (arith, length-append (pointsOf c) points) in
+    let a : sizeOf c ≤ length (arguments c .line ++ lines) = omega (arith, length-append (arguments c .line) lines) in
+    let b : countOf c ≤ length (arguments c .points ++ points) = omega (arith, length-append (arguments c .points) points) in
     rw (le-leb (sizeOf c) room h, le-leb (sizeOf c) _ a, le-leb (countOf c) _ b)
 
-decoded : (room : ℕ) (cs : List Call) → Within room cs → decode room (map written cs) (linesOf cs) (allPoints cs) ≡ cs
+-- no line is longer than the working line
+abbrev LinesWithin : ℕ → List Call → Type 0
+LinesWithin room cs = Each (λ c. sizeOf c ≤ room) cs
+
+lines-within : (room : ℕ) (cs : List Call) → length (linesOf cs) ≤ room → LinesWithin room cs
+lines-within room [] h = tt
+lines-within room (c ∷ cs) h =
+    let e = length-append (arguments c .line) (linesOf cs) in
+    (omega (arith, e), lines-within room cs (omega (arith, e)))
+
+decoded : (room : ℕ) (cs : List Call) → LinesWithin room cs → decode room (map written cs) (linesOf cs) (pointsOf cs) ≡ cs
 unfolding decode
 decoded room [] w = refl
 decoded room (c ∷ cs) w =
     rw (
-      fits room c (linesOf cs) (allPoints cs) (w .0),
-      take-append-seam (lineOf c) (linesOf cs),
-      drop-append-seam (lineOf c) (linesOf cs),
-      take-append-seam (pointsOf c) (allPoints cs),
-      drop-append-seam (pointsOf c) (allPoints cs),
+      fits room c (linesOf cs) (pointsOf cs) (w .0),
+      take-append-seam (arguments c .line) (linesOf cs),
+      drop-append-seam (arguments c .line) (linesOf cs),
+      take-append-seam (arguments c .points) (pointsOf cs),
+      drop-append-seam (arguments c .points) (pointsOf cs),
       again c,
       decoded room cs (w .1),
     )
 
-pub covers : (room : ℕ) (cs : List Call) → Within room cs
-    → decode room (entries (map opOf cs) (map clockOf cs) (map sizeOf cs) (map countOf cs)) (linesOf cs)
-    (fixes (map (λ x. x .lat) (allPoints cs)) (map (λ x. x .lon) (allPoints cs)))
-    ≡ cs
-covers room cs w =
-    ap₂ (λ es points. decode room es (linesOf cs) points) (side-by-side cs) (pairs (allPoints cs)) ∙ decoded room cs w
+-- ---- each is of its slice's type
+each-map : {A B : Type 0} (P : B → Type 0) (f : A → B) (xs : List A) → Each (λ x. P (f x)) xs → Each P (map f xs)
+each-map P f [] h = tt
+each-map P f (x ∷ xs) h = (h .0, each-map P f xs (h .1))
+
+slice-map : {A B : Type 0} (P : B → Type 0) (f : A → B) (bytes : ℕ) (xs : List A) → SliceOf (λ x. P (f x)) bytes xs
+    → SliceOf P bytes (map f xs)
+slice-map P f bytes xs h = (each-map P f xs (h .0), rw (length-map xs f) (h .1))
+
+every : {A : Type 0} (P : A → Type 0) (xs : List A) → ((x : A) → P x) → Each P xs
+every P [] h = tt
+every P (x ∷ xs) h = (h x, every P xs h)
+
+few-on : (off : ℕ) (on : Bool) → off < 9 → Fits w8 (onOff off on)
+few-on off false h = record { fits = omega arith }
+few-on off true h = record { fits = omega arith }
+
+op-fits : (c : Call) → Fits w8 (opOf c)
+op-fits Reset = record { fits = lit< tt }
+op-fits EndReplay = record { fits = lit< tt }
+op-fits (SetCourse line points) = record { fits = lit< tt }
+op-fits (SetAutoFollow on) = few-on 3 on (lit< tt)
+op-fits (Observe line place clock) = record { fits = lit< tt }
+op-fits (Replay point clock) = record { fits = lit< tt }
+op-fits (SetFollowing line on clock) = few-on 7 on (lit< tt)
+op-fits Len = record { fits = lit< tt }
+op-fits Following = record { fits = lit< tt }
+op-fits FollowingCourse = record { fits = lit< tt }
+op-fits (Course line) = record { fits = lit< tt }
+op-fits CourseAhead = record { fits = lit< tt }
+op-fits Crumbs = record { fits = lit< tt }
+op-fits WayBack = record { fits = lit< tt }
+op-fits Heading = record { fits = lit< tt }
+op-fits RouteHome = record { fits = lit< tt }
+op-fits Guide = record { fits = lit< tt }
+
+-- what each call is given is no longer than what they are given together
+each-part : {A : Type 0} (f : Call → List A) (all : List Call → List A) → ((c : Call) (cs : List Call) → all (c ∷ cs) ≡ f c ++ all cs)
+    → (cs : List Call) → length (all cs) * 4 < 2 ^ 63 → Each (λ c. Fits w64 (length (f c))) cs
+each-part f all is [] h = tt
+each-part f all is (c ∷ cs) h =
+    let e : length (all (c ∷ cs)) ≡ length (f c) + length (all cs) = ap length (is c cs) ∙ length-append (f c) (all cs) in
+    (record { fits = omega (arith, e, h) }, each-part f all is cs (omega (arith, e, h)))
+
+slices : List Call → Slices
+slices cs =
+    record {
+      room = length (linesOf cs);
+      ops = map opOf cs;
+      clocks = map clockOf cs;
+      sizes = map sizeOf cs;
+      counts = map countOf cs;
+      lines = linesOf cs;
+      lats = map (λ x. x .lat) (pointsOf cs);
+      lons = map (λ x. x .lon) (pointsOf cs);
+    }
+
+pub covers : EveryListWritten
+unfolding slices
+covers cs m =
+    let room = length (linesOf cs) in
+    let few = m .clocks .1 in (
+      slices cs,
+      record {
+        says =
+            ap₂ (λ es points. decode room es (linesOf cs) points) (side-by-side cs) (pairs (pointsOf cs))
+            ∙ decoded room cs (lines-within room cs (omega arith));
+        room = m .lines .1;
+        ops = slice-map _ opOf 1 cs (every _ cs op-fits, omega (arith, few));
+        clocks = slice-map _ clockOf 8 cs (m .clocks);
+        sizes = slice-map _ sizeOf 8 cs (each-part (λ c. arguments c .line) linesOf (λ c cs. refl) cs (m .lines .1), few);
+        counts = slice-map _ countOf 8 cs (each-part (λ c. arguments c .points) pointsOf (λ c cs. refl) cs (m .lats .1), few);
+        lines = m .lines;
+        lats = slice-map _ (λ x. x .lat) 4 (pointsOf cs) (m .lats);
+        lons = slice-map _ (λ x. x .lon) 4 (pointsOf cs) (m .lons);
+      },
+    )

@@ -11,5 +11,4 @@ pub mod Calls
 pub mod Lines
 pub mod Asking
 pub mod Taken
-pub mod Going
 pub mod asked

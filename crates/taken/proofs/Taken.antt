@@ -1,23 +1,26 @@
 -- No call of a guide's own is refused whose places are in range. Assumes nothing.
 use Prim.Native.Nat.{ℕ, _≤_}
 use native.Mathlib.Omega.{arith}
-use mathlib.Core.Path.{_≡_, sym, ap, _∙_, subst}
+use mathlib.Core.Path.{_≡_, refl, sym, ap, _∙_, subst}
+use mathlib.Core.Logic.{_≢_}
 use mathlib.Core.Bool.{Bool, true, _&&_}
-use mathlib.Core.List.{List}
-use borrow.Author.Tests.{le-leb, leb-true, eqb-false}
+use mathlib.Core.List.{List, []}
+use borrow.Author.Tests.{le-leb, leb-true, eqb-true, eqb-false}
 use lib.Dec.{leb, eqb}
-use lib.ListN.{length}
+use lib.ListN.{length, take}
+use lib.Seq.{take-length, take-take}
 use lib.Ieee.{Float}
+use Rattle.crumbs.specs.declared.Crumb.{Crumb}
 use Rattle.crumbs.specs.Crumb.{whole, capacity, crumbs}
-use Rattle.crumbs.proofs.Crumbs.{length-crumbs}
+use Rattle.crumbs.proofs.Crumbs.{take-crumbs}
 use Rattle.state.specs.State.{State}
 use Rattle.state.specs.Rule.{Done}
 use Rattle.course.specs.Fix.{Fix}
 use Rattle.course.specs.Course.{points, lineOf}
-use Rattle.calls.specs.Questions.{question1, question4, stateFits, heldFits, lineFits, unless, asksState, asksCrumbs, asksLine, asksBoth}
+use Rattle.calls.specs.Questions.{question1, question4, stateFits, heldFits, lineFits, crumbsFit, unless, asksState, asksCrumbs, asksLine, asksBoth}
 use Rattle.calls.specs.Line.{new, setCourse}
 use Rattle.calls.specs.Calls.{Call, Reset, Len, Following, FollowingCourse, CourseAhead, Crumbs, WayBack, Heading, RouteHome, Guide, EndReplay, Course, SetCourse, SetAutoFollow, Observe, Replay, SetFollowing, asks, courseIn, performs, turn}
-use Rattle.taken.specs.Taken.{FixesOnGlobe, InRange, Lent, LineAfter, Own, start, called, Proper, none, next, NoneRefused}
+use Rattle.taken.specs.Taken.{given, FixesOnGlobe, InRange, placedOf, Lendable, Lent, lineAfter, Own, start, called, refused, BufferAfter, EveryTaken, AnyLineAtFirst, EveryLineAgain}
 use Rattle.taken.proofs.Tests.{either, both, and-left, and-right}
 use Rattle.taken.proofs.Laid.{most, laid-fits}
 use Rattle.taken.proofs.State.{Lined, Kept}
@@ -25,49 +28,61 @@ use Rattle.taken.proofs.Calls.{replay-kept, end-replay-kept, auto-follo
 use Rattle.taken.proofs.Lines.{line-few, line-lined, new-kept, reset-kept, set-course-kept}
 use Rattle.taken.proofs.Asking.{room-of, state-fits, held-fits, fix-asked, fixes-asked, place-asked, or-else-none}
 
--- ---- a line buffer that passes question 4
-pub line-room : (size n : ℕ) → question4 size n ≡ true → capacity size ≤ points
+-- ---- a line buffer that passes question 4 with n points
+record Roomy (size n : ℕ) : Type 0 where
+  short : capacity size ≤ points
+  room : n ≤ capacity size
+  -- and with none
+  none : question4 size 0 ≡ true
+
+roomy : (size n : ℕ) → question4 size n ≡ true → Roomy size n
 unfolding question4
-line-room size n e =
-    leb-true (capacity size) points (and-right (whole size) (leb (capacity size) points) (and-left (whole size && leb (capacity size) points) (leb n (capacity size)) e))
-
-line-whole : (size n m : ℕ) → question4 size n ≡ true → m ≤ capacity size → question4 size m ≡ true
-unfolding question4
-line-whole size n m e h = both (and-left (whole size && leb (capacity size) points) (leb n (capacity size)) e) (le-leb m (capacity size) h)
-
--- ---- a state and a line that a guide's own calls make
-pub record Sane (C : ℕ) (s : State) (b : List Float) : Type 0 where
-  pub asked : question4 (length b) 0 ≡ true
-  pub room : s .course .«line_len» ≤ capacity (length b)
-  pub lined : Lined (courseIn b s)
-  pub kept : Kept C (length (courseIn b s)) s
-
--- the line stays, and so does how much of it is the course
-same-line : (C : ℕ) (s t : State) (b : List Float) → Sane C s b → Kept C (length (courseIn b s)) t → Sane C t b
-same-line C s t b h k =
-    let e : t .course .«line_len» ≡ s .course .«line_len» = k .course .len ∙ length-crumbs (s .course .«line_len») b in
-    let i : courseIn b s ≡ courseIn b t = ap (λ n. crumbs n b) (sym e) in
+roomy size n e =
+    let long = whole size && leb (capacity size) points in
+    let fits : long ≡ true = and-left long (leb n (capacity size)) e in
     record {
-      asked = h .asked;
-      room = rw e (h .room);
-      lined = subst Lined i (h .lined);
-      kept = subst (λ l. Kept C (length l) t) i k;
+      short = leb-true (capacity size) points (and-right (whole size) (leb (capacity size) points) fits);
+      room = leb-true n (capacity size) (and-right long (leb n (capacity size)) e);
+      none = both fits (le-leb 0 (capacity size) (omega arith));
     }
 
--- a line of n crumbs
-new-line : (C n : ℕ) (t : State) (b : List Float) → question4 (length b) 0 ≡ true → n ≤ capacity (length b) → Lined (crumbs n b) → Kept C n t → Sane C t b
-new-line C n t b q r l k =
-    let i : crumbs n b ≡ courseIn b t = ap (λ m. crumbs m b) (sym (k .course .len)) in
-    record {
-      asked = q;
-      room = rw (k .course .len) r;
-      lined = subst Lined i l;
-      kept = subst (λ l. Kept C l t) (sym (length-crumbs n b) ∙ ap (λ l. length l) i) k;
-    }
+-- ---- a state and the line that `set_course` left, as a guide's own calls make them
+pub record Sane (C : ℕ) (s : State) (l : List Crumb) : Type 0 where
+  pub lined : Lined (placedOf l s)
+  pub kept : Kept C (length (placedOf l s)) s
 
-no-line : (b : List Float) → Lined (crumbs 0 b)
-unfolding crumbs
-no-line b = record { laid = tt; few = omega arith }
+module _ (C : ℕ) (t : State) (l : List Crumb) where
+  -- what is placed is p
+  sane-as : (p : List Crumb) → placedOf l t ≡ p → Lined p → Kept C (length p) t → Sane C t l
+  sane-as p e h k = record { lined = subst Lined (sym e) h; kept = subst (λ q. Kept C (length q) t) (sym e) k }
+
+  -- how much of the line is placed stays
+  same-line : (s : State) → Sane C s l → Kept C (length (placedOf l s)) t → Sane C t l
+  same-line s h k = sane-as (placedOf l s) (ap (λ n. take n l) (k .course .len ∙ sym (h .kept .course .len))) (h .lined) k
+
+  -- nothing is placed
+  no-line : Kept C 0 t → Sane C t l
+  no-line k = sane-as [] (ap (λ n. take n l) (k .course .len)) (record { laid = tt; few = omega arith }) k
+
+  -- all of it is
+  whole-line : Lined l → Kept C (length l) t → Sane C t l
+  whole-line h k = sane-as l (ap (λ n. take n l) (k .course .len) ∙ take-length l) h k
+
+-- ---- a line that was lent
+-- as before, with no more of it placed
+lent-again : (l : List Crumb) (s t : State) (b after : List Float) → t .course .«line_len» ≤ s .course .«line_len»
+    → Lendable l s 0 b → after ≡ b → Lendable l t 0 after
+lent-again l s t b after fewer lent e =
+    let n = t .course .«line_len» in
+    let m = s .course .«line_len» in
+    let front : crumbs n b ≡ take n l = sym (take-crumbs n m b fewer) ∙ (ap (λ k. take n k) (lent .placed) ∙ take-take n m l fewer) in
+    subst (λ y. Lendable l t 0 y) (sym e) (record { passes = lent .passes; room = omega (arith, lent .room); placed = front })
+
+-- with the whole line l in front
+lent-whole : (l : List Crumb) (t : State) (after : List Float) → t .course .«line_len» ≡ length l → question4 (length after) 0 ≡ true
+    → length l ≤ capacity (length after) → crumbs (length l) after ≡ l → Lendable l t 0 after
+lent-whole l t after e q r p =
+    record { passes = q; room = rw e r; placed = ap (λ n. crumbs n after) e ∙ (p ∙ sym (ap (λ n. take n l) e ∙ take-length l)) }
 
 -- a question that says yes
 says-yes : {a : Bool} (n : ℕ) → a ≡ true → unless a n ≡ 0
@@ -81,7 +96,7 @@ module _ (size : ℕ) (passes : question1 size ≡ true) where
   most-room = room-of size passes .most-room
 
   -- ---- the questions
-  module _ {s : State} {b : List Float} (h : Sane (capacity size) s b) where
+  module _ {s : State} {l : List Crumb} (h : Sane (capacity size) s l) where
     state-asked : asksState s ≡ 0
     unfolding asksState
     state-asked = says-yes 10 (state-fits s (h .kept))
@@ -89,97 +104,134 @@ module _ (size : ℕ) (passes : question1 size ≡ true) where
     held : (stateFits s && heldFits (capacity size) s) ≡ true
     held = both (state-fits s (h .kept)) (held-fits s (h .kept) most-room)
 
-    line-fits : lineFits b (s .course) ≡ true
-    unfolding lineFits
-    line-fits = both (le-leb (s .course .«line_len») (capacity (length b)) (h .room)) (laid-fits 0 (courseIn b s) (omega (arith, h .lined .few)) (h .lined .laid))
-
     crumbs-asked : asksCrumbs size s ≡ 0
     unfolding asksCrumbs
     crumbs-asked = or-else-none _ _ (says-yes 1 passes) (says-yes 10 held)
 
-    line-asked : (n : ℕ) → n ≤ capacity (length b) → asksLine b n s ≡ 0
-    unfolding asksLine
-    line-asked n few = or-else-none _ _ (says-yes 10 (both (state-fits s (h .kept)) line-fits)) (says-yes 4 (line-whole (length b) 0 n (h .asked) few))
+    -- lent a line
+    module _ {n : ℕ} {b : List Float} (lent : Lendable l s n b) where
+      line-fits : lineFits b (s .course) ≡ true
+      unfolding lineFits
+      line-fits =
+          let fits : crumbsFit (courseIn b s) ≡ true =
+          ap (λ k. crumbsFit k) (lent .placed) ∙ laid-fits 0 (placedOf l s) (omega (arith, h .lined .few)) (h .lined .laid) in
+          both (le-leb (s .course .«line_len») (capacity (length b)) (lent .room)) fits
 
-    both-asked : asksBoth size b s ≡ 0
+      line-asked : asksLine b n s ≡ 0
+      unfolding asksLine
+      line-asked = or-else-none _ _ (says-yes 10 (both (state-fits s (h .kept)) line-fits)) (says-yes 4 (lent .passes))
+
+    both-asked : {b : List Float} → Lendable l s 0 b → asksBoth size b s ≡ 0
     unfolding asksBoth
-    both-asked = or-else-none _ _ (says-yes 1 passes) (or-else-none _ _ (says-yes 10 (both held line-fits)) (says-yes 4 (h .asked)))
+    both-asked lent =
+        or-else-none _ _ (says-yes 1 passes) (or-else-none _ _ (says-yes 10 (both held (line-fits lent))) (says-yes 4 (lent .passes)))
 
-    not-refused : (c : Call) → Lent b c → InRange c → asks size c s ≡ 0
+    not-refused : (c : Call) → Lent l s c → InRange c → asks size c s ≡ 0
     unfolding asks
-    not-refused Reset l g = state-asked
-    not-refused Len l g = state-asked
-    not-refused Following l g = state-asked
-    not-refused FollowingCourse l g = state-asked
-    not-refused CourseAhead l g = state-asked
-    not-refused Heading l g = state-asked
-    not-refused RouteHome l g = state-asked
-    not-refused Guide l g = state-asked
-    not-refused EndReplay l g = state-asked
-    not-refused Crumbs l g = crumbs-asked
-    not-refused WayBack l g = crumbs-asked
-    not-refused (SetAutoFollow on) l g = crumbs-asked
-    not-refused (Replay x now) l g = or-else-none _ _ crumbs-asked (fix-asked x g)
-    not-refused (Course lent) l g = rw l (line-asked 0 (omega arith))
-    not-refused (SetCourse lent xs) l g = rw (l .0) (or-else-none _ _ (line-asked (length xs) (l .1)) (fixes-asked xs g))
-    not-refused (Observe lent x now) l g = rw l (or-else-none _ _ both-asked (place-asked x g))
-    not-refused (SetFollowing lent on now) l g = rw l both-asked
+    not-refused Reset w g = state-asked
+    not-refused Len w g = state-asked
+    not-refused Following w g = state-asked
+    not-refused FollowingCourse w g = state-asked
+    not-refused CourseAhead w g = state-asked
+    not-refused Heading w g = state-asked
+    not-refused RouteHome w g = state-asked
+    not-refused Guide w g = state-asked
+    not-refused EndReplay w g = state-asked
+    not-refused Crumbs w g = crumbs-asked
+    not-refused WayBack w g = crumbs-asked
+    not-refused (SetAutoFollow on) w g = crumbs-asked
+    not-refused (Replay x now) w g = or-else-none _ _ crumbs-asked (fix-asked x g)
+    not-refused (Course b) w g = line-asked w
+    not-refused (SetCourse b xs) w g = or-else-none _ _ (line-asked w) (fixes-asked xs g)
+    not-refused (Observe b x now) w g = or-else-none _ _ (both-asked w) (place-asked x g)
+    not-refused (SetFollowing b on now) w g = both-asked w
 
     -- ---- what is done then
-    unwritten : (t : State) (after : List Float) → after ≡ b → Kept (capacity size) (length (courseIn b s)) t → Sane (capacity size) t after
-    unwritten t after e k = subst (λ l. Sane (capacity size) t l) (sym e) (same-line (capacity size) s t b h k)
+    -- the state t, the line l′ that is left, and what is left of a buffer that was lent
+    record Turned (t : State) (l′ : List Crumb) (left : List Float → List Float → Type 0) : Type 0 where
+      sane-then : Sane (capacity size) t l′
+      again : (b after : List Float) → Lendable l s 0 b → left b after → Lendable l′ t 0 after
 
-    course-set : (xs : List Fix) (after : List Float) → length xs ≤ capacity (length b) → FixesOnGlobe xs → length after ≡ length b
-        → crumbs (length (lineOf (s .frame) xs)) after ≡ lineOf (s .frame) xs → Sane (capacity size) (setCourse xs s .state) after
-    course-set xs after few g e w =
-        let short : length xs ≤ most = omega (arith, line-room (length b) 0 (h .asked), few) in
-        new-line (capacity size) (length (lineOf (s .frame) xs)) _ after (rw e (h .asked))
-        (rw e (omega (arith, line-few (s .frame) xs short (h .kept .frame) g, few)))
-        (rw w (line-lined (s .frame) xs short (h .kept .frame) g))
-        (set-course-kept (capacity size) least most-room _ xs s (h .kept))
+    -- by a call
+    abbrev By : Call → State → Type 0
+    By c t = Turned t (lineAfter l s c) (BufferAfter s (given c))
 
-    performed : (c : Call) (after : List Float) → Lent b c → InRange c → LineAfter s b c after → Sane (capacity size) (performs (capacity size) c s .state) after
+    -- nothing is written to the line
+    abbrev Unwritten : State → Type 0
+    Unwritten t = Turned t l (λ b after. after ≡ b)
+
+    unwritten : {t : State} → Sane (capacity size) t l → t .course .«line_len» ≤ s .course .«line_len» → Unwritten t
+    unwritten {t = t} k fewer = record { sane-then = k; again = λ b after. lent-again l s t b after fewer }
+
+    answered : Unwritten s
+    answered = unwritten h (omega arith)
+
+    stays : {t : State} → Kept (capacity size) (length (placedOf l s)) t → Unwritten t
+    stays {t = t} k = unwritten (same-line (capacity size) t l s h k) (omega (arith, k .course .len, h .kept .course .len))
+
+    emptied : {t : State} → Kept (capacity size) 0 t → Unwritten t
+    emptied {t = t} k = unwritten (no-line (capacity size) t l k) (omega (arith, k .course .len))
+
+    course-set : (b : List Float) (xs : List Fix) → Lendable l s (length xs) b → FixesOnGlobe xs
+        → By (SetCourse b xs) (setCourse xs s .state)
+    course-set b xs w g =
+        let r = roomy (length b) (length xs) (w .passes) in
+        let short : length xs ≤ most = omega (arith, r .short, r .room) in
+        let few = line-few (s .frame) xs short (h .kept .frame) g in
+        let k = set-course-kept (capacity size) least most-room _ xs s (h .kept) in
+        record {
+          sane-then = whole-line (capacity size) _ _ (line-lined (s .frame) xs short (h .kept .frame) g) k;
+          again =
+              λ was after lent left.
+              lent-whole _ _ after (k .course .len) (rw (left .0) (r .none)) (rw (left .0) (omega (arith, few, r .room))) (left .1);
+        }
+
+    performed : (c : Call) → Lent l s c → InRange c → By c (performs (capacity size) c s .state)
     unfolding performs
-    performed Reset after l g w =
-        new-line (capacity size) 0 _ after (rw w (h .asked)) (omega arith) (no-line after) (reset-kept (capacity size) _ s (h .kept))
-    performed Len after l g w = unwritten s after w (h .kept)
-    performed Following after l g w = unwritten s after w (h .kept)
-    performed FollowingCourse after l g w = unwritten s after w (h .kept)
-    performed CourseAhead after l g w = unwritten s after w (h .kept)
-    performed Crumbs after l g w = unwritten s after w (h .kept)
-    performed WayBack after l g w = unwritten s after w (h .kept)
-    performed Heading after l g w = unwritten s after w (h .kept)
-    performed RouteHome after l g w = unwritten s after w (h .kept)
-    performed Guide after l g w = unwritten s after w (h .kept)
-    performed (Course lent) after l g w = unwritten s after w (h .kept)
-    performed EndReplay after l g w = unwritten _ after w (end-replay-kept (capacity size) least most-room _ s (h .kept))
-    performed (SetCourse lent xs) after l g w = course-set xs after (l .1) g (w .0) (w .1)
-    performed (SetAutoFollow on) after l g w = unwritten _ after w (auto-follow-kept (capacity size) least most-room _ on s (h .kept))
-    performed (Replay x now) after l g w = unwritten _ after w (replay-kept (capacity size) least most-room _ x now s (h .kept) g)
-    performed (Observe lent x now) after l g w =
-        rw l (unwritten _ after w (observe-kept (capacity size) least most-room (courseIn b s) (h .lined) x now s (h .kept) g))
-    performed (SetFollowing lent on now) after l g w =
-        rw l (unwritten _ after w (following-kept (capacity size) least most-room (courseIn b s) (h .lined) on now s (h .kept)))
+    performed Reset w g = emptied (reset-kept (capacity size) _ s (h .kept))
+    performed Len w g = answered
+    performed Following w g = answered
+    performed FollowingCourse w g = answered
+    performed CourseAhead w g = answered
+    performed Crumbs w g = answered
+    performed WayBack w g = answered
+    performed Heading w g = answered
+    performed RouteHome w g = answered
+    performed Guide w g = answered
+    performed (Course b) w g = answered
+    performed EndReplay w g = stays (end-replay-kept (capacity size) least most-room _ s (h .kept))
+    performed (SetCourse b xs) w g = course-set b xs w g
+    performed (SetAutoFollow on) w g = stays (auto-follow-kept (capacity size) least most-room _ on s (h .kept))
+    performed (Replay x now) w g = stays (replay-kept (capacity size) least most-room _ x now s (h .kept) g)
+    performed (Observe b x now) w g =
+        rw (w .placed) (stays (observe-kept (capacity size) least most-room (placedOf l s) (h .lined) x now s (h .kept) g))
+    performed (SetFollowing b on now) w g =
+        rw (w .placed) (stays (following-kept (capacity size) least most-room (placedOf l s) (h .lined) on now s (h .kept)))
 
-    turned : (c : Call) (after : List Float) → Lent b c → InRange c → LineAfter s b c after → Sane (capacity size) (turn size c s .state) after
+    turned : (c : Call) → Lent l s c → InRange c → By c (turn size c s .state)
     unfolding turn
-    turned c after l g w =
-        either (λ (d : Done (Unit {0})). Sane (capacity size) (d .state) after) (eqb (asks size c s) 0) (λ e. performed c after l g w)
-        (λ e. absurd (eqb-false (asks size c s) 0 e (not-refused c l g)))
+    turned c w g =
+        either (λ (d : Done (Unit {0})). By c (d .state)) (eqb (asks size c s) 0) (λ e. performed c w g)
+        (λ e. absurd (eqb-false (asks size c s) 0 e (not-refused c w g)))
+
+    left-as-it-was : (c : Call) → asks size c s ≢ 0 → Sane (capacity size) (turn size c s .state) l
+    unfolding turn
+    left-as-it-was c ne =
+        either (λ (d : Done (Unit {0})). Sane (capacity size) (d .state) l) (eqb (asks size c s) 0)
+        (λ e. absurd (ne (eqb-true (asks size c s) 0 e))) (λ e. h)
 
   -- ---- every state that a guide's own calls make
-  pub sane : {s : State} {b : List Float} → Own size s b → Sane (capacity size) s b
-  sane (start b q) = new-line (capacity size) 0 new b q (omega arith) (no-line b) (new-kept (capacity size))
-  sane (called {s} {b} {after} own c l g w) = turned (sane own) c after l g w
+  sane : {s : State} {l : List Crumb} → Own size s l → Sane (capacity size) s l
+  sane start = no-line (capacity size) new [] (new-kept (capacity size))
+  sane (called own c w g) = turned (sane own) c w g .sane-then
+  sane (refused own c ne) = left-as-it-was (sane own) c ne
 
-  -- one call, in any state that a guide's own calls make
-  pub taken : {s : State} {b : List Float} → Own size s b → (c : Call) → Lent b c → InRange c → asks size c s ≡ 0
-  taken own c l g = not-refused (sane own) c l g
+pub taken : EveryTaken
+taken size passes s l own c w g = not-refused size passes (sane size passes own) c w g
 
-  -- every call of a list
-  all-from : {s : State} {b : List Float} {cs : List Call} → Own size s b → Proper size s b cs → NoneRefused size s cs
-  all-from own none = tt
-  all-from own (next c l g w rest) = (taken own c l g, all-from (called own c l g w) rest)
+pub any-line-at-first : AnyLineAtFirst
+unfolding new crumbs
+any-line-at-first b q = record { passes = q; room = omega arith; placed = refl }
 
-  pub all-taken : (b : List Float) (cs : List Call) → question4 (length b) 0 ≡ true → Proper size new b cs → NoneRefused size new cs
-  all-taken b cs q proper = all-from (start b q) proper
+pub every-line-again : EveryLineAgain
+every-line-again size passes s l own c w g b after lent left = turned size passes (sane size passes own) c w g .again b after lent left

@@ -1,21 +1,23 @@
--- The states and lent lines that a guide's own calls make, and the calls that none of the questions refuses. Document 01, "Crumb": "every state and
--- buffer made by a guide's own calls"; "Questions put to a call"; "For those who test": "a call that always refuses (demand 1)".
+-- The states and placed lines that a guide's own calls make, and that such a guide refuses none of them. Document 01, "Crumb": "every state
+-- and buffer made by a guide's own calls"; "Questions put to a call"; "For those who test": "a call that always refuses (demand 1)".
 use Prim.Native.Nat.{ℕ, _≤_}
 use mathlib.Core.Path.{_≡_}
+use mathlib.Core.Logic.{_≢_}
 use mathlib.Core.Bool.{true}
 use mathlib.Core.List.{List, [], _∷_}
-use lib.ListN.{length}
+use lib.ListN.{length, take}
 use lib.Ieee.{Float}
 use Rattle.plane.specs.Place.{OnGlobe}
+use Rattle.crumbs.specs.declared.Crumb.{Crumb}
 use Rattle.crumbs.specs.Crumb.{capacity, crumbs}
 use Rattle.state.specs.declared.Place.{Place}
 use Rattle.state.specs.declared.Place.the-variants as place
 use Rattle.state.specs.State.{State}
 use Rattle.course.specs.Fix.{Fix}
 use Rattle.course.specs.Course.{lineOf}
-use Rattle.calls.specs.Questions.{question4}
+use Rattle.calls.specs.Questions.{question1, question4}
 use Rattle.calls.specs.Line.{new}
-use Rattle.calls.specs.Calls.{Call, Reset, Len, Following, FollowingCourse, CourseAhead, Crumbs, WayBack, Heading, RouteHome, Guide, EndReplay, Course, SetCourse, SetAutoFollow, Observe, Replay, SetFollowing, asks, turn}
+use Rattle.calls.specs.Calls.{Call, Reset, Len, Following, FollowingCourse, CourseAhead, Crumbs, WayBack, Heading, RouteHome, Guide, EndReplay, Course, SetCourse, SetAutoFollow, Observe, Replay, SetFollowing, asks, courseIn, turn}
 
 -- "latitude within ±900,000,000", "longitude within ±1,800,000,000"
 abbrev pub FixOnGlobe : Fix → Type 0
@@ -29,80 +31,112 @@ abbrev pub PlaceOnGlobe : Place → Type 0
 PlaceOnGlobe (place.At lat lon) = OnGlobe lat lon
 PlaceOnGlobe place.Missing = Unit {0}
 
--- every place that a call is given is in range
+-- ---- the calls by the line and the places they are given
+pub data Given : Type 0 where
+  neither : Given
+  line : List Float → Given
+  lineAndCourse : List Float → List Fix → Given
+  lineAndPlace : List Float → Place → Given
+  fix : Fix → Given
+
+abbrev pub given : Call → Given
+given Reset = neither
+given Len = neither
+given Following = neither
+given FollowingCourse = neither
+given CourseAhead = neither
+given Crumbs = neither
+given WayBack = neither
+given Heading = neither
+given RouteHome = neither
+given Guide = neither
+given EndReplay = neither
+given (SetAutoFollow on) = neither
+given (Course b) = line b
+given (SetFollowing b on now) = line b
+given (SetCourse b xs) = lineAndCourse b xs
+given (Observe b x now) = lineAndPlace b x
+given (Replay x now) = fix x
+
+-- ---- every place that a call is given is in range
+abbrev pub PlacesInRange : Given → Type 0
+PlacesInRange neither = Unit {0}
+PlacesInRange (line b) = Unit {0}
+PlacesInRange (lineAndCourse b xs) = FixesOnGlobe xs
+PlacesInRange (lineAndPlace b x) = PlaceOnGlobe x
+PlacesInRange (fix x) = FixOnGlobe x
+
 abbrev pub InRange : Call → Type 0
-InRange Reset = Unit {0}
-InRange Len = Unit {0}
-InRange Following = Unit {0}
-InRange FollowingCourse = Unit {0}
-InRange CourseAhead = Unit {0}
-InRange Crumbs = Unit {0}
-InRange WayBack = Unit {0}
-InRange Heading = Unit {0}
-InRange RouteHome = Unit {0}
-InRange Guide = Unit {0}
-InRange EndReplay = Unit {0}
-InRange (Course l) = Unit {0}
-InRange (SetCourse l xs) = FixesOnGlobe xs
-InRange (SetAutoFollow on) = Unit {0}
-InRange (Observe l x now) = PlaceOnGlobe x
-InRange (Replay x now) = FixOnGlobe x
-InRange (SetFollowing l on now) = Unit {0}
+InRange c = PlacesInRange (given c)
 
--- a call that takes a line is lent b, and a course has no more points than b holds
-abbrev pub Lent : List Float → Call → Type 0
-Lent b Reset = Unit {0}
-Lent b Len = Unit {0}
-Lent b Following = Unit {0}
-Lent b FollowingCourse = Unit {0}
-Lent b CourseAhead = Unit {0}
-Lent b Crumbs = Unit {0}
-Lent b WayBack = Unit {0}
-Lent b Heading = Unit {0}
-Lent b RouteHome = Unit {0}
-Lent b Guide = Unit {0}
-Lent b EndReplay = Unit {0}
-Lent b (Course l) = l ≡ b
-Lent b (SetCourse l xs) = (l ≡ b) × (length xs ≤ capacity (length b))
-Lent b (SetAutoFollow on) = Unit {0}
-Lent b (Observe l x now) = l ≡ b
-Lent b (Replay x now) = Unit {0}
-Lent b (SetFollowing l on now) = l ≡ b
+-- ---- the line that a call is lent. l is what `set_course` left in front of the buffer it was lent last, and no other call writes to one.
+-- what of l is placed: nothing after a reset
+abbrev pub placedOf : List Crumb → State → List Crumb
+placedOf l s = take (s .course .«line_len») l
 
--- a course set stands in the front of the line; no other call writes to it
-abbrev pub LineAfter : State → List Float → Call → List Float → Type 0
-LineAfter s b Reset after = after ≡ b
-LineAfter s b Len after = after ≡ b
-LineAfter s b Following after = after ≡ b
-LineAfter s b FollowingCourse after = after ≡ b
-LineAfter s b CourseAhead after = after ≡ b
-LineAfter s b Crumbs after = after ≡ b
-LineAfter s b WayBack after = after ≡ b
-LineAfter s b Heading after = after ≡ b
-LineAfter s b RouteHome after = after ≡ b
-LineAfter s b Guide after = after ≡ b
-LineAfter s b EndReplay after = after ≡ b
-LineAfter s b (Course l) after = after ≡ b
-LineAfter s b (SetCourse l xs) after = (length after ≡ length b) × (crumbs (length (lineOf (s .frame) xs)) after ≡ lineOf (s .frame) xs)
-LineAfter s b (SetAutoFollow on) after = after ≡ b
-LineAfter s b (Observe l x now) after = after ≡ b
-LineAfter s b (Replay x now) after = after ≡ b
-LineAfter s b (SetFollowing l on now) after = after ≡ b
+-- Any buffer b may be lent, another at each call, that passes question 4 with n points and has in front what is placed.
+pub record Lendable (l : List Crumb) (s : State) (n : ℕ) (b : List Float) : Type 0 where
+  pub passes : question4 (length b) n ≡ true
+  pub room : s .course .«line_len» ≤ capacity (length b)
+  pub placed : courseIn b s ≡ placedOf l s
 
--- `Own size s b`: a guide on a crumb buffer of `size` numbers, made by `new` and called any number of times, may be in the state s with the line b
-pub data Own (size : ℕ) : State → List Float → Type 0 where
-  start : (b : List Float) → question4 (length b) 0 ≡ true → Own size new b
-  called : {s : State} {b after : List Float} → Own size s b → (c : Call) → Lent b c → InRange c → LineAfter s b c after
-      → Own size (turn size c s .state) after
+abbrev pub LendsLine : List Crumb → State → Given → Type 0
+LendsLine l s neither = Unit {0}
+LendsLine l s (line b) = Lendable l s 0 b
+LendsLine l s (lineAndCourse b xs) = Lendable l s (length xs) b
+LendsLine l s (lineAndPlace b x) = Lendable l s 0 b
+LendsLine l s (fix x) = Unit {0}
 
--- ---- whole lists of calls
--- each is lent the line as those before it left it, and its places are in range
-pub data Proper (size : ℕ) : State → List Float → List Call → Type 0 where
-  none : {s : State} {b : List Float} → Proper size s b []
-  next : {s : State} {b after : List Float} {cs : List Call} (c : Call) → Lent b c → InRange c → LineAfter s b c after
-      → Proper size (turn size c s .state) after cs → Proper size s b (c ∷ cs)
+abbrev pub Lent : List Crumb → State → Call → Type 0
+Lent l s c = LendsLine l s (given c)
 
--- none is refused
+abbrev pub lineLeft : List Crumb → State → Given → List Crumb
+lineLeft l s neither = l
+lineLeft l s (line b) = l
+lineLeft l s (lineAndCourse b xs) = lineOf (s .frame) xs
+lineLeft l s (lineAndPlace b x) = l
+lineLeft l s (fix x) = l
+
+-- what is left in front of the line after a call that was taken
+abbrev pub lineAfter : List Crumb → State → Call → List Crumb
+lineAfter l s c = lineLeft l s (given c)
+
+-- ---- `Own size s l`: a guide on a crumb buffer of `size` numbers, made by `new` and called any number of times, may be in the state s, and
+-- its `set_course` has left the line l
+pub data Own (size : ℕ) : State → List Crumb → Type 0 where
+  start : Own size new []
+  called : {s : State} {l : List Crumb} → Own size s l → (c : Call) → Lent l s c → InRange c
+      → Own size (turn size c s .state) (lineAfter l s c)
+  -- a call that is refused, whatever it is given
+  refused : {s : State} {l : List Crumb} → Own size s l → (c : Call) → asks size c s ≢ 0 → Own size (turn size c s .state) l
+
+-- Demand 1 over the rules: whatever was called before, the next call is taken
+abbrev pub EveryTaken : Type 0
+EveryTaken =
+    (size : ℕ) → question1 size ≡ true → (s : State) (l : List Crumb) → Own size s l
+    → (c : Call) → Lent l s c → InRange c → asks size c s ≡ 0
+
+-- ---- Among those are the guides that are always lent the same buffer.
+-- the buffer b as a call leaves it: `set_course` puts its line in front of the one it is lent, p
+abbrev pub BufferAfter : State → Given → List Float → List Float → Type 0
+BufferAfter s neither b after = after ≡ b
+BufferAfter s (line p) b after = after ≡ b
+BufferAfter s (lineAndCourse p xs) b after =
+    (length after ≡ length p) × (crumbs (length (lineOf (s .frame) xs)) after ≡ lineOf (s .frame) xs)
+BufferAfter s (lineAndPlace p x) b after = after ≡ b
+BufferAfter s (fix x) b after = after ≡ b
+
+-- any buffer that passes question 4 may be lent to a new guide, and one that may be lent may be lent again as the call leaves it
+abbrev pub AnyLineAtFirst : Type 0
+AnyLineAtFirst = (b : List Float) → question4 (length b) 0 ≡ true → Lendable [] new 0 b
+
+abbrev pub EveryLineAgain : Type 0
+EveryLineAgain =
+    (size : ℕ) → question1 size ≡ true → (s : State) (l : List Crumb) → Own size s l
+    → (c : Call) → Lent l s c → InRange c → (b after : List Float) → Lendable l s 0 b → BufferAfter s (given c) b after
+    → Lendable (lineAfter l s c) (turn size c s .state) 0 after
+
+-- none of these calls is refused
 abbrev pub NoneRefused : ℕ → State → List Call → Type 0
 NoneRefused size s [] = Unit {0}
 NoneRefused size s (c ∷ cs) = (asks size c s ≡ 0) × NoneRefused size (turn size c s .state) cs

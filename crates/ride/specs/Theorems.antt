@@ -1,0 +1,102 @@
+-- That `ride` speaks of every list of calls of machine size: each is what some slices say. `proofs/Covers.antt` proves it.
+use Prim.Native.Nat.{ℕ, _*_, _^_, _<_}
+use mathlib.Core.Path.{_≡_}
+use mathlib.Core.List.{List, [], _∷_, _++_}
+use mir.Syntax.{w8, w32, w64}
+use mir.Val.{Fits, SFits}
+use lib.Dec.{T}
+use lib.IntN.{ℤ}
+use lib.ListN.{length}
+use lib.Ieee.{Float, binary32, fits}
+use Rattle.state.specs.declared.Place.{Place}
+use Rattle.state.specs.declared.Place.the-variants.{At, Missing}
+use Rattle.course.specs.Fix.{Fix}
+use Rattle.calls.specs.Calls.{Call, Reset, Len, Following, FollowingCourse, CourseAhead, Crumbs, WayBack, Heading, RouteHome, Guide, EndReplay, Course, SetCourse, SetAutoFollow, Observe, Replay, SetFollowing}
+use Rattle.ride.specs.Script.{written}
+
+-- ---- what the calls are given
+pub record Arguments : Type 0 where
+  pub line : List Float
+  pub points : List Fix
+  pub clock : ℕ
+
+abbrev pub nothing : Arguments
+nothing = record { line = []; points = []; clock = 0 }
+
+abbrev pub pointOf : Place → List Fix
+pointOf (At lat lon) = record { lat = lat; lon = lon } ∷ []
+pointOf Missing = []
+
+abbrev pub arguments : Call → Arguments
+arguments Reset = nothing
+arguments Len = nothing
+arguments Following = nothing
+arguments FollowingCourse = nothing
+arguments CourseAhead = nothing
+arguments Crumbs = nothing
+arguments WayBack = nothing
+arguments Heading = nothing
+arguments RouteHome = nothing
+arguments Guide = nothing
+arguments EndReplay = nothing
+arguments (SetAutoFollow on) = nothing
+arguments (Course line) = record { line = line; points = []; clock = 0 }
+arguments (SetCourse line points) = record { line = line; points = points; clock = 0 }
+arguments (Observe line place clock) = record { line = line; points = pointOf place; clock = clock }
+arguments (Replay point clock) = record { line = []; points = point ∷ []; clock = clock }
+arguments (SetFollowing line on clock) = record { line = line; points = []; clock = clock }
+
+abbrev pub linesOf : List Call → List Float
+linesOf [] = []
+linesOf (c ∷ cs) = arguments c .line ++ linesOf cs
+
+abbrev pub pointsOf : List Call → List Fix
+pointsOf [] = []
+pointsOf (c ∷ cs) = arguments c .points ++ pointsOf cs
+
+-- ---- machine size
+abbrev pub Each : {A : Type 0} → (A → Type 0) → List A → Type 0
+Each P [] = Unit {0}
+Each P (x ∷ xs) = P x × Each P xs
+
+-- a slice of elements of a type, of so many bytes each: every slice takes fewer than 2^63 bytes
+abbrev pub SliceOf : {A : Type 0} → (A → Type 0) → ℕ → List A → Type 0
+SliceOf P bytes xs = Each P xs × (length xs * bytes < 2 ^ 63)
+
+abbrev pub IsF32 : Float → Type 0
+IsF32 x = T (fits binary32 x)
+
+-- The numbers of all lines that the calls are lent fit in a slice of f32, the latitudes and the longitudes they are given in one of i32 each,
+-- and their clocks in one of u64.
+pub record MachineSize (cs : List Call) : Type 0 where
+  pub lines : SliceOf IsF32 4 (linesOf cs)
+  pub lats : SliceOf (λ x. SFits w32 (x .lat)) 4 (pointsOf cs)
+  pub lons : SliceOf (λ x. SFits w32 (x .lon)) 4 (pointsOf cs)
+  pub clocks : SliceOf (λ c. Fits w64 (arguments c .clock)) 8 cs
+
+-- the slices that `ride` is given, beside a working line of so many f32
+pub record Slices : Type 0 where
+  pub room : ℕ
+  pub ops : List ℕ
+  pub clocks : List ℕ
+  pub sizes : List ℕ
+  pub counts : List ℕ
+  pub lines : List Float
+  pub lats : List ℤ
+  pub lons : List ℤ
+
+-- slices that say the calls cs
+pub record Says (s : Slices) (cs : List Call) : Type 0 where
+  pub says : written (s .room) (s .ops) (s .clocks) (s .sizes) (s .counts) (s .lines) (s .lats) (s .lons) ≡ cs
+  pub room : s .room * 4 < 2 ^ 63
+  pub ops : SliceOf (Fits w8) 1 (s .ops)
+  pub clocks : SliceOf (Fits w64) 8 (s .clocks)
+  pub sizes : SliceOf (Fits w64) 8 (s .sizes)
+  pub counts : SliceOf (Fits w64) 8 (s .counts)
+  pub lines : SliceOf IsF32 4 (s .lines)
+  pub lats : SliceOf (SFits w32) 4 (s .lats)
+  pub lons : SliceOf (SFits w32) 4 (s .lons)
+
+-- what `ride` promises of the calls that its slices say is so promised of every list of calls
+abbrev pub EveryListWritten : Type 0
+EveryListWritten = (cs : List Call) → MachineSize cs → (s : Slices) × Says s cs
