@@ -1,6 +1,6 @@
 //! Makes each call through the door with each bad input, alone and in pairs with another question's, and
 //! with what is just allowed: `refusals`. A refusal has to carry the number of the first question that
-//! says no, and to change nothing.
+//! says no, and to change nothing; where a part is returned its length has to be 0.
 use compare::refusals::calls::{CALLS, Call, Part};
 use compare::refusals::faults::{Fault, faults, limits};
 use compare::refusals::{check, given::Given};
