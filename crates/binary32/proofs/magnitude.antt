@@ -1,5 +1,6 @@
 -- Laws on the size of floats: all is in specs/ and proofs/.
 -- What rounding, the operations, a root, `clamp` and the tests do to the size and the sign of a value.
+pub mod Size
 pub mod Round
 pub mod Laws
 pub mod Units

@@ -11,7 +11,7 @@ use lib.Ieee.Bits.{is-true}
 use lib.Ieee.Fits.{add-fits, down-pos}
 use Rattle.binary32.specs.Arithmetic.{_⊕_, constant}
 use Rattle.binary32.specs.Limits.{plusZero, sizeOf}
-use Rattle.binary32.specs.Size.{Within, within, NonNeg, Share, pow, frac}
+use Rattle.binary32.proofs.magnitude.Size.{Within, within, NonNeg, Share, pow, frac}
 use Rattle.binary32.proofs.magnitude.Laws.{widen, within-trans, within-finite, sized as sizes}
 use Rattle.binary32.proofs.magnitude.Round.{Held}
 use Rattle.binary32.proofs.magnitude.More.{add-step}
@@ -20,7 +20,7 @@ use Rattle.binary32.proofs.magnitude.Signs.{add-nonneg, along-nonneg, zero-fits
 use Rattle.binary32.proofs.magnitude.Tests.{within→le, nonneg→le}
 use Rattle.plane.specs.declared.Point.{Point}
 use Rattle.plane.specs.Plane.{distance, between}
-use Rattle.plane.specs.Place.{Coordinate, Place}
+use Rattle.plane.proofs.Place.{Coordinate, Place}
 use Rattle.plane.proofs.Places.{distance-within}
 use Rattle.calls.specs.Questions.{sized, placeFits, upTo, alongFits, factorFits}
 use Rattle.questions.specs.Sure.{placeMost}

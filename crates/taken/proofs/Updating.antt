@@ -10,7 +10,7 @@ use lib.ListN.{length}
 use lib.Ieee.{Float, lt, le}
 use Rattle.plane.specs.declared.Point.{Point}
 use Rattle.plane.specs.Plane.{turn, distance, bearing}
-use Rattle.plane.specs.Place.{Place}
+use Rattle.plane.proofs.Place.{Place}
 use Rattle.plane.proofs.Theorems.{bearing-below}
 use Rattle.crumbs.specs.declared.Crumb.{Crumb}
 use Rattle.segments.specs.declared.costs.Nearest.{Nearest}

@@ -13,7 +13,7 @@ use lib.Ieee.Scale.{finite}
 use Rattle.binary32.specs.Arithmetic.{_⊕_, _⊖_, _⊗_, constant}
 use Rattle.binary32.specs.Root.{root}
 use Rattle.binary32.specs.Limits.{plusZero, sizeOf}
-use Rattle.binary32.specs.Size.{Within, NonNeg, pow}
+use Rattle.binary32.proofs.magnitude.Size.{Within, NonNeg, pow}
 use Rattle.binary32.proofs.magnitude.Laws.{passed, widen, within-finite, add-within, sub-within, mul-within}
 use Rattle.binary32.proofs.magnitude.Round.{held}
 use Rattle.binary32.proofs.magnitude.Signs.{zero-fits, add-nonneg, square-nonneg}
