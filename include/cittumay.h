@@ -10,7 +10,8 @@
  * array that a call may write to overlaps nothing else that is lent to it.
  *
  * Every call but cittumay_thin returns 0 where it was taken, else the number of the question that refused it
- * (CITTUMAY_NO_..). A refusal changes nothing: neither the arrays nor what the pointers to answers point to.
+ * (CITTUMAY_NO_..). A refusal changes nothing: neither the arrays nor what the pointers to answers point to; only
+ * where a part of a buffer is returned, by cittumay_crumbs and cittumay_course, its length becomes 0.
  *
  * A flag that comes in is a uint8_t, anything but 0 meaning yes; one that goes out is 0 or 1. Places come in as
  * latitude and longitude in 1e-7 degree, times in milliseconds. Bearings and headings are 4096ths of a turn. */
@@ -182,11 +183,13 @@ uint8_t cittumay_way_back(const uint64_t *words, size_t words_len, const float *
                           const float *crumbs, size_t crumbs_len, uint8_t *known, uint32_t *direct_m,
                           uint32_t *track_m);
 
-/* How many crumbs are held: they are the first 3 * len numbers of `crumbs`, oldest first. Asked: 1, 10. */
+/* How many crumbs are held: they are the first 3 * len numbers of `crumbs`, oldest first; 0 on a
+ * refusal. Asked: 1, 10. */
 uint8_t cittumay_crumbs(const uint64_t *words, size_t words_len, const float *numbers, size_t numbers_len,
                         const float *crumbs, size_t crumbs_len, size_t *len);
 
-/* How many points the placed course has: they are the first 3 * len numbers of `line`, end first. Asked: 10, 4. */
+/* How many points the placed course has: they are the first 3 * len numbers of `line`, end first; 0 on a
+ * refusal. Asked: 10, 4. */
 uint8_t cittumay_course(const uint64_t *words, size_t words_len, const float *numbers, size_t numbers_len,
                         const float *line, size_t line_len, size_t *len);
 

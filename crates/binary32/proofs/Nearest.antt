@@ -17,7 +17,7 @@ use lib.Ieee.Nearest.{closest, nearest-ge}
 use lib.Ieee.Positive.{num, den, den-pos, positive, positive-of-value, value→cross}
 use lib.Ieee.Scale.{grid, overflow, finite, round-val, round-under}
 use Rattle.binary32.specs.Root.{halves, rootOf, root}
-use Rattle.binary32.specs.Nearest.{NoneNearer}
+use Rattle.binary32.specs.Nearest.{NoneNearer, EveryRootNearest, EveryRootFinite}
 use Rattle.binary32.proofs.Sides.{halves-above, halves-below}
 use Rattle.binary32.proofs.Closest.{Cmp, cmp}
 
@@ -251,7 +251,7 @@ middle f x X R m i P v r M =
     (λ (h : R < y). from-above (num x) (den x) l X (R + y) (den-pos x) (pow-pos (low f)) cross (hi h), λ (h : y < R). from-below (num x) (den x) l X (R + y) (den-pos x) (pow-pos (low f)) cross (lo h))
 
 -- no value of the format is nearer than the root
-pub root-nearest : (f : Format) (x : Float) (X R : ℕ) → 0 < X → HasValue x false X (2 ^ low f) → HasValue (root f x) false R (2 ^ low f) → NoneNearer f X R
+pub root-nearest : EveryRootNearest
 root-nearest f x X R P v r =
     record {
       above = λ m i M h. middle f x X R m i P v r M .0 h;
@@ -260,7 +260,7 @@ root-nearest f x X R P v r =
 
 -- There is such an R: the root of a finite value above zero is finite.
 -- Were it `overflow` units or more, its square would be at most 4 * X * l by the above, with 1 for Y, and so less than the square of `overflow`.
-pub root-finite : (f : Format) (x : Float) (X : ℕ) → 0 < X → HasValue x false X (2 ^ low f) → X < overflow f → (R : ℕ) × HasValue (root f x) false R (2 ^ low f)
+pub root-finite : EveryRootFinite
 root-finite f x X P v B = (
   grid f (above f x) (over-what f x),
   subst (λ (z : Float). HasValue z false (grid f (above f x) (over-what f x)) (2 ^ low f)) (sym (root-round f x X P v)) (round-val f (above f x) (over-what f x) (lt-of-not-le no)),

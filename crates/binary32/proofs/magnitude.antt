@@ -1,4 +1,5 @@
 -- What rounding, the operations, a root, `clamp` and the tests do to the size and the sign of a value.
+pub mod Size
 pub mod Round
 pub mod Laws
 pub mod Units

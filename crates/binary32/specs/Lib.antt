@@ -4,4 +4,3 @@ pub mod Nearest
 pub mod Casts
 pub mod Limits
 pub mod Inner
-pub mod Size

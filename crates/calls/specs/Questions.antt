@@ -5,8 +5,7 @@ use mathlib.Core.List.{List, [], _∷_}
 use lib.Dec.{leb, ltb, eqb}
 use lib.IntN.{ℤ, natAbs}
 use lib.ListN.{length}
-use lib.Ieee.{Float, le, lt}
-use Rattle.binary32.specs.Arithmetic.{constant}
+use lib.Ieee.{Float, nan, inf, fin, up, down, le}
 use Rattle.binary32.specs.Limits.{plusZero, sizeOf}
 use Rattle.plane.specs.declared.Point.{Point}
 use Rattle.plane.specs.declared.Spot.{Spot}
@@ -34,29 +33,26 @@ unfoldable pub question1 : ℕ → Bool
 question1 size = whole size && leb 8 (capacity size) && leb (capacity size) 4096
 
 -- ---- 10, of numbers
--- "at most 100,000,000 m in size"
-unfoldable pub placeMost : Float
-placeMost = constant (10 ^ 8) 1
+-- whether x is at most num / den. The numbers themselves are compared: the fraction is not rounded to a binary32.
+unfoldable pub upTo : ℕ → ℕ → Float → Bool
+upTo num den nan = false
+upTo num den (inf negative) = negative
+upTo num den (fin negative m e) = negative || leb (m * up e * den) (num * down e)
 
+-- "at most 100,000,000 m in size"
 unfoldable pub sized : Float → Bool
-sized x = le (sizeOf x) placeMost
+sized x = upTo (10 ^ 8) 1 (sizeOf x)
 
 unfoldable pub placeFits : Point → Bool
 placeFits p = sized (p .east) && sized (p .north)
 
--- "each along 0 to 10^16": no binary32 is 10^16, and the nearest lies above it, so those up to 10^16 are those below the nearest
-unfoldable pub alongEnd : Float
-alongEnd = constant (10 ^ 16) 1
-
+-- "each along 0 to 10^16"
 unfoldable pub alongFits : Float → Bool
-alongFits x = le plusZero x && lt x alongEnd
+alongFits x = le plusZero x && upTo (10 ^ 16) 1 x
 
--- "the east factor at most 0.02 in size": the nearest binary32 is the largest up to 0.02
-unfoldable pub factorMost : Float
-factorMost = constant 2 100
-
+-- "the east factor at most 0.02 in size"
 unfoldable pub factorFits : Float → Bool
-factorFits x = le (sizeOf x) factorMost
+factorFits x = upTo 2 100 (sizeOf x)
 
 -- "each heading and bearing, the guide's too, below 4,096"
 unfoldable pub headingFits : Heading → Bool

@@ -113,14 +113,15 @@ back (some b) was = record { known = 1; direct = b .direct; track = b .track }
 back none was = record { known = 0; direct = was .direct; track = was .track }
 
 -- ---- a part of a lent buffer
--- `crumbs`, `course`: the call returns `part`, the front part of the buffer b, and `is` is how many crumbs it has; a refusal leaves the count.
-pub record Returns (promise : ℕ → List Float → Type 0) (b : List Float) (number was is : ℕ) : Type 0 where
+-- `crumbs`, `course`: the call returns `part`, the front part of the buffer b, and `count` is how many crumbs it has. "where a part is returned that part is
+-- empty" on a refusal, and the count is then 0.
+pub record Returns (promise : ℕ → List Float → Type 0) (b : List Float) (number count : ℕ) : Type 0 where
   pub part : List Float
   pub promised : promise number part
-  pub count : number ≡ 0 → is ≡ capacity (length part)
-  pub front : number ≡ 0 → part ≡ inFront is b
-  pub refused : number ≢ 0 → is ≡ was
+  pub counted : count ≡ capacity (length part)
+  pub front : part ≡ inFront count b
+  pub refused : number ≢ 0 → count ≡ 0
 
-pub record Parts {S : Type 0} (held : Option S) (unread : ℕ) (promise : S → ℕ → List Float → Type 0) (b : List Float) (number was is : ℕ) : Type 0 where
-  pub nothing : held ≡ none → (number ≡ unread) × (is ≡ was)
-  pub asked : (h : S) → held ≡ some h → Returns (promise h) b number was is
+pub record Parts {S : Type 0} (held : Option S) (unread : ℕ) (promise : S → ℕ → List Float → Type 0) (b : List Float) (number count : ℕ) : Type 0 where
+  pub nothing : held ≡ none → (number ≡ unread) × (count ≡ 0)
+  pub asked : (h : S) → held ≡ some h → Returns (promise h) b number count

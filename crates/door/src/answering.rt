@@ -1,5 +1,6 @@
 // The calls that only answer. Each writes what the call answers and answers 0, or answers the number of
-// the refusal and writes nothing. Slices that hold no state are refused with 10.
+// the refusal and writes nothing but the length, 0, of an empty part. Slices that hold no state are
+// refused with 10.
 
 use crate::numbering;
 use crate::numbering::NO_STATE;
@@ -335,7 +336,15 @@ pub extern "C" fn cittumay_way_back(
     }
 }
 
-// The kept crumbs are the first `len` of the buffer.
+// A call refused with this number returns an empty part.
+fn no_part(number: u8, len: &mut usize) -> u8
+    ensures { λ r. ⌜ (r ≡ number) × (now (len .exit) ≡ 0) ⌝ }
+{
+    *len = 0;
+    number
+}
+
+// The kept crumbs are the first `len` of the buffer, none on a refusal.
 #[no_mangle]
 pub extern "C" fn cittumay_crumbs(
     words: &[u64],
@@ -343,23 +352,20 @@ pub extern "C" fn cittumay_crumbs(
     crumbs: &[f32],
     len: &mut usize,
 ) -> u8
-    ensures { λ r. ⌜ Parts (stored (now (words .entry)) (now (numbers .entry))) (noStateWith (length (now (crumbs .entry)))) (λ h. ReturnsCrumbs h (now (crumbs .entry))) (now (crumbs .entry)) r (now (len .entry)) (now (len .exit)) ⌝ }
+    ensures { λ r. ⌜ Parts (stored (now (words .entry)) (now (numbers .entry))) (noStateWith (length (now (crumbs .entry)))) (λ h. ReturnsCrumbs h (now (crumbs .entry))) (now (crumbs .entry)) r (now (len .exit)) ⌝ }
 {
     let there = stored::load(words, numbers);
     if !there.held {
-        return numbering::no_state_with(crumbs.len());
+        return no_part(numbering::no_state_with(crumbs.len()), len);
     }
     let homing = there.homing;
     let mut refused = 0;
-    let part = answers::crumbs(homing, crumbs, &mut refused);
-    if refused != 0 {
-        return refused;
-    }
-    *len = crumbs::capacity(part.len());
-    0
+    let held = answers::crumbs(homing, crumbs, &mut refused);
+    *len = crumbs::capacity(held.len());
+    refused
 }
 
-// The course, end first, is the first `len` crumbs of the line; none until it is placed.
+// The course, end first, is the first `len` crumbs of the line; none until it is placed, and none on a refusal.
 #[no_mangle]
 pub extern "C" fn cittumay_course(
     words: &[u64],
@@ -367,20 +373,17 @@ pub extern "C" fn cittumay_course(
     line: &[f32],
     len: &mut usize,
 ) -> u8
-    ensures { λ r. ⌜ Parts (stored (now (words .entry)) (now (numbers .entry))) noState (λ h. ReturnsCourse h (now (line .entry))) (now (line .entry)) r (now (len .entry)) (now (len .exit)) ⌝ }
+    ensures { λ r. ⌜ Parts (stored (now (words .entry)) (now (numbers .entry))) noState (λ h. ReturnsCourse h (now (line .entry))) (now (line .entry)) r (now (len .exit)) ⌝ }
 {
     let there = stored::load(words, numbers);
     if !there.held {
-        return NO_STATE;
+        return no_part(NO_STATE, len);
     }
     let homing = there.homing;
     let mut refused = 0;
-    let part = answers::course(homing, line, &mut refused);
-    if refused != 0 {
-        return refused;
-    }
-    *len = crumbs::capacity(part.len());
-    0
+    let placed = answers::course(homing, line, &mut refused);
+    *len = crumbs::capacity(placed.len());
+    refused
 }
 
 // ---- of a guide

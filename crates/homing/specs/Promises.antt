@@ -6,6 +6,7 @@ use mathlib.Core.List.{List}
 use lib.ListN.{length}
 use lib.Ieee.{Float}
 use Rattle.crumbs.specs.Crumb.{capacity}
+use Rattle.trail.specs.View.{emptyWindow}
 use Rattle.state.specs.declared.Place.{Place}
 use Rattle.state.specs.declared.Homing.{Homing}
 use Rattle.state.specs.State.{stateOf}
@@ -25,10 +26,12 @@ use Rattle.homing.specs.declared.Observed.{Observed}
 use Rattle.homing.specs.declared.Followed.{Followed}
 use Rattle.homing.specs.Answers.{saysReply, saysSight}
 
--- `new`, on the crumb buffer b: question 1 is put to it. The state is a new guide's whatever the buffer holds.
+-- `new`, on the crumb buffer b: question 1 is put to it. The state is a new guide's whatever the buffer holds, and the window's numbers, which the rules see
+-- only where a place waits, are zeros.
 pub record MakesNew (b : List Float) (r : Changed) : Type 0 where
   pub answered : saysReply (r .answer) ≡ answer (unless (question1 (length b)) 1) (tt {0})
   pub fresh : (crumbs : List Float) → stateOf (r .homing) crumbs ≡ new
+  pub window : r .homing .trail .window ≡ emptyWindow
 
 -- `reset`, whatever the crumb buffer holds, which it is not given
 pub record DoesReset (h : Homing) (r : Changed) : Type 0 where

@@ -1,3 +1,4 @@
 -- Facts that the functions' proofs share.
 pub mod Choosing
 pub mod Nearing
+pub mod Minimum

@@ -2,7 +2,7 @@
 use Prim.Native.Nat.{ℕ, _+_, _-_, min, max}
 use mathlib.Core.Bool.{Bool, true, false, _&&_, not, cond}
 use lib.Dec.{leb}
-use lib.Ieee.{Float, lt, le, eq}
+use lib.Ieee.{Float, nan, inf, fin, lt, le}
 use Rattle.binary32.specs.Arithmetic.{constant}
 use Rattle.plane.specs.declared.Point.{Point}
 use Rattle.plane.specs.declared.Spot.the-variants.{At}
@@ -61,9 +61,14 @@ unfoldable pub offNow : Bool → Float → Bool
 offNow true off = lt onM off
 offNow false off = lt offM off
 
--- the smaller of two; of a number and a NaN the number
+-- of two numbers the smaller, and the first where they are equal; of a number and a NaN the number, as Rust's `min`
+abbrev pub isNumber : Float → Bool
+isNumber nan = false
+isNumber (inf s) = true
+isNumber (fin s m e) = true
+
 unfoldable pub smaller : Float → Float → Float
-smaller a b = cond (le a b) a (cond (eq b b) b a)
+smaller a b = cond (isNumber a && isNumber b) (cond (le a b) a b) (cond (isNumber a) a b)
 
 -- off the line still: a reminder, if it is due
 unfoldable pub stillOff : Bool → Event

@@ -9,7 +9,7 @@ use lib.Ieee.Fits.{add-fits, mul-fits}
 use Rattle.binary32.specs.Arithmetic.{_⊕_, _⊖_, _⊗_, _⊘_}
 use Rattle.binary32.specs.Root.{root}
 use Rattle.binary32.specs.Limits.{plusZero, clamp}
-use Rattle.binary32.specs.Size.{Within, NonNeg, Share, pow, frac}
+use Rattle.binary32.proofs.magnitude.Size.{Within, NonNeg, Share, pow, frac}
 use Rattle.binary32.proofs.magnitude.Laws.{within-finite, widen, add-within, sub-within, mul-within, ofInt-within}
 use Rattle.binary32.proofs.magnitude.Between.{place-between}
 use Rattle.binary32.proofs.magnitude.Shares.{clamp-div, zero-share}
@@ -17,7 +17,7 @@ use Rattle.binary32.proofs.magnitude.Signs.{add-nonneg, square-nonneg}
 use Rattle.binary32.proofs.magnitude.Roots.{root-within, root-nonneg}
 use Rattle.plane.specs.declared.Point.{Point}
 use Rattle.plane.specs.Plane.{distance, share, between, atShare, project}
-use Rattle.plane.specs.Place.{Coordinate, Place}
+use Rattle.plane.proofs.Place.{Coordinate, Place}
 
 -- the difference of two coordinates, and a sum of two products of such
 gap : (a b : Float) → Coordinate a → Coordinate b → Within (pow 26) (b ⊖ a)

@@ -6,7 +6,7 @@ use lib.Ieee.{Float, binary32, ofBits, neg, add, sub, mul, div, lt, ofInt, toUns
 use Rattle.binary32.specs.Arithmetic.{_⊗_, _⊘_, constant}
 use Rattle.binary32.specs.Casts.{asU32}
 use Rattle.binary32.specs.Limits.{plusZero, one}
-use Rattle.binary32.specs.Size.{Within, frac}
+use Rattle.binary32.proofs.magnitude.Size.{Within, frac}
 use Rattle.binary32.proofs.magnitude.Laws.{within-refl, mul-within}
 use Rattle.trig.specs.Fix.{pi, halfPi}
 use Rattle.trig.proofs.Starred as compass

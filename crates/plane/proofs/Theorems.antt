@@ -6,7 +6,7 @@ use lib.IntN.{ℤ, pos, negsuc, natAbs, _-ℤ_}
 use lib.Dec.{T, lit≤}
 use lib.Ieee.{Float, fin, binary32, ofInt, le, mul, div}
 use Rattle.binary32.specs.Arithmetic.{_⊗_, _⊘_, constant}
-use Rattle.binary32.specs.Size.{Within, frac}
+use Rattle.binary32.proofs.magnitude.Size.{Within, frac}
 use Rattle.binary32.specs.Limits.{sizeOf}
 use Rattle.binary32.proofs.magnitude.Laws.{within-refl, within-trans, within-finite, widen, sized, mul-within, ofInt-within}
 use Rattle.binary32.proofs.magnitude.More.{div-within}
@@ -16,7 +16,8 @@ use Rattle.trig.proofs.Magnitude.{part, cos-within}
 use Rattle.plane.specs.declared.Point.{Point}
 use Rattle.plane.specs.Plane.{turn, bearing}
 use Rattle.plane.specs.Fix.{mPerE7, eastPerE7, wrapped, frame}
-use Rattle.plane.specs.Place.{Place, OnGlobe}
+use Rattle.plane.proofs.Place.{Place}
+use Rattle.plane.specs.Globe.{OnGlobe}
 use Rattle.plane.proofs.Signed.{minus-within, wrapped-half}
 use Rattle.plane.proofs.Places.{factor-coordinate}
 

@@ -1,4 +1,4 @@
 pub mod Plane
 pub mod Fix
-pub mod Place
+pub mod Globe
 pub mod Square

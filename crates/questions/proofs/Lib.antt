@@ -1,3 +1,4 @@
+pub mod Exact
 pub mod Counted
 pub mod Asking
 pub mod Given

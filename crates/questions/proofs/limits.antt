@@ -1,2 +1,2 @@
-mod Numbers
+pub mod Numbers
 pub mod Sure

@@ -5,7 +5,9 @@ use lib.Ieee.{Float, neg, le}
 use Rattle.binary32.specs.Arithmetic.{constant}
 use Rattle.binary32.specs.Limits.{plusZero}
 use Rattle.crumbs.specs.declared.Crumb.{Crumb}
-use Rattle.calls.specs.Questions.{placeMost}
+
+unfoldable pub placeMost : Float
+placeMost = constant (10 ^ 8) 1
 
 unfoldable pub alongSure : Float
 alongSure = constant (10 ^ 15) 1

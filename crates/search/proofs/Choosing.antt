@@ -12,6 +12,7 @@ use Rattle.crumbs.specs.declared.Crumb.{Crumb}
 use Rattle.segments.specs.declared.costs.Nearest.{Nearest}
 use Rattle.segments.specs.declared.costs.Cost.{Cost}
 use Rattle.segments.specs.declared.costs.Cost.the-variants.{Out, Metres}
+use Rattle.segments.specs.declared.Best.{Best}
 use Rattle.segments.specs.declared.Best.the-variants.{Found}
 use Rattle.segments.specs.declared.SoFar.{SoFar}
 use Rattle.segments.specs.declared.SoFar.the-variants.{Empty, Least}
@@ -20,6 +21,10 @@ use Rattle.segments.specs.Segment.{meets, nearestOn, cheaper, considered, found
 use Rattle.search.specs.Search.{rising, falling, count}
 use Rattle.search.specs.Theorems.{Met, FirstOfLeast, Finds}
 use Rattle.search.proofs.Order.{not-less, lt-irrefl, le-lt}
+
+-- whatever is found is where p meets a segment tried
+abbrev pub OnlyMet : List Crumb → Point → Range → Best → Type 0
+OnlyMet line p ends best = (near : Nearest) → best ≡ Found near → Met line p ends near
 
 differ : {A : Type 0} → true ≡ false → A
 differ e = let z : _≡_ {A = ℕ} 0 1 = cc in absurd (omega arith)

@@ -8,7 +8,7 @@ use borrow.Author.Tests.{le-ltb}
 use lib.ListN.{length}
 use lib.IntN.{ℤ}
 use lib.Ieee.{Float, nan, inf, fin, lt, le}
-use Rattle.binary32.specs.Size.{Within}
+use Rattle.binary32.proofs.magnitude.Size.{Within}
 use Rattle.plane.specs.declared.Point.{Point}
 use Rattle.plane.specs.Plane.{turn}
 use Rattle.crumbs.specs.declared.Crumb.{Crumb}
@@ -30,8 +30,8 @@ use Rattle.segments.specs.Segment.{nearestOn, costWithin, considered, found}
 use Rattle.search.specs.Search.{falling, count, every, anywhere, nearestOnBreadcrumb, nearestWithin}
 use Rattle.search.specs.Course.{closer, costAnywhere, courseNear, joins, joinedFrom, joined}
 use Rattle.search.specs.Along.{placeBefore, ends as leading}
-use Rattle.search.specs.Theorems.{Met, OnlyMet, FirstOfLeast, Finds}
-use Rattle.search.proofs.Choosing.{rising-all, falling-all, chosen-met, chosen-finds}
+use Rattle.search.specs.Theorems.{Met, FirstOfLeast, Finds, EveryBreadcrumb, EveryCourse, EveryFinding}
+use Rattle.search.proofs.Choosing.{OnlyMet, rising-all, falling-all, chosen-met, chosen-finds}
 
 abbrev pub Lower : ℕ → ℕ → Type 0
 Lower e f = e < f
@@ -58,11 +58,6 @@ module _ (line : List Crumb) (p : Point) where
     pub breadcrumb-met : OnlyMet line p ends (nearestOnBreadcrumb line p ends)
     breadcrumb-met near e = breadcrumb near e .0
 
-    -- "Equal costs: breadcrumb keeps the lowest end"
-    pub breadcrumb-least : (near : Nearest) → nearestOnBreadcrumb line p ends ≡ Found near
-        → (least : Float) × FirstOfLeast (costWithin line p anywhere Plain) Lower ends (near .end) least
-    breadcrumb-least near e = breadcrumb near e .1
-
     module _ (first : 1 ≤ ends .from) (within : Stretch) (by : Ranking) where
       course : (near : Nearest) → nearestWithin line p ends within by ≡ Found near
           → Met line p ends near × ((least : Float) × FirstOfLeast (costWithin line p within by) Higher ends (near .end) least)
@@ -73,11 +68,6 @@ module _ (line : List Crumb) (p : Point) where
 
       pub within-met : OnlyMet line p ends (nearestWithin line p ends within by)
       within-met near e = course near e .0
-
-      -- "course the highest"
-      pub within-least : (near : Nearest) → nearestWithin line p ends within by ≡ Found near
-          → (least : Float) × FirstOfLeast (costWithin line p within by) Higher ends (near .end) least
-      within-least near e = course near e .1
 
   -- ---- the course while it is not followed
   closer-than : (most : Float) (best : Best) (near : Nearest) → closer most best ≡ Found near → (best ≡ Found near) × (le (near .off) most ≡ true)
@@ -115,6 +105,12 @@ module _ (line : List Crumb) (p : Point) where
     unfolding joined
     joined-end end e = let r = joined-from end (every line .to) e in (r .0, omega (arith, r .0, r .1))
 
+pub breadcrumbs : EveryBreadcrumb
+breadcrumbs line p ends near e = breadcrumb line p ends near e
+
+pub courses : EveryCourse
+courses line p ends first within by near e = course line p ends first within by near e
+
 -- ---- a breadcrumb that has a segment with finite along is matched
 -- what is no larger than b in size lies from -b to b
 not-above : (n : ℕ) (d : ℤ) (x : Float) → Within (fin false n d) x → lt (fin false n d) x ≡ false
@@ -132,8 +128,7 @@ not-below n d (fin true m e) h = le-ltb _ _ h
 not-below n d (fin false m e) h = refl
 
 module _ (line : List Crumb) (p : Point) (ends : Range) (end : ℕ) (from : ends .from ≤ end) (to : end ≤ ends .to) where
-  -- a segment is taken unless it ends at -∞ or begins at +∞, however far off it is, a NaN included
-  pub breadcrumb-finds : lt (at line end .along) lowest ≡ false → lt largest (at line (end - 1) .along) ≡ false → Finds (nearestOnBreadcrumb line p ends)
+  breadcrumb-finds : lt (at line end .along) lowest ≡ false → lt largest (at line (end - 1) .along) ≡ false → Finds (nearestOnBreadcrumb line p ends)
   unfolding nearestOnBreadcrumb costWithin costOf plain
   breadcrumb-finds low high =
       let cost : costWithin line p anywhere Plain end ≡ Metres (nearestOn line p end .off) = rw (low, high, costWithin) in
@@ -143,6 +138,9 @@ module _ (line : List Crumb) (p : Point) (ends : Range) (end : ℕ) (from : ends
   pub breadcrumb-finds-finite : Within largest (at line (end - 1) .along) → Within largest (at line end .along) → Finds (nearestOnBreadcrumb line p ends)
   unfolding largest lowest
   breadcrumb-finds-finite a b = breadcrumb-finds (not-below _ _ _ b) (not-above _ _ _ a)
+
+pub findings : EveryFinding
+findings line p ends end from to low high = breadcrumb-finds line p ends end from to low high
 
 -- ---- places along a line, and turns
 pub place-at-most : (line : List Crumb) (along : Float) (i : ℕ) → placeBefore line along i ≤ i

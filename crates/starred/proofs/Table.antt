@@ -9,7 +9,7 @@ use lib.Ieee.{Float, nan, inf, fin, down, level, ofBits, eq, le, lt, add, sub, m
 use Rattle.binary32.specs.Arithmetic.{constant}
 use Rattle.binary32.specs.Root.{root}
 use Rattle.binary32.specs.Limits.{plusZero, clamp}
-use Rattle.binary32.specs.Size.{Within}
+use Rattle.binary32.proofs.magnitude.Size.{Within}
 use Rattle.plane.specs.declared.Heading.{Heading}
 use Rattle.plane.specs.declared.Heading.the-variants.{Known}
 use Rattle.plane.specs.Plane.{distance, share, between, atShare, project, offSegment, metres}

@@ -13,7 +13,7 @@ use Rattle.course.specs.Fix.{Fix}
 use Rattle.course.specs.Course.{lineOf}
 use Rattle.calls.specs.Line.{new, reset, setCourse}
 
--- A new guide, whatever the crumb buffer holds. The window's numbers are free: none belongs to a waiting place.
+-- A new guide, whatever the crumb buffer holds.
 pub record Made (r : Homing) : Type 0 where
   pub same : (b : List Float) → stateOf r b ≡ new
   pub trail : Emptied (r .trail)

@@ -4,11 +4,11 @@ use mathlib.Core.Path.{_≡_, refl, ap, _∙_}
 use mathlib.Core.List.{List, _++_}
 use native.Mathlib.Omega.{arith}
 use lib.ListN.{length, take, drop, length-append, length-drop}
-use lib.Seq.{paste, take-length, drop-drop, drop-at}
+use lib.Seq.{paste, take-length, drop-drop}
 use lib.Ieee.{Float}
 use Rattle.state.specs.declared.Homing.{Homing}
 use Rattle.stored.specs.Parts.{wordCount, numberCount}
-use Rattle.stored.specs.Stored.{stored, wordsOf, headOf, numbersOf, StateFits, Stores, holds}
+use Rattle.stored.specs.Stored.{stored, wordsOf, headOf, numbersOf, StateFits, Stores, HoldsStored}
 use Rattle.stored.proofs.ReadBack.{read-back}
 use Rattle.stored.proofs.fields.Copying.{in-front}
 
@@ -53,36 +53,11 @@ numbers-front h n n₁ long e p =
     ∙ ap (λ x. headOf h ++ h .trail .window ++ x) (drop-drop 96 14 n)
 
 -- ---- the promises
-module _ (h : Homing) (fits : StateFits h) (w : List ℕ) (n : List Float) (a : wordCount ≤ length w) (b : numberCount ≤ length n) where
-  words-count : length (wordsOf h ++ drop wordCount w) ≡ length w
-  unfolding wordsOf
-  words-count =
-      let d : length (drop wordCount w) ≡ length w - 45 = length-drop wordCount w in
-      let l : length (wordsOf h) ≡ 45 = refl in
-      length-append (wordsOf h) (drop wordCount w) ∙ ap (λ k. k + length (drop wordCount w)) l ∙ omega (arith, d)
+pub stores : {h : Homing} {w : List ℕ} {n : List Float} {w′ : List ℕ} {n′ : List Float} → StateFits h → w′ ≡ wordsOf h ++ drop wordCount w
+    → n′ ≡ numbersOf h ++ drop numberCount n → Stores h w n w′ n′
+stores fits e f = record { words = e; numbers = f; fits = fits }
 
-  words-after : drop wordCount (wordsOf h ++ drop wordCount w) ≡ drop wordCount w
-  unfolding wordsOf
-  words-after = refl
-
-  numbers-long : length (numbersOf h) ≡ 110
-  unfolding numbersOf headOf
-  numbers-long = length-append (headOf h) (h .trail .window) ∙ ap (λ k. 14 + k) (fits .window)
-
-  numbers-count : length (numbersOf h ++ drop numberCount n) ≡ length n
-  numbers-count =
-      let d : length (drop numberCount n) ≡ length n - numberCount = length-drop numberCount n in
-      length-append (numbersOf h) (drop numberCount n) ∙ omega (arith, d, numbers-long)
-
-  numbers-after : drop numberCount (numbersOf h ++ drop numberCount n) ≡ drop numberCount n
-  numbers-after = drop-at (numbersOf h) (drop numberCount n) numberCount numbers-long
-
-  pub stores : {w′ : List ℕ} {n′ : List Float} → w′ ≡ wordsOf h ++ drop wordCount w → n′ ≡ numbersOf h ++ drop numberCount n → Stores h w n w′ n′
-  stores {w′} {n′} e f =
-      record {
-        holds = ap (λ x. stored x n′) e ∙ ap (stored (wordsOf h ++ drop wordCount w)) f ∙ read-back h fits (drop wordCount w) (drop numberCount n);
-        words-long = ap length e ∙ words-count;
-        numbers-long = ap length f ∙ numbers-count;
-        words-behind = ap (drop wordCount) e ∙ words-after;
-        numbers-behind = ap (drop numberCount) f ∙ numbers-after;
-      }
+pub holds-stored : HoldsStored
+holds-stored h w n w′ n′ s =
+    ap (λ x. stored x n′) (s .words) ∙ ap (stored (wordsOf h ++ drop wordCount w)) (s .numbers)
+    ∙ read-back h (s .fits) (drop wordCount w) (drop numberCount n)

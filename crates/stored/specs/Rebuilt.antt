@@ -95,11 +95,14 @@ RebuildReadBack = (r : Rebuild) → within rebuildMosts (rebuildWords r) ≡ tru
 abbrev pub RebuildHasRoom : Type 0
 RebuildHasRoom = (w : List ℕ) (r : Rebuild) → storedRebuild w ≡ some r → rebuildCount ≤ length w
 
--- A rebuild r is stored, and what lies behind it is as it was.
+-- A rebuild r is stored: its words stand in front, and what lies behind them is as it was. Each field fits its type, on which reading back rests.
 pub record StoresRebuild (r : Rebuild) (w w′ : List ℕ) : Type 0 where
-  pub holds : storedRebuild w′ ≡ some r
-  pub long : length w′ ≡ length w
-  pub behind : drop rebuildCount w′ ≡ drop rebuildCount w
+  pub words : w′ ≡ rebuildWords r ++ drop rebuildCount w
+  pub fits : within rebuildMosts (rebuildWords r) ≡ true
+
+-- Words in which a rebuild is stored hold that rebuild, every field.
+abbrev pub RebuildHoldsStored : Type 0
+RebuildHoldsStored = (r : Rebuild) (w w′ : List ℕ) → StoresRebuild r w w′ → storedRebuild w′ ≡ some r
 
 -- What loading gives: the rebuild where one is held.
 pub record LoadsRebuild (w : List ℕ) (r : Rebuild) (held : Bool) : Type 0 where

@@ -99,13 +99,16 @@ ReadBack = (h : Homing) → StateFits h → (ws : List ℕ) (ns : List Float) �
 abbrev pub HasRoom : Type 0
 HasRoom = (w : List ℕ) (n : List Float) (h : Homing) → stored w n ≡ some h → (wordCount ≤ length w) × (numberCount ≤ length n)
 
--- A state h is stored, and what lies behind it is as it was.
+-- A state h is stored: its words and its numbers stand in front, and what lies behind them is as it was. Each field fits its type, on which reading back
+-- rests.
 pub record Stores (h : Homing) (w : List ℕ) (n : List Float) (w′ : List ℕ) (n′ : List Float) : Type 0 where
-  pub holds : stored w′ n′ ≡ some h
-  pub words-long : length w′ ≡ length w
-  pub numbers-long : length n′ ≡ length n
-  pub words-behind : drop wordCount w′ ≡ drop wordCount w
-  pub numbers-behind : drop numberCount n′ ≡ drop numberCount n
+  pub words : w′ ≡ wordsOf h ++ drop wordCount w
+  pub numbers : n′ ≡ numbersOf h ++ drop numberCount n
+  pub fits : StateFits h
+
+-- Slices in which a state is stored hold that state, every field.
+abbrev pub HoldsStored : Type 0
+HoldsStored = (h : Homing) (w : List ℕ) (n : List Float) (w′ : List ℕ) (n′ : List Float) → Stores h w n w′ n′ → stored w′ n′ ≡ some h
 
 -- What loading gives: the state where one is held.
 pub record Loads (w : List ℕ) (n : List Float) (h : Homing) (held : Bool) : Type 0 where

@@ -2,16 +2,16 @@
 use Prim.Native.Nat.{ℕ, suc, _+_, _*_, _^_, _≤_, _<_}
 use native.Mathlib.Nat.{lt-of-le-of-lt, mul-le-mul-right}
 use native.Mathlib.Omega.{arith}
-use mathlib.Core.Path.{_≡_}
+use mathlib.Core.Path.{_≡_, sym, _∙_}
 use mathlib.Core.Bool.{true, false}
-use lib.IntN.{ℤ, pos, negsuc}
-use lib.Dec.{T, lit<, lit≤, lt→ltb}
+use lib.IntN.{ℤ, pos}
+use lib.Dec.{T, leb, lit<, lit≤, lt→ltb, le→leb}
 use lib.Ieee.{Float, nan, inf, fin, binary32, fits, up, down, lt, le}
 use lib.Ieee.Bits.{is-true}
 use lib.Ieee.Fits.{add-fits, down-pos}
 use Rattle.binary32.specs.Arithmetic.{_⊕_, constant}
 use Rattle.binary32.specs.Limits.{plusZero, sizeOf}
-use Rattle.binary32.specs.Size.{Within, within, NonNeg, Share, pow, frac}
+use Rattle.binary32.proofs.magnitude.Size.{Within, within, NonNeg, Share, pow, frac}
 use Rattle.binary32.proofs.magnitude.Laws.{widen, within-trans, within-finite, sized as sizes}
 use Rattle.binary32.proofs.magnitude.Round.{Held}
 use Rattle.binary32.proofs.magnitude.More.{add-step}
@@ -20,9 +20,11 @@ use Rattle.binary32.proofs.magnitude.Signs.{add-nonneg, along-nonneg, zero-fits
 use Rattle.binary32.proofs.magnitude.Tests.{within→le, nonneg→le}
 use Rattle.plane.specs.declared.Point.{Point}
 use Rattle.plane.specs.Plane.{distance, between}
-use Rattle.plane.specs.Place.{Coordinate, Place}
+use Rattle.plane.proofs.Place.{Coordinate, Place}
 use Rattle.plane.proofs.Places.{distance-within}
-use Rattle.calls.specs.Questions.{placeMost, sized, placeFits, alongEnd, alongFits, factorMost, factorFits}
+use Rattle.calls.specs.Questions.{sized, placeFits, upTo, alongFits, factorFits}
+use Rattle.questions.specs.Sure.{placeMost}
+use Rattle.questions.proofs.Exact.{sized-tested, alongEnd, along-tested}
 
 -- ---- metres along a line
 -- a binary32 from 0 up to the bound
@@ -84,8 +86,8 @@ below-end (fin false m e) w = lt→ltb (m * up e * 1) (4656613 * 2 ^ 31 * down e
 below-end (fin true m e) w = lt→ltb 0 (m * up e * 1 + 4656613 * 2 ^ 31 * down e) (some-more (m * up e) (down e) (down-pos e))
 
 pub along-fits : (x : Float) → Along far x → alongFits x ≡ true
-unfolding alongFits alongEnd constant
-along-fits x a = rw (is-true (le plusZero x) (nonneg→le x (a .least))) (is-true _ (below-end x (a .most)))
+unfolding alongEnd constant
+along-fits x a = sym (along-tested x (a .fits)) ∙ rw (is-true (le plusZero x) (nonneg→le x (a .least))) (is-true _ (below-end x (a .most)))
 
 -- a bound that is written out, and a wider one
 size-fits : (b : Float) (n : ℕ) (d : ℤ) (x : Float) → T (within (fin false n d) b) → Within b x → le (sizeOf x) (fin false n d) ≡ true
@@ -94,13 +96,18 @@ size-fits b n d x t w =
     (within→le n d (sizeOf x) (widen b (fin false n d) (sizeOf x) t (within-trans b x (sizeOf x) w (sizes x (within-finite b x w) .0))) .0)
 
 coordinate-sized : (x : Float) → Coordinate x → sized x ≡ true
-unfolding sized placeMost constant
-coordinate-sized x c = size-fits (pow 25) 390625 (pos 8) x tt (c .1)
+unfolding placeMost constant
+coordinate-sized x c = sym (sized-tested x) ∙ size-fits (pow 25) 390625 (pos 8) x tt (c .1)
 
 pub place-fits : (p : Point) → Place p → placeFits p ≡ true
 unfolding placeFits
 place-fits p P = rw (coordinate-sized (p .east) (P .east)) (coordinate-sized (p .north) (P .north))
 
+under : (y d : ℕ) → y * 2 ^ 6 ≤ 1 * 1 * d → y * 100 ≤ 2 * d
+under y d h = omega arith
+
 pub factor-fits : (x : Float) → Within (frac 5) x → factorFits x ≡ true
-unfolding factorFits factorMost constant
-factor-fits x w = size-fits (frac 5) 5368709 (negsuc 27) x tt w
+unfolding factorFits upTo
+factor-fits nan w = absurd w
+factor-fits (inf s) w = absurd w
+factor-fits (fin s m e) w = is-true (leb (m * up e * 100) (2 * down e)) (le→leb (m * up e * 100) (2 * down e) (under (m * up e) (down e) w))

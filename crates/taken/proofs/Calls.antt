@@ -10,7 +10,7 @@ use lib.ListN.{length}
 use Rattle.plane.specs.declared.Point.{Point}
 use Rattle.plane.specs.declared.Spot.{Spot}
 use Rattle.plane.specs.declared.Spot.the-variants as spot
-use Rattle.plane.specs.Place.{Place}
+use Rattle.plane.proofs.Place.{Place}
 use Rattle.crumbs.specs.declared.Crumb.{Crumb}
 use Rattle.motion.specs.Heading.{elapsed}
 use Rattle.segments.specs.declared.costs.Nearest.{Nearest}

@@ -13,7 +13,7 @@ use Rattle.plane.specs.declared.Spot.{Spot}
 use Rattle.plane.specs.declared.Spot.the-variants.{At, Nowhere}
 use Rattle.plane.specs.declared.Heading.{Heading}
 use Rattle.plane.specs.declared.Heading.the-variants.{Known, Unknown}
-use Rattle.plane.specs.Place.{Place}
+use Rattle.plane.proofs.Place.{Place}
 use Rattle.crumbs.specs.declared.Crumb.{Crumb}
 use Rattle.search.specs.declared.Join.{Join}
 use Rattle.search.specs.declared.Join.the-variants.{Segment, NoSegment}

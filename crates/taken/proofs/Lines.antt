@@ -9,7 +9,7 @@ use lib.Dec.{leb, lit≤}
 use lib.ListN.{length, length-reverse}
 use Rattle.binary32.specs.Arithmetic.{constant}
 use Rattle.binary32.specs.Limits.{plusZero}
-use Rattle.binary32.specs.Size.{Within, frac}
+use Rattle.binary32.proofs.magnitude.Size.{Within, frac}
 use Rattle.plane.specs.Fix.{mPerE7}
 use Rattle.crumbs.specs.declared.Crumb.{Crumb}
 use Rattle.crumbs.specs.Along.{alongBehind}

@@ -5,14 +5,15 @@ use mathlib.Core.Bool.{Bool, true, false}
 use borrow.Author.Tests.{lt-ltb}
 use lib.Dec.{ltb}
 use lib.Ieee.{Float, le}
-use Rattle.binary32.specs.Size.{Within, frac}
+use Rattle.binary32.proofs.magnitude.Size.{Within, frac}
 use Rattle.plane.specs.declared.Point.{Point}
 use Rattle.plane.specs.declared.Spot.{Spot}
 use Rattle.plane.specs.declared.Spot.the-variants.{At, Nowhere}
 use Rattle.plane.specs.declared.Heading.{Heading}
 use Rattle.plane.specs.declared.Heading.the-variants.{Known, Unknown}
 use Rattle.plane.specs.Plane.{turn, distance, bearing}
-use Rattle.plane.specs.Place.{Place, OnGlobe}
+use Rattle.plane.proofs.Place.{Place}
+use Rattle.plane.specs.Globe.{OnGlobe}
 use Rattle.plane.proofs.Theorems.{bearing-below, east-factor, frame-place}
 use Rattle.motion.specs.declared.Motion.{Motion}
 use Rattle.lap.specs.declared.Lap.{Lap}

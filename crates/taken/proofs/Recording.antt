@@ -13,7 +13,7 @@ use lib.Ieee.{le, lt}
 use Rattle.binary32.specs.Arithmetic.{constant}
 use Rattle.binary32.specs.Limits.{plusZero}
 use Rattle.plane.specs.declared.Point.{Point}
-use Rattle.plane.specs.Place.{Place}
+use Rattle.plane.proofs.Place.{Place}
 use Rattle.crumbs.specs.declared.Crumb.{Crumb}
 use Rattle.crumbs.specs.Crumb.{point}
 use Rattle.crumbs.specs.Choice.{last}

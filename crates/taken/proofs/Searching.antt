@@ -6,7 +6,7 @@ use mathlib.Core.List.{List}
 use lib.ListN.{length}
 use Rattle.plane.specs.declared.Point.{Point}
 use Rattle.plane.specs.Plane.{share, atShare, project}
-use Rattle.plane.specs.Place.{Place}
+use Rattle.plane.proofs.Place.{Place}
 use Rattle.plane.proofs.Places.{share-share, project-place}
 use Rattle.crumbs.specs.declared.Crumb.{Crumb}
 use Rattle.crumbs.specs.Crumb.{point}

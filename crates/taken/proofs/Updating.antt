@@ -7,10 +7,10 @@ use mathlib.Core.List.{List}
 use borrow.Author.Tests.{leb-true, lt-ltb}
 use lib.Dec.{leb}
 use lib.ListN.{length}
-use lib.Ieee.{Float, lt, le, eq}
+use lib.Ieee.{Float, lt, le}
 use Rattle.plane.specs.declared.Point.{Point}
 use Rattle.plane.specs.Plane.{turn, distance, bearing}
-use Rattle.plane.specs.Place.{Place}
+use Rattle.plane.proofs.Place.{Place}
 use Rattle.plane.proofs.Theorems.{bearing-below}
 use Rattle.crumbs.specs.declared.Crumb.{Crumb}
 use Rattle.segments.specs.declared.costs.Nearest.{Nearest}
@@ -33,7 +33,7 @@ use Rattle.state.specs.Rule.{Done}
 use Rattle.matching.specs.declared.followed.Way.{Way}
 use Rattle.guide.specs.Guide.{leaveM, arriveM, offCleared, arrivalFrom, guideAt, finished, direct}
 use Rattle.guide.specs.Goal.{goalOn, longEnough}
-use Rattle.matching.specs.Match.{onCourse, onLine, aroundSegment, nearer, offM, smaller, followMatched, courseMatched}
+use Rattle.matching.specs.Match.{onCourse, onLine, aroundSegment, nearer, offM, isNumber, smaller, followMatched, courseMatched}
 use Rattle.matching.specs.Followed.{followedOn, followed, progress, nearest, widened}
 use Rattle.update.specs.Update.{begun, matchedAt, endedWith, atCourseEnd, matchedTo, matchFrom, followOn, update}
 use Rattle.calls.specs.Questions.{guideFits, shownFits}
@@ -47,7 +47,8 @@ use Rattle.taken.proofs.Following.{stop-kept}
 
 smaller-along : (a b : Float) → Along far a → Along far b → Along far (smaller a b)
 unfolding smaller
-smaller-along a b A B = one-of (Along far) (le a b) (λ t. A) (λ t. one-of (Along far) (eq b b) (λ u. B) (λ u. A))
+smaller-along a b A B =
+    one-of (Along far) (isNumber a && isNumber b) (λ t. one-of (Along far) (le a b) (λ u. A) (λ u. B)) (λ t. one-of (Along far) (isNumber a) (λ u. A) (λ u. B))
 
 module _ (C : ℕ) (least : 3 ≤ C) (room : C ≤ most) (course : List Crumb) (lined : Lined course) (p : Point) (P : Place p) where
   -- the state as it is kept here

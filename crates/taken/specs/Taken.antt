@@ -7,7 +7,7 @@ use mathlib.Core.Bool.{true}
 use mathlib.Core.List.{List, [], _∷_}
 use lib.ListN.{length, take}
 use lib.Ieee.{Float}
-use Rattle.plane.specs.Place.{OnGlobe}
+use Rattle.plane.specs.Globe.{OnGlobe}
 use Rattle.crumbs.specs.declared.Crumb.{Crumb}
 use Rattle.crumbs.specs.Crumb.{capacity, crumbs}
 use Rattle.state.specs.declared.Place.{Place}

@@ -3,7 +3,7 @@ use Prim.Native.Nat.{ℕ, zero, suc, _+_, _*_, _≤_, max}
 use mathlib.Core.Path.{_≡_}
 use mathlib.Core.Bool.{true}
 use mathlib.Core.List.{List, [], _∷_, _++_}
-use lib.ListN.{length, getD}
+use lib.ListN.{length, getD, replicate}
 use lib.Ieee.{Float, nan, le}
 use Rattle.binary32.specs.Limits.{plusZero}
 use Rattle.plane.specs.declared.Point.{Point}
@@ -31,6 +31,10 @@ track t b =
       retrace = t .retrace;
       retraceLen = t .«retrace_len»;
     }
+
+-- "Window as [0.0; 96] of f32 inside the state": its numbers before a place has waited in it
+unfoldable pub emptyWindow : List Float
+emptyWindow = replicate 96 plusZero
 
 -- What questions 1 and 10 ask of a trail and a buffer of `size` numbers, as far as the recording needs it.
 pub record Fit (t : Trail) (size : ℕ) : Type 0 where
@@ -63,4 +67,5 @@ pub record Changes (rule : Rule) (t r : Trail) : Type 0 where
 -- A trail of which nothing is recorded yet, on a buffer that passes question 1.
 pub record Emptied (r : Trail) : Type 0 where
   pub same : (b : List Float) → track r b ≡ fresh
+  pub window : r .window ≡ emptyWindow
   pub fit : (size : ℕ) → whole size ≡ true → 8 ≤ capacity size → capacity size ≤ 4096 → Fit r size

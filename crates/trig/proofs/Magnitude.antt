@@ -16,7 +16,7 @@ use lib.Ieee.Nearest.{div-same}
 use lib.Ieee.Scale.{grid, round-under}
 use Rattle.binary32.specs.Arithmetic.{_⊕_, _⊖_, _⊗_}
 use Rattle.binary32.specs.Limits.{sizeOf, one, plusZero}
-use Rattle.binary32.specs.Size.{Within}
+use Rattle.binary32.proofs.magnitude.Size.{Within}
 use Rattle.binary32.proofs.magnitude.Laws.{passed, within-refl, widen, add-within, sub-within, mul-within}
 use Rattle.binary32.proofs.magnitude.More.{sub-between}
 use Rattle.binary32.proofs.magnitude.Round.{held, units-held, round-value}

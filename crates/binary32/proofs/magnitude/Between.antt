@@ -15,7 +15,7 @@ use lib.Ieee.Fits.{up-pos, down-pos, sub-fits}
 use lib.Ieee.Exact.{HasValue}
 use lib.Ieee.Scale.{grid, overflow, finite, round-under}
 use Rattle.binary32.specs.Limits.{plusZero}
-use Rattle.binary32.specs.Size.{Within, Share, pow}
+use Rattle.binary32.proofs.magnitude.Size.{Within, Share, pow}
 use Rattle.binary32.proofs.magnitude.Round.{round-value, round-held, grid-le, Held, held, units-held, within-of-values, value-of-within, value-finite}
 use Rattle.binary32.proofs.magnitude.Laws.{within-finite}
 use Rattle.binary32.proofs.magnitude.Units.{fl, fl-near, fl-mono, fl-back, add-units}

@@ -12,7 +12,7 @@ use lib.Ieee.Fits.{down-pos}
 use lib.Ieee.Scale.{finite}
 use lib.Ieee.Positive.{through}
 use Rattle.binary32.specs.Limits.{sizeOf}
-use Rattle.binary32.specs.Size.{Within, within}
+use Rattle.binary32.proofs.magnitude.Size.{Within, within}
 use Rattle.binary32.proofs.magnitude.Round.{round-within, round-held}
 
 -- a parameter's fit, as a function's proof has it: `passed (c .good .0 .1)` for the first parameter, `passed (c .good .1 .0 .1)` for the second

@@ -15,7 +15,7 @@ use lib.Ieee.Order.{drop, kept}
 use lib.Ieee.Scale.{finite, overflow}
 use lib.Ieee.Positive.{first-pos}
 use Rattle.binary32.specs.Limits.{sizeOf, plusZero}
-use Rattle.binary32.specs.Size.{Within, within, NonNeg, pow}
+use Rattle.binary32.proofs.magnitude.Size.{Within, within, NonNeg, pow}
 use Rattle.binary32.proofs.magnitude.Round.{round-within, round-held, Held, held}
 use Rattle.binary32.proofs.magnitude.Signs.{value-nonneg, zero-nonneg, zero-fits}
 use Rattle.binary32.proofs.magnitude.Tests.{nonneg→le, le→nonneg}

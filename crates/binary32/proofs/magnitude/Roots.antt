@@ -13,7 +13,7 @@ use lib.Ieee.Fits.{down-pos}
 use lib.Ieee.Scale.{finite}
 use Rattle.binary32.specs.Root.{root, rootOf, halves}
 use Rattle.binary32.proofs.Sides.{halves-below, halves-exact}
-use Rattle.binary32.specs.Size.{Within, NonNeg, pow}
+use Rattle.binary32.proofs.magnitude.Size.{Within, NonNeg, pow}
 use Rattle.binary32.proofs.magnitude.Round.{round-held, Held, held}
 use Rattle.binary32.proofs.magnitude.Signs.{round-nonneg}
 

@@ -16,7 +16,7 @@ use lib.Ieee.Exact.{HasValue, units-val, round-exact}
 use lib.Ieee.Order.{drop, kept, transfer, round-mono}
 use lib.Ieee.Scale.{grid, overflow, finite, round-val, round-under}
 use lib.Ieee.Positive.{num, den, den-pos}
-use Rattle.binary32.specs.Size.{Within}
+use Rattle.binary32.proofs.magnitude.Size.{Within}
 
 -- ---- the rounded value, whatever the sign
 pub round-value : (f : Format) (s : Bool) (a c : ℕ) → grid f a c < overflow f → HasValue (round f s a c) s (grid f a c) (2 ^ low f)

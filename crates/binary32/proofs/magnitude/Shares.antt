@@ -13,7 +13,7 @@ use lib.Ieee.Order.{drop, kept}
 use lib.Ieee.Scale.{finite, overflow}
 use lib.Ieee.Positive.{first-pos}
 use Rattle.binary32.specs.Limits.{plusZero, one, clamp}
-use Rattle.binary32.specs.Size.{Within, NonNeg, Share}
+use Rattle.binary32.proofs.magnitude.Size.{Within, NonNeg, Share}
 use Rattle.binary32.proofs.magnitude.Round.{round-held, held}
 
 -- ---- `round` makes no NaN

@@ -14,7 +14,7 @@ use lib.Ieee.Fits.{up-pos, down-pos, and-l, sub-fits}
 use lib.Ieee.Exact.{HasValue}
 use lib.Ieee.Scale.{grid, overflow, finite, round-under, round-same}
 use Rattle.binary32.specs.Limits.{plusZero}
-use Rattle.binary32.specs.Size.{Within, NonNeg, Share, pow}
+use Rattle.binary32.proofs.magnitude.Size.{Within, NonNeg, Share, pow}
 use Rattle.binary32.proofs.magnitude.Round.{round-value, round-held, held, value-of-within}
 use Rattle.binary32.proofs.magnitude.Laws.{within-finite}
 use Rattle.binary32.proofs.magnitude.Units.{fl, fl-mono, add-units}

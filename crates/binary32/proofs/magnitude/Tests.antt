@@ -11,7 +11,7 @@ use lib.Ieee.{Float, nan, inf, fin, up, down, neg, lt, eq, le, below, level, For
 use lib.Ieee.Fits.{up-pos, down-pos, and-l, and-r, eq→eqb}
 use lib.Ieee.Scale.{finite}
 use Rattle.binary32.specs.Limits.{sizeOf, plusZero}
-use Rattle.binary32.specs.Size.{Within, NonNeg}
+use Rattle.binary32.proofs.magnitude.Size.{Within, NonNeg}
 
 or-l : (a b : Bool) → T a → T (a || b)
 or-l true b t = tt

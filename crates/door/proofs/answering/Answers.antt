@@ -1,10 +1,10 @@
 -- An export's promise from what it read and what the call answered. Assumes nothing.
-use Prim.Native.Nat.{ℕ, _≤_, _<_}
+use Prim.Native.Nat.{ℕ, zero, suc, _≤_, _<_}
 use native.Mathlib.Omega.{arith}
 use mathlib.Core.Path.{_≡_, refl, sym, ap, subst, _∙_}
 use mathlib.Core.Logic.{_≢_}
 use mathlib.Core.Bool.{Bool, true, false, not}
-use mathlib.Core.List.{List}
+use mathlib.Core.List.{List, []}
 use mathlib.Core.Option.{Option, none, some}
 use borrow.Author.Tests.{not-true, not-false, le-leb, lt-leb}
 use lib.ListN.{length}
@@ -63,37 +63,37 @@ module _ {S R A W : Type 0} {held : Option S} {unread : ℕ} {promise : S → R 
   answered e p told = answered-with e p told refl
 
 -- ---- parts
-module _ {S : Type 0} {held : Option S} {unread : ℕ} {promise : S → ℕ → List Float → Type 0} {b : List Float} {was : ℕ} where
-  pub no-part : {number : ℕ} → held ≡ none → number ≡ unread → Parts held unread promise b number was was
-  no-part e told = record { nothing = λ _. (told, refl); asked = λ h f. held-none f e }
+none-left : (part : List Float) {number count : ℕ} → (number ≢ 0 → part ≡ []) → count ≡ capacity (length part) → number ≢ 0 → count ≡ 0
+none-left part empty counted ne = counted ∙ ap (λ (x : List Float). capacity (length x)) (empty ne)
 
-  module _ {h : S} {number : ℕ} (e : held ≡ some h) (part : List Float) (p : promise h number part) where
-    pub part-refused : number ≢ 0 → Parts held unread promise b number was was
-    part-refused ne =
-        record {
-          nothing = λ f. held-none e f;
-          asked = λ k f.
-              record {
-                part = part;
-                promised = subst (λ (s : S). promise s number part) (held-same e f) p;
-                count = λ z. absurd (ne z);
-                front = λ z. absurd (ne z);
-                refused = λ _. refl;
-              };
-        }
+-- a call that was refused returns an empty part, and any other the first n crumbs
+in-front : (b part : List Float) (number count n : ℕ) → (number ≡ 0 → part ≡ inFront n b)
+    → (number ≡ 0 → crumbs (capacity (length part)) part ≡ crumbs n b) → (number ≢ 0 → part ≡ []) → count ≡ capacity (length part)
+    → part ≡ inFront count b
+unfolding inFront
+in-front b part zero count n front same empty counted =
+    let long = sym (length-crumbs (capacity (length part)) part) ∙ ap length (same refl) ∙ length-crumbs n b in
+    front refl ∙ ap (λ (m : ℕ). inFront m b) (sym (counted ∙ long))
+in-front b part (suc k) count n front same empty counted =
+    let ne : suc k ≢ 0 = λ e. omega (arith, e) in
+    empty ne ∙ sym (ap (λ (m : ℕ). inFront m b) (none-left part empty counted ne))
 
-    pub part-returned : {is : ℕ} (n : ℕ) → number ≡ 0 → part ≡ inFront n b → crumbs (capacity (length part)) part ≡ crumbs n b → is ≡ capacity (length part)
-        → Parts held unread promise b 0 was is
-    part-returned n passed front same count =
-        let long = sym (length-crumbs (capacity (length part)) part) ∙ ap length same ∙ length-crumbs n b in
-        record {
-          nothing = λ f. held-none e f;
-          asked = λ k f.
-              record {
-                part = part;
-                promised = subst (λ (z : ℕ). promise k z part) passed (subst (λ (s : S). promise s number part) (held-same e f) p);
-                count = λ _. count;
-                front = λ _. front ∙ ap (λ (m : ℕ). inFront m b) (sym (count ∙ long));
-                refused = λ ne. absurd (ne refl);
-              };
-        }
+module _ {S : Type 0} {held : Option S} {unread : ℕ} {promise : S → ℕ → List Float → Type 0} {b : List Float} where
+  pub no-part : {number told count : ℕ} → held ≡ none → told ≡ unread → (number ≡ told) × (count ≡ 0) → Parts held unread promise b number count
+  no-part e is empty = record { nothing = λ _. (empty .0 ∙ is, empty .1); asked = λ h f. held-none f e }
+
+  pub part-returned : {h : S} {number count : ℕ} → held ≡ some h → (part : List Float) → promise h number part → (n : ℕ)
+      → (number ≡ 0 → part ≡ inFront n b) → (number ≡ 0 → crumbs (capacity (length part)) part ≡ crumbs n b) → (number ≢ 0 → part ≡ [])
+      → count ≡ capacity (length part) → Parts held unread promise b number count
+  part-returned {number = number} e part p n front same empty counted =
+      record {
+        nothing = λ f. held-none e f;
+        asked = λ k f.
+            record {
+              part = part;
+              promised = subst (λ (s : S). promise s number part) (held-same e f) p;
+              counted = counted;
+              front = in-front b part number _ n front same empty counted;
+              refused = none-left part empty counted;
+            };
+      }

@@ -14,7 +14,7 @@ use Rattle.segments.specs.declared.costs.Nearest.{Nearest}
 use Rattle.segments.specs.declared.Best.{Best}
 use Rattle.segments.specs.declared.Best.the-variants.{Nothing, Found}
 use Rattle.search.specs.declared.Range.{Range}
-use Rattle.search.specs.Theorems.{OnlyMet}
+use Rattle.search.proofs.Choosing.{OnlyMet}
 use Rattle.search.proofs.Theorems.{breadcrumb-met}
 use Rattle.search.proofs.course_match.Theorems.{course-met}
 use Rattle.trail.specs.View.{track}

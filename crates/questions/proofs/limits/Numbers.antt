@@ -10,7 +10,7 @@ use Rattle.binary32.specs.Limits.{sizeOf}
 use Rattle.binary32.proofs.magnitude.Tests.{within→le, le→within, size→within}
 
 -- two tests that pass together
-same : (a b : Bool) → (T a → T b) → (T b → T a) → a ≡ b
+pub same : (a b : Bool) → (T a → T b) → (T b → T a) → a ≡ b
 same true true f g = refl
 same false false f g = refl
 same true false f g = absurd (f tt)

@@ -2,15 +2,16 @@
 use mathlib.Core.Path.{_≡_, refl, sym, ap, _∙_, subst}
 use mathlib.Core.Bool.{Bool, true, false, _&&_}
 use lib.Dec.{T}
-use lib.Ieee.{Float, neg, le, lt}
+use Prim.Native.Nat.{_^_}
+use lib.Ieee.{Float, neg, le}
 use Rattle.binary32.specs.Arithmetic.{constant}
 use Rattle.binary32.specs.Limits.{plusZero}
 use Rattle.crumbs.specs.declared.Crumb.{Crumb}
 use Rattle.crumbs.specs.Crumb.{point}
-use Rattle.calls.specs.Questions.{placeMost, sized, placeFits, alongEnd, alongFits, crumbFits}
-use Rattle.binary32.proofs.roots.Order.{le-lt}
-use Rattle.questions.specs.Sure.{alongSure, noneBelow, noneAbove}
+use Rattle.calls.specs.Questions.{sized, placeFits, upTo, alongFits, crumbFits}
+use Rattle.questions.specs.Sure.{placeMost, alongSure, noneBelow, noneAbove}
 use Rattle.questions.proofs.limits.Numbers.{sized-within}
+use Rattle.questions.proofs.Exact.{sized-tested, sure-along}
 
 never : {A : Type 0} → false ≡ true → A
 never e = absurd (subst T (sym e) tt)
@@ -20,16 +21,12 @@ both true b h = (refl, h)
 both false b h = never h
 
 fits-size : (x : Float) → le (neg placeMost) x ≡ true → le x placeMost ≡ true → sized x ≡ true
-unfolding sized placeMost constant neg
-fits-size x l h = sym (sized-within _ _ x) ∙ ap (λ (b : Bool). b && le x placeMost) l ∙ h
-
-under-end : lt alongSure alongEnd ≡ true
-unfolding alongSure alongEnd constant lt
-under-end = refl
+unfolding placeMost constant neg
+fits-size x l h = sym (sized-tested x) ∙ sym (sized-within _ _ x) ∙ ap (λ (b : Bool). b && le x placeMost) l ∙ h
 
 fits-along : (x : Float) → le plusZero x ≡ true → le x alongSure ≡ true → alongFits x ≡ true
-unfolding alongFits
-fits-along x l h = ap (λ (b : Bool). b && lt x alongEnd) l ∙ le-lt x alongSure alongEnd h under-end
+unfolding alongFits alongSure
+fits-along x l h = ap (λ (b : Bool). b && upTo (10 ^ 16) 1 x) l ∙ sure-along x h
 
 pub sure-fits : (c : Crumb) → noneBelow c ≡ true → noneAbove c ≡ true → crumbFits c ≡ true
 unfolding noneBelow noneAbove crumbFits placeFits

@@ -12,7 +12,7 @@ use Rattle.segments.specs.declared.Best.the-variants.{Nothing, Found}
 use Rattle.search.specs.declared.Range.{Range}
 use Rattle.search.specs.declared.course_match.Progress.{Progress}
 use Rattle.search.specs.CourseMatch.{inReach, afterGap, slidesBack, orElse, settled, onNear, matched, nearestOnCourse}
-use Rattle.search.specs.Theorems.{OnlyMet}
+use Rattle.search.proofs.Choosing.{OnlyMet}
 use Rattle.search.proofs.Theorems.{within-met}
 
 module _ (line : List Crumb) (p : Point) (ends : Range) (first : 1 ≤ ends .from) (was : Progress) where

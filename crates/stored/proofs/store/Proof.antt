@@ -17,7 +17,9 @@ same-length-2 : tie.Need-same-length-2
 same-length-2 c = search needs
 
 returns : tie.Need-returns
-returns c = stores (c .before .before .before .before .before .before .before .before .before .before .args .h) (c .before .before .before .before .before .before .store-words .ensures .1) _ _ (c .before .before .before .before .before .before .before .before .before .before .pre .0) (c .before .before .before .before .before .before .before .before .before .before .pre .1) (c .before .before .before .before .before .before .store-words .ensures .0) (c .before .before .store-numbers .ensures)
+returns c =
+    stores (c .before .before .before .before .before .before .store-words .ensures .1) (c .before .before .before .before .before .before .store-words .ensures .0)
+    (c .before .before .store-numbers .ensures)
 
 pub store-spec : {M : Type 1} → statement M
 store-spec =

@@ -1,13 +1,11 @@
 -- Places and metres along a line that pass question 10: a step from one such place to another adds too little to leave the range. Assumes nothing.
 use Prim.Native.Nat.{ℕ, suc, _+_, _-_, _*_, _^_, _≤_, _<_}
-use native.Mathlib.Nat.{le-of-lt, mul-assoc, mul-le-mul, mul-le-mul-right}
 use native.Mathlib.Omega.{arith}
-use mathlib.Core.Path.{_≡_, refl, sym, ap, _∙_, subst}
-use mathlib.Core.Bool.{Bool, true, false}
-use borrow.Author.Tests.{leb-true, leb-false}
+use mathlib.Core.Path.{_≡_, sym, _∙_}
+use mathlib.Core.Bool.{true, false}
 use lib.IntN.{pos, negsuc}
-use lib.Dec.{T, leb, lit<, lit≤, lt→ltb, ltb→lt}
-use lib.Pow.{pow-pos, pow-add}
+use lib.Dec.{T, lit<, lit≤, lt→ltb, ltb→lt}
+use lib.Pow.{pow-pos}
 use lib.Ieee.{Float, nan, inf, fin, binary32, fits, up, down, add, mul, lt, le, eq}
 use lib.Ieee.Bits.{is-true}
 use lib.Ieee.Fits.{add-fits, down-pos}
@@ -15,7 +13,7 @@ use lib.Ieee.Scale.{finite}
 use Rattle.binary32.specs.Arithmetic.{_⊕_, _⊖_, _⊗_, constant}
 use Rattle.binary32.specs.Root.{root}
 use Rattle.binary32.specs.Limits.{plusZero, sizeOf}
-use Rattle.binary32.specs.Size.{Within, NonNeg, pow}
+use Rattle.binary32.proofs.magnitude.Size.{Within, NonNeg, pow}
 use Rattle.binary32.proofs.magnitude.Laws.{passed, widen, within-finite, add-within, sub-within, mul-within}
 use Rattle.binary32.proofs.magnitude.Round.{held}
 use Rattle.binary32.proofs.magnitude.Signs.{zero-fits, add-nonneg, square-nonneg}
@@ -23,7 +21,9 @@ use Rattle.binary32.proofs.magnitude.Roots.{root-within, root-nonneg}
 use Rattle.binary32.proofs.magnitude.Tests.{size→within, nonneg→le, le→nonneg}
 use Rattle.plane.specs.declared.Point.{Point}
 use Rattle.plane.specs.Plane.{distance}
-use Rattle.calls.specs.Questions.{placeMost, sized, placeFits, alongEnd, alongFits}
+use Rattle.calls.specs.Questions.{sized, placeFits, alongFits}
+use Rattle.questions.specs.Sure.{placeMost}
+use Rattle.questions.proofs.Exact.{sized-tested, alongEnd, whole-part, small-part, along-tested}
 use Rattle.taken.proofs.Tests.{and-left, and-right, both}
 
 -- ---- a place that passes question 10
@@ -44,8 +44,8 @@ size-finite (inf s) t = absurd t
 size-finite (fin s m e) t = tt
 
 coordinate : (x : Float) → sized x ≡ true → Within edge x
-unfolding sized placeMost constant
-coordinate x e = let t : T (le (sizeOf x) edge) = passed e in size→within 390625 (pos 8) x (size-finite x t) t
+unfolding placeMost constant
+coordinate x e = let t : T (le (sizeOf x) edge) = passed (sized-tested x ∙ e) in size→within 390625 (pos 8) x (size-finite x t) t
 
 gap : (a b : Float) → sized a ≡ true → sized b ≡ true → Within across (b ⊖ a)
 unfolding add
@@ -81,32 +81,6 @@ pub record Reaches (x : Float) : Type 0 where
   pub least : NonNeg x
   pub most : Within farthest x
 
-low-part : (m k : ℕ) → m < 2 ^ 24 → k < 30 → m * 2 ^ k * 1 ≤ 9313225 * 2 ^ 30 * 1
-low-part m k few l =
-    let n : 29 - k + k ≡ 29 = omega arith in
-    let e : 2 ^ (29 - k) * 2 ^ k ≡ 2 ^ 29 = sym (pow-add 2 (29 - k) k) ∙ ap (λ (i : ℕ). 2 ^ i) n in
-    let p : 1 * 2 ^ k ≤ 2 ^ (29 - k) * 2 ^ k = mul-le-mul-right (2 ^ k) (pow-pos (29 - k)) in
-    let q : 2 ^ k ≤ 2 ^ 29 = omega (arith, e, p) in
-    let r : m * 2 ^ k ≤ 2 ^ 24 * 2 ^ 29 = mul-le-mul (le-of-lt few) q in
-    omega (arith, r)
-
-high-part : (m j : ℕ) → m * 2 ^ (j + 30) * 1 < 4656613 * 2 ^ 31 * 1 → m * 2 ^ (j + 30) * 1 ≤ 9313225 * 2 ^ 30 * 1
-high-part m j l =
-    let e : m * 2 ^ (j + 30) ≡ m * 2 ^ j * 2 ^ 30 = ap (λ (z : ℕ). m * z) (pow-add 2 j 30) ∙ sym (mul-assoc m (2 ^ j) (2 ^ 30)) in
-    omega (arith, e, l)
-
-whole-part : (m k : ℕ) → m < 2 ^ 24 → m * 2 ^ k * 1 < 4656613 * 2 ^ 31 * 1 → m * 2 ^ k * 1 ≤ 9313225 * 2 ^ 30 * 1
-whole-part m k few l = by (leb 30 k) refl
-  where
-    by : (b : Bool) → leb 30 k ≡ b → m * 2 ^ k * 1 ≤ 9313225 * 2 ^ 30 * 1
-    by true e =
-        let r : k - 30 + 30 ≡ k = omega (arith, leb-true 30 k e) in
-        subst (λ (i : ℕ). m * 2 ^ i * 1 ≤ 9313225 * 2 ^ 30 * 1) r (high-part m (k - 30) (subst (λ (i : ℕ). m * 2 ^ i * 1 < 4656613 * 2 ^ 31 * 1) (sym r) l))
-    by false e = low-part m k few (leb-false 30 k e)
-
-small-part : (m d : ℕ) → m < 2 ^ 24 → 0 < d → m * 1 * 1 ≤ 9313225 * 2 ^ 30 * d
-small-part m d few some = omega arith
-
 below-end : (x : Float) → T (fits binary32 x) → NonNeg x → T (lt x (fin false 4656613 (pos 31))) → Within farthest x
 unfolding lt
 below-end nan f h t = absurd t
@@ -130,10 +104,11 @@ along-finite (inf false) a b = absurd b
 along-finite (fin s m e) a b = tt
 
 pub along-given : (x : Float) → T (fits binary32 x) → alongFits x ≡ true → Reaches x
-unfolding alongFits alongEnd constant
+unfolding alongEnd constant
 along-given x f e =
-    let a : T (le plusZero x) = passed (and-left (le plusZero x) _ e) in
-    let b : T (lt x (fin false 4656613 (pos 31))) = passed (and-right (le plusZero x) _ e) in
+    let t = along-tested x f ∙ e in
+    let a : T (le plusZero x) = passed (and-left (le plusZero x) _ t) in
+    let b : T (lt x (fin false 4656613 (pos 31))) = passed (and-right (le plusZero x) _ t) in
     let h = le→nonneg x (along-finite x a b) a in
     record { fits = f; least = h; most = below-end x f h b }
 
@@ -151,8 +126,8 @@ before-end (fin false m e) w = lt→ltb (m * up e * 1) (4656613 * 2 ^ 31 * down 
 before-end (fin true m e) w = lt→ltb 0 (m * up e * 1 + 4656613 * 2 ^ 31 * down e) (some-more (m * up e) (down e) (down-pos e))
 
 pub along-passes : (x : Float) → Reaches x → alongFits x ≡ true
-unfolding alongFits alongEnd constant
-along-passes x a = both (is-true (le plusZero x) (nonneg→le x (a .least))) (is-true _ (before-end x (a .most)))
+unfolding alongEnd constant
+along-passes x a = sym (along-tested x (a .fits)) ∙ both (is-true (le plusZero x) (nonneg→le x (a .least))) (is-true _ (before-end x (a .most)))
 
 -- ---- the start of a line, and a step on it
 pub along-start : Reaches plusZero

@@ -13,7 +13,7 @@ use lib.ListN.{length, take}
 use lib.Ieee.{Float, binary32, fits, lt}
 use lib.Ieee.Fits.{add-fits}
 use Rattle.binary32.specs.Arithmetic.{constant}
-use Rattle.binary32.specs.Size.{Within, frac}
+use Rattle.binary32.proofs.magnitude.Size.{Within, frac}
 use Rattle.binary32.proofs.magnitude.Signs.{zero-fits}
 use Rattle.plane.specs.declared.Point.{Point}
 use Rattle.plane.specs.declared.Spot.{Spot}

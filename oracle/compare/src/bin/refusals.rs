@@ -1,5 +1,5 @@
 //! Makes each call through the door with each bad input. A refusal has to carry the number of the first
-//! question that says no, and to change nothing.
+//! question that says no, and to change nothing; where a part is returned its length has to be 0.
 use compare::options::{none, program};
 use compare::refusals::calls::{CALLS, Call, Part};
 use compare::refusals::faults::{Fault, faults, limits};

@@ -2,8 +2,7 @@
 use mathlib.Core.Path.{refl}
 use lib.Ieee.{ofBits, neg}
 use Rattle.binary32.specs.Arithmetic.{constant}
-use Rattle.calls.specs.Questions.{placeMost}
-use Rattle.questions.specs.Sure.{noneAbove, alongSure}
+use Rattle.questions.specs.Sure.{placeMost, noneAbove, alongSure}
 use Rattle.questions.proofs.limits.none_above.Statement.{statement}
 use Rattle.questions.proofs.limits.none_above.Tie as tie
 

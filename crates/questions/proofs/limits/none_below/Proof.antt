@@ -2,8 +2,7 @@
 use mathlib.Core.Path.{refl}
 use lib.Ieee.{ofBits, neg}
 use Rattle.binary32.specs.Arithmetic.{constant}
-use Rattle.calls.specs.Questions.{placeMost}
-use Rattle.questions.specs.Sure.{noneBelow, alongSure}
+use Rattle.questions.specs.Sure.{placeMost, noneBelow, alongSure}
 use Rattle.questions.proofs.limits.none_below.Statement.{statement}
 use Rattle.questions.proofs.limits.none_below.Tie as tie
 

@@ -1,9 +1,7 @@
--- How far from the origin the places of a ride lie.
-use Prim.Native.Nat.{_≤_}
-use lib.IntN.{ℤ, natAbs}
+-- How far from the origin the places of a ride lie. Definitions only.
 use lib.Dec.{T}
 use lib.Ieee.{Float, binary32, fits}
-use Rattle.binary32.specs.Size.{Within, pow}
+use Rattle.binary32.proofs.magnitude.Size.{Within, pow}
 use Rattle.plane.specs.declared.Point.{Point}
 
 -- a value of binary32 of at most 2^25 m in size, 33,554,432 m
@@ -13,8 +11,3 @@ Coordinate x = T (fits binary32 x) × Within (pow 25) x
 pub record Place (p : Point) : Type 0 where
   pub east : Coordinate (p .east)
   pub north : Coordinate (p .north)
-
--- a fix on the globe: "latitude within ±900,000,000", "longitude within ±1,800,000,000"
-pub record OnGlobe (lat lon : ℤ) : Type 0 where
-  pub latitude : natAbs lat ≤ 900000000
-  pub longitude : natAbs lon ≤ 1800000000
