@@ -81,5 +81,5 @@ performs C Guide s = done tt s
 performs C (Course b) s = done tt s
 
 -- "A call refused by a question notes nothing", and changes nothing
-unfoldable pub turn : ℕ → Call → State → Done (Unit {0})
-turn size c s = elim (eqb (asks size c s) 0) [ true ↦ performs (capacity size) c s | false ↦ done tt s ]
+unfoldable pub afterCall : ℕ → Call → State → Done (Unit {0})
+afterCall size c s = elim (eqb (asks size c s) 0) [ true ↦ performs (capacity size) c s | false ↦ done tt s ]

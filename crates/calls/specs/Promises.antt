@@ -9,7 +9,7 @@ use lib.Ieee.{Float}
 use Rattle.crumbs.specs.Crumb.{behind}
 use Rattle.state.specs.declared.Homing.{Homing}
 use Rattle.state.specs.State.{stateOf}
-use Rattle.calls.specs.Calls.{Call, asks, turn}
+use Rattle.calls.specs.Calls.{Call, asks, afterCall}
 
 -- "A refusal carries its number"; otherwise the rule's answer
 pub data Answer (A : Type 0) : Type 0 where
@@ -22,7 +22,7 @@ answer number a = cond (eqb number 0) (gives a) (refused number)
 
 -- The call c takes the state h and its crumb buffer to the state r and its crumb buffer.
 pub record Called (c : Call) (h : Homing) (entry : List Float) (r : Homing) (exit : List Float) : Type 0 where
-  pub same : stateOf r exit ≡ turn (length entry) c (stateOf h entry) .state
+  pub same : stateOf r exit ≡ afterCall (length entry) c (stateOf h entry) .state
   -- "changes nothing"
   pub refused : (asks (length entry) c (stateOf h entry) ≡ 0 → ⊥) → (r ≡ h) × (exit ≡ entry)
   pub size : length exit ≡ length entry

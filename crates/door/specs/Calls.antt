@@ -17,7 +17,7 @@ use Rattle.homing.specs.declared.Followed.{Followed}
 use Rattle.homing.specs.Answers.{saysReply, saysSight}
 use Rattle.homing.specs.Promises.{MakesNew, DoesReset, EndsReplay, SetsCourse, SetsAuto, Observes, Replays, SetsFollowing}
 use Rattle.stored.specs.Stored.{room}
-use Rattle.door.specs.Through.{numberOf, written, isSet, flagOf, noState, noStateWith, Leaves, Changes}
+use Rattle.door.specs.Through.{numberOf, written, isSet, flagOf, noState, noStateWith, Leaves, ChangesStored}
 
 -- ---- what a call gives, as numbers
 unfoldable pub numberOfEvent : Event → ℕ
@@ -62,30 +62,30 @@ pub record New (b : List Float) (w : List ℕ) (n : List Float) (number : ℕ) (
 
 -- `cittumay_reset`
 abbrev pub Reset : List ℕ → List Float → ℕ → List ℕ → List Float → Type 0
-Reset = Changes noState (λ h. Gives (DoesReset h)) (Unit {0})
+Reset = ChangesStored noState (λ h. Gives (DoesReset h)) (Unit {0})
 
 -- `cittumay_end_replay`
 abbrev pub EndReplay : List ℕ → List Float → ℕ → List ℕ → List Float → Type 0
-EndReplay = Changes noState (λ h. Gives (EndsReplay h)) (Unit {0})
+EndReplay = ChangesStored noState (λ h. Gives (EndsReplay h)) (Unit {0})
 
 -- `cittumay_set_course` of the points xs, lent the line
 abbrev pub SetCourse : List Fix → List Float → List Float → List ℕ → List Float → ℕ → List ℕ → List Float → Type 0
-SetCourse xs line line′ = Changes noState (λ h. Gives (λ c. SetsCourse xs h line c line′)) (line′ ≡ line)
+SetCourse xs line line′ = ChangesStored noState (λ h. Gives (λ c. SetsCourse xs h line c line′)) (line′ ≡ line)
 
 -- `cittumay_set_auto_follow`, lent the crumb buffer b
 abbrev pub SetAutoFollow : ℕ → List Float → List Float → List ℕ → List Float → ℕ → List ℕ → List Float → Type 0
-SetAutoFollow on b b′ = Changes (noStateWith (length b)) (λ h. Gives (λ c. SetsAuto (isSet on) h b c b′)) (b′ ≡ b)
+SetAutoFollow on b b′ = ChangesStored (noStateWith (length b)) (λ h. Gives (λ c. SetsAuto (isSet on) h b c b′)) (b′ ≡ b)
 
 -- `cittumay_observe` and `cittumay_observe_missing`: the fix x, lent the crumb buffer b and the line
 abbrev pub Observe : List Float → Place → ℕ → List Float → ℕ → List Float → ℕ → List ℕ → List Float → ℕ → List ℕ → List Float → Type 0
 Observe line x now b event b′ event′ =
-    Changes (noStateWith (length b)) (λ h. Tells (λ c. Observes line x now h b c b′) event event′) ((b′ ≡ b) × (event′ ≡ event))
+    ChangesStored (noStateWith (length b)) (λ h. Tells (λ c. Observes line x now h b c b′) event event′) ((b′ ≡ b) × (event′ ≡ event))
 
 -- `cittumay_replay` of the fix x, lent the crumb buffer b
 abbrev pub Replay : Fix → ℕ → List Float → List Float → List ℕ → List Float → ℕ → List ℕ → List Float → Type 0
-Replay x now b b′ = Changes (noStateWith (length b)) (λ h. Gives (λ c. Replays x now h b c b′)) (b′ ≡ b)
+Replay x now b b′ = ChangesStored (noStateWith (length b)) (λ h. Gives (λ c. Replays x now h b c b′)) (b′ ≡ b)
 
 -- `cittumay_set_following`, lent the crumb buffer b and the line
 abbrev pub SetFollowing : List Float → ℕ → ℕ → List Float → ℕ → List Float → ℕ → List ℕ → List Float → ℕ → List ℕ → List Float → Type 0
 SetFollowing line on now b done b′ done′ =
-    Changes (noStateWith (length b)) (λ h. Steers (λ c. SetsFollowing line (isSet on) now h b c b′) done done′) ((b′ ≡ b) × (done′ ≡ done))
+    ChangesStored (noStateWith (length b)) (λ h. Steers (λ c. SetsFollowing line (isSet on) now h b c b′) done done′) ((b′ ≡ b) × (done′ ≡ done))

@@ -49,6 +49,6 @@ pub record Leaves (number : ℕ) (h : Homing) (w : List ℕ) (n : List Float) (w
 
 -- `does h r number`: the call takes the state h to r and is refused by the question with this number, 0 where by none. `unread` is the number where the
 -- slices hold no state, and `untouched` says that what else is lent is as it was.
-pub record Changes (unread : ℕ) (does : Homing → Homing → ℕ → Type 0) (untouched : Type 0) (w : List ℕ) (n : List Float) (number : ℕ) (w′ : List ℕ) (n′ : List Float) : Type 0 where
+pub record ChangesStored (unread : ℕ) (does : Homing → Homing → ℕ → Type 0) (untouched : Type 0) (w : List ℕ) (n : List Float) (number : ℕ) (w′ : List ℕ) (n′ : List Float) : Type 0 where
   pub nothing : stored w n ≡ none → (number ≡ unread) × ((w′ ≡ w) × ((n′ ≡ n) × untouched))
   pub state : (h : Homing) → stored w n ≡ some h → (r : Homing) × (does h r number × Leaves number r w n w′ n′)

@@ -1,7 +1,7 @@
 // `thin` for C and Rust.
 
 use thin::Thinned;
-ghost use Rattle.door.specs.Thin.{Thins};
+ghost use Rattle.door.specs.Thin.{ThinsLent};
 
 // Thins the first `len` crumbs in place, and answers how many are left: `tolerance` becomes that of the
 // last pass, and `passes` how many were made. A refusal answers 0, writes its number to `refused`, and
@@ -14,7 +14,7 @@ pub extern "C" fn cittumay_thin(
     passes: &mut usize,
     refused: &mut u8,
 ) -> usize
-    ensures { λ r. ⌜ Thins len (now (crumbs .entry)) (now (tolerance .entry)) (now (passes .entry)) (now (crumbs .exit)) (now (tolerance .exit)) (now (passes .exit)) (now (refused .exit)) r ⌝ }
+    ensures { λ r. ⌜ ThinsLent len (now (crumbs .entry)) (now (tolerance .entry)) (now (passes .entry)) (now (crumbs .exit)) (now (tolerance .exit)) (now (passes .exit)) (now (refused .exit)) r ⌝ }
 {
     let answer = thin::thin(crumbs, len, *tolerance);
     match answer {

@@ -31,7 +31,7 @@ use Rattle.follow.specs.Record.{add, afterThinning, recordedIn}
 use Rattle.follow.specs.View.{TakesOver}
 use Rattle.follow.proofs.Recording.{taken-over}
 use Rattle.fix.specs.Pass.{passing}
-use Rattle.follow.specs.View.{Fit, Changes, Follows}
+use Rattle.follow.specs.View.{HomingFit, Changes, Follows}
 use Rattle.course.specs.Fix.{Fix, located, framed}
 use Rattle.calls.specs.Fix.{fixLostMs, isAt, cleared, missing, headed, passOnly, replay}
 
@@ -75,7 +75,7 @@ module _ (h on grown r : Homing) (x : Fix) (now : ℕ) (f : Frame) (p : Point) (
             ∙ ap (λ (s : State). passOnly p (add C p s .state)) (c .same entry ∙ ap (λ (s : State). headed p now s) (same entry))
             ∙ ap (λ (q : Point). by f q) ep
             ∙ ap (λ (g : Frame). by g (framed g x)) ef;
-        fit = subst (λ (t : Trail). trail.Fit t (length exit)) (sym (e .trail)) (d .fit);
+        fit = subst (λ (t : Trail). trail.TrailFit t (length exit)) (sym (e .trail)) (d .fit);
         size = d .size;
         beyond =
             subst (λ (t : Trail). behind (max (h .trail .len) (t .len)) exit ≡ behind (max (h .trail .len) (t .len)) entry) (sym (e .trail))

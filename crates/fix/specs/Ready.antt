@@ -7,12 +7,12 @@ use Rattle.trail.specs.View as trail
 use Rattle.state.specs.declared.Line.the-variants as line
 use Rattle.state.specs.declared.Homing.{Homing}
 use Rattle.state.specs.State.{stateOf}
-use Rattle.follow.specs.View.{Fit}
+use Rattle.follow.specs.View.{HomingFit}
 use Rattle.joining.specs.Join.{retraceFixes}
 use Rattle.calls.specs.Fix.{turnedBack}
 
 pub record Ready (h : Homing) (room lineRoom : ℕ) : Type 0 where
-  pub fit : Fit h room lineRoom
+  pub fit : HomingFit h room lineRoom
   pub retrace : h .trail .retrace < retraceFixes
   pub back : (h .trail .retrace ≡ 0 → ⊥) → h .trail .«retrace_len» ≤ h .trail .len
 
@@ -23,5 +23,5 @@ Grows h = h .follow .line ≡ line.Breadcrumb → ⊥
 -- The breadcrumb is cut back to where the rider turned round, on a buffer that holds it.
 pub record TurnsBack (h r : Homing) : Type 0 where
   pub same : (b : List Float) → stateOf r b ≡ turnedBack (stateOf h b)
-  pub fit : (size : ℕ) → trail.Fit (h .trail) size → trail.Fit (r .trail) size
+  pub fit : (size : ℕ) → trail.TrailFit (h .trail) size → trail.TrailFit (r .trail) size
   pub fewer : r .trail .len ≤ h .trail .len

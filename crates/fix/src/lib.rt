@@ -107,7 +107,7 @@ fn after_thinning(thinned: bool, f: Follow) -> Follow
 
 // Each group of the state by itself, so that the whole is copied once.
 pub fn replay(h: Homing, crumbs: &mut [f32], lat: i32, lon: i32, now_ms: u64) -> Homing
-    requires { ⌜ trail.Fit (h .trail) (length (now crumbs)) ⌝ }
+    requires { ⌜ trail.TrailFit (h .trail) (length (now crumbs)) ⌝ }
     ensures { λ r. ⌜ Follows (λ C. replay C (record { lat = lat; lon = lon }) «now_ms») h (now (crumbs .entry)) r (now (crumbs .exit)) ⌝ }
 {
     let was = h.frame;

@@ -7,7 +7,7 @@ use state::Homing;
 use state::Place;
 ghost use mathlib.Core.Path.{_≡_};
 ghost use lib.ListN.{length};
-ghost use Rattle.follow.specs.View.{Fit, courseOf};
+ghost use Rattle.follow.specs.View.{HomingFit, courseOf};
 ghost use Rattle.update.specs.View.{Updates};
 ghost use Rattle.calls.specs.Fix.{sameFix, stillAt, newFix, seen};
 ghost use Rattle.fix.specs.Ready.{Ready};
@@ -32,7 +32,7 @@ fn same_fix(fed: Place, lat: i32, lon: i32) -> bool
 
 // Time still passes, for the heading and the reminders, but nothing is recorded.
 fn still_at(h: Homing, crumbs: &mut [f32], line: &[f32], here: Spot, now_ms: u64) -> Told
-    requires { ⌜ Fit h (length (now crumbs)) (length (now line)) ⌝ }
+    requires { ⌜ HomingFit h (length (now crumbs)) (length (now line)) ⌝ }
     ensures { λ r. ⌜ Updates (λ C. stillAt here C (courseOf h (now (line .entry))) «now_ms») h (now (crumbs .entry)) r (now (crumbs .exit)) ⌝ }
 {
     let Spot::At(p) = here else {

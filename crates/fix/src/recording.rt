@@ -10,14 +10,14 @@ ghost use mathlib.Core.Bool.{true};
 ghost use Prim.Native.Nat.{_≤_, _<_};
 ghost use lib.ListN.{length};
 ghost use Rattle.state.specs.declared.Line.the-variants as lines;
-ghost use Rattle.follow.specs.View.{Fit, courseOf};
+ghost use Rattle.follow.specs.View.{HomingFit, courseOf};
 ghost use Rattle.update.specs.View.{Updates};
 ghost use Rattle.calls.specs.Fix.{addUpdate, joinedCourse, retraced};
 ghost use Rattle.fix.specs.Ready.{Grows, TurnsBack};
 
 // p is added, and the guide brought up to date.
 pub fn add_update(h: Homing, crumbs: &mut [f32], line: &[f32], p: Point, now_ms: u64) -> Told
-    requires { ⌜ Fit h (length (now crumbs)) (length (now line)) ⌝ }
+    requires { ⌜ HomingFit h (length (now crumbs)) (length (now line)) ⌝ }
     requires { ⌜ Grows h ⌝ }
     ensures { λ r. ⌜ Updates (λ C. addUpdate C (courseOf h (now (line .entry))) p «now_ms») h (now (crumbs .entry)) r (now (crumbs .exit)) ⌝ }
 {
@@ -27,7 +27,7 @@ pub fn add_update(h: Homing, crumbs: &mut [f32], line: &[f32], p: Point, now_ms:
 
 // Long enough along the course: it is followed from the segment joined.
 pub fn joined_course(h: Homing, crumbs: &mut [f32], line: &[f32], p: Point, now_ms: u64) -> Told
-    requires { ⌜ Fit h (length (now crumbs)) (length (now line)) ⌝ }
+    requires { ⌜ HomingFit h (length (now crumbs)) (length (now line)) ⌝ }
     requires { ⌜ (1 ≤ h .course .«join_end») × (h .course .«join_end» < h .course .«line_len») ⌝ }
     ensures { λ r. ⌜ Updates (λ C. joinedCourse C (courseOf h (now (line .entry))) p «now_ms») h (now (crumbs .entry)) r (now (crumbs .exit)) ⌝ }
 {
@@ -54,7 +54,7 @@ fn turned_back(h: Homing) -> Homing
 
 // Long enough back along the breadcrumb: it is followed, if what is left leads anywhere.
 pub fn retraced(h: Homing, crumbs: &mut [f32], line: &[f32], p: Point, now_ms: u64) -> Told
-    requires { ⌜ Fit h (length (now crumbs)) (length (now line)) ⌝ }
+    requires { ⌜ HomingFit h (length (now crumbs)) (length (now line)) ⌝ }
     requires { ⌜ (h .trail .«retrace_len» ≤ h .trail .len) × (h .follow .line ≡ lines.Nothing) ⌝ }
     ensures { λ r. ⌜ Updates (λ C. retraced true C (courseOf h (now (line .entry))) p «now_ms») h (now (crumbs .entry)) r (now (crumbs .exit)) ⌝ }
 {

@@ -36,7 +36,7 @@ module _ (rule : ℕ → Rule) (h n : Homing) (r : Recorded) (entry exit : List 
             takes .same exit
             ∙ ap (λ (b : Bool). recordedIn b (track (r .trail) exit) (stateOf h entry)) (did .thinned)
             ∙ ap (λ (t : Track). recordedIn (thinnedIn (rule (capacity (length entry)) (track (h .trail) entry) .notes)) t (stateOf h entry)) (did .follows .same);
-        fit = subst (λ (t : Trail). trail.Fit t (length exit)) (sym (takes .trail)) (did .follows .fit);
+        fit = subst (λ (t : Trail). trail.TrailFit t (length exit)) (sym (takes .trail)) (did .follows .fit);
         size = did .follows .size;
         beyond = subst (λ (t : Trail). behind (max (h .trail .len) (t .len)) exit ≡ behind (max (h .trail .len) (t .len)) entry) (sym (takes .trail)) (did .follows .beyond);
       }
@@ -62,17 +62,17 @@ unfolding cutTo track
 cut-state h segment entry l = ap (λ (c : List Crumb). withTrack (withCrumbs c (track (h .trail) entry)) (stateOf h entry)) (sym (take-crumbs segment (h .trail .len) entry l))
 
 -- ---- a change that leaves the trail alone
-pub unmoved : (rule : State → State) (h r : Homing) (b : List Float) → trail.Fit (h .trail) (length b) → Changes rule h r → Follows (λ C s. done (tt {0}) (rule s)) h b r b
+pub unmoved : (rule : State → State) (h r : Homing) (b : List Float) → trail.TrailFit (h .trail) (length b) → Changes rule h r → Follows (λ C s. done (tt {0}) (rule s)) h b r b
 unmoved rule h r b f c =
     record {
       same = c .same b;
-      fit = subst (λ (t : Trail). trail.Fit t (length b)) (sym (c .trail)) f;
+      fit = subst (λ (t : Trail). trail.TrailFit t (length b)) (sym (c .trail)) f;
       size = refl;
       beyond = refl;
     }
 
 -- ---- following ends
-pub left-nowhere : (h : Homing) (matched : Spot) (segment : ℕ) (b : List Float) → matched ≡ Nowhere → trail.Fit (h .trail) (length b) → Follows (λ C. leaveAt C matched segment) h b h b
+pub left-nowhere : (h : Homing) (matched : Spot) (segment : ℕ) (b : List Float) → matched ≡ Nowhere → trail.TrailFit (h .trail) (length b) → Follows (λ C. leaveAt C matched segment) h b h b
 unfolding leaveAt
 left-nowhere h matched segment b told f =
     subst (λ (m : Spot). Follows (λ C. leaveAt C m segment) h b h b) (sym told) (record { same = refl; fit = f; size = refl; beyond = refl })

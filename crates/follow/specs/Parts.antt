@@ -19,10 +19,10 @@ use Rattle.state.specs.declared.Follow.{Follow}
 use Rattle.state.specs.declared.Course.{Course}
 
 -- a following of the breadcrumb is over, without a cut; one of the course goes on
-unfoldable pub left : Line → Follow → Follow
-left line.Breadcrumb f = record { line = line.Nothing; segment = 0; matched = Nowhere; off = false; «reminded_ms» = f .«reminded_ms» }
-left line.Nothing f = f
-left line.Course f = f
+unfoldable pub endedByThinning : Line → Follow → Follow
+endedByThinning line.Breadcrumb f = record { line = line.Nothing; segment = 0; matched = Nowhere; off = false; «reminded_ms» = f .«reminded_ms» }
+endedByThinning line.Nothing f = f
+endedByThinning line.Course f = f
 
 -- nothing is followed, on or off; the segment and the reminder stay
 unfoldable pub stopped : Spot → Follow → Follow

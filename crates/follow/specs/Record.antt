@@ -8,10 +8,10 @@ use Rattle.trail.specs.Trail as trail
 use Rattle.state.specs.declared.Follow.{Follow}
 use Rattle.state.specs.State.{State, withTrack, withFollow}
 use Rattle.state.specs.Rule.{Done}
-use Rattle.follow.specs.Parts.{left}
+use Rattle.follow.specs.Parts.{endedByThinning}
 
 unfoldable pub afterThinning : Bool → Follow → Follow
-afterThinning true f = left (f .line) f
+afterThinning true f = endedByThinning (f .line) f
 afterThinning false f = f
 
 -- the state with another track, after a thinning or not

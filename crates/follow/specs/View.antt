@@ -23,8 +23,8 @@ abbrev pub courseOf : Homing → List Float → List Crumb
 courseOf h b = crumbs (h .course .«line_len») b
 
 -- a state that fits a crumb buffer and a line buffer, as far as following needs it
-pub record Fit (h : Homing) (room lineRoom : ℕ) : Type 0 where
-  pub trail : trail.Fit (h .trail) room
+pub record HomingFit (h : Homing) (room lineRoom : ℕ) : Type 0 where
+  pub trail : trail.TrailFit (h .trail) room
   pub course : h .course .«line_len» ≤ capacity lineRoom
   pub onTrail : h .follow .line ≡ line.Breadcrumb → (1 ≤ h .follow .segment) × (h .follow .segment < h .trail .len)
   pub onCourse : h .follow .line ≡ line.Course → (1 ≤ h .follow .segment) × (h .follow .segment < h .course .«line_len»)
@@ -37,7 +37,7 @@ pub record Changes (rule : State → State) (h r : Homing) : Type 0 where
 -- A rule is followed, from a state and its crumb buffer to a state and its crumb buffer.
 pub record Follows {A : Type 0} (rule : ℕ → State → Done A) (h : Homing) (entry : List Float) (r : Homing) (exit : List Float) : Type 0 where
   pub same : stateOf r exit ≡ rule (capacity (length entry)) (stateOf h entry) .state
-  pub fit : trail.Fit (r .trail) (length exit)
+  pub fit : trail.TrailFit (r .trail) (length exit)
   pub size : length exit ≡ length entry
   -- the numbers behind the crumbs held before and after are unchanged; free are those behind the crumbs held after where there are fewer,
   -- and the numbers of the window that belong to no waiting place

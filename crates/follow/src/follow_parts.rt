@@ -8,13 +8,13 @@ ghost use mathlib.Core.Path.{_≡_};
 ghost use Prim.Native.Nat.{_≤_};
 ghost use lib.ListN.{length};
 ghost use Rattle.crumbs.specs.Crumb.{capacity, crumbs as heldCrumbs};
-ghost use Rattle.follow.specs.Parts.{left, stopped, heldOff, alongAt, courseFrom, leads};
+ghost use Rattle.follow.specs.Parts.{endedByThinning, stopped, heldOff, alongAt, courseFrom, leads};
 
 // ---- what is followed
 
 // A following of the breadcrumb is over, without a cut; one of the course goes on.
 pub fn left(f: Follow) -> Follow
-    ensures { λ r. ⌜ r ≡ left (f .line) f ⌝ }
+    ensures { λ r. ⌜ r ≡ endedByThinning (f .line) f ⌝ }
 {
     let line = f.line;
     match line {

@@ -42,7 +42,7 @@ fn recorded(h: Homing, r: Recorded) -> Homing
 }
 
 pub fn keep(h: Homing, crumbs: &mut [f32], p: Point) -> Homing
-    requires { ⌜ trail.Fit (h .trail) (length (now crumbs)) ⌝ }
+    requires { ⌜ trail.TrailFit (h .trail) (length (now crumbs)) ⌝ }
     ensures { λ r. ⌜ Follows (λ C. keep C p) h (now (crumbs .entry)) r (now (crumbs .exit)) ⌝ }
 {
     let t = h.trail;
@@ -51,7 +51,7 @@ pub fn keep(h: Homing, crumbs: &mut [f32], p: Point) -> Homing
 }
 
 pub fn add(h: Homing, crumbs: &mut [f32], p: Point) -> Homing
-    requires { ⌜ trail.Fit (h .trail) (length (now crumbs)) ⌝ }
+    requires { ⌜ trail.TrailFit (h .trail) (length (now crumbs)) ⌝ }
     ensures { λ r. ⌜ Follows (λ C. add C p) h (now (crumbs .entry)) r (now (crumbs .exit)) ⌝ }
 {
     let t = h.trail;
@@ -60,7 +60,7 @@ pub fn add(h: Homing, crumbs: &mut [f32], p: Point) -> Homing
 }
 
 pub fn flush(h: Homing, crumbs: &mut [f32]) -> Homing
-    requires { ⌜ trail.Fit (h .trail) (length (now crumbs)) ⌝ }
+    requires { ⌜ trail.TrailFit (h .trail) (length (now crumbs)) ⌝ }
     ensures { λ r. ⌜ Follows flush h (now (crumbs .entry)) r (now (crumbs .exit)) ⌝ }
 {
     let t = h.trail;
@@ -131,7 +131,7 @@ fn stop_nothing(h: Homing) -> Homing
 
 // The breadcrumb ends where the rider left it.
 fn leave_at(h: Homing, crumbs: &mut [f32], matched: Spot, segment: usize) -> Homing
-    requires { ⌜ (trail.Fit (h .trail) (length (now crumbs))) × (segment ≤ h .trail .len) ⌝ }
+    requires { ⌜ (trail.TrailFit (h .trail) (length (now crumbs))) × (segment ≤ h .trail .len) ⌝ }
     ensures { λ r. ⌜ Follows (λ C. leaveAt C matched segment) h (now (crumbs .entry)) r (now (crumbs .exit)) ⌝ }
 {
     let Spot::At(p) = matched else {
@@ -143,7 +143,7 @@ fn leave_at(h: Homing, crumbs: &mut [f32], matched: Spot, segment: usize) -> Hom
 }
 
 fn stop_breadcrumb(h: Homing, crumbs: &mut [f32]) -> Homing
-    requires { ⌜ (trail.Fit (h .trail) (length (now crumbs))) × (h .follow .segment ≤ h .trail .len) ⌝ }
+    requires { ⌜ (trail.TrailFit (h .trail) (length (now crumbs))) × (h .follow .segment ≤ h .trail .len) ⌝ }
     ensures { λ r. ⌜ Follows stopBreadcrumb h (now (crumbs .entry)) r (now (crumbs .exit)) ⌝ }
 {
     let f = h.follow;
@@ -159,7 +159,7 @@ fn stop_breadcrumb(h: Homing, crumbs: &mut [f32]) -> Homing
 // Recording resumes: the breadcrumb keeps the way home from where the rider left it, and goes on from
 // there. A course stopped is held off for the rest of the ride.
 pub fn stop_following(h: Homing, crumbs: &mut [f32]) -> Homing
-    requires { ⌜ (trail.Fit (h .trail) (length (now crumbs))) × (h .follow .line ≡ line.Breadcrumb → h .follow .segment ≤ h .trail .len) ⌝ }
+    requires { ⌜ (trail.TrailFit (h .trail) (length (now crumbs))) × (h .follow .line ≡ line.Breadcrumb → h .follow .segment ≤ h .trail .len) ⌝ }
     ensures { λ r. ⌜ Follows stop h (now (crumbs .entry)) r (now (crumbs .exit)) ⌝ }
 {
     let f = h.follow;

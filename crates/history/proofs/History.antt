@@ -11,7 +11,7 @@ use Rattle.trail.specs.View.{track}
 use Rattle.state.specs.declared.Homing.{Homing}
 use Rattle.state.specs.State.{State, stateOf}
 use Rattle.calls.specs.Line as rule
-use Rattle.calls.specs.Calls.{Call, turn}
+use Rattle.calls.specs.Calls.{Call, afterCall}
 use Rattle.journal.specs.Journal.{run, journal}
 use Rattle.journal.proofs.History.{holds}
 use Rattle.journal.proofs.Programs.{history-of, run-last}
@@ -57,14 +57,14 @@ none-yet : (C : ℕ) → journal C [] .state ≡ rule.new
 unfolding journal run
 none-yet C = refl
 
-one-more : (C : ℕ) (cs : List Call) (c : Call) → turn (stride * C) c (journal C cs .state) .state ≡ journal C (cs ++ c ∷ []) .state
+one-more : (C : ℕ) (cs : List Call) (c : Call) → afterCall (stride * C) c (journal C cs .state) .state ≡ journal C (cs ++ c ∷ []) .state
 unfolding journal
 one-more C cs c = sym (run-last (stride * C) c cs rule.new)
 
 as-journal : {C : ℕ} {cs : List Call} {h : Homing} {b : List Float} → Ran C cs h b → stateOf h b ≡ journal C cs .state
 as-journal {C} (new size empty) = empty ∙ sym (none-yet C)
 as-journal {C} (called {cs} c ran did) =
-    did .same ∙ (ap₂ (λ (n : ℕ) (s : State). turn n c s .state) (long ran) (as-journal ran) ∙ one-more C cs c)
+    did .same ∙ (ap₂ (λ (n : ℕ) (s : State). afterCall n c s .state) (long ran) (as-journal ran) ∙ one-more C cs c)
 
 pub ran-holds : EveryHistory
 ran-holds C least most cs h b ran = holds-same C least most cs h b (long ran) (as-journal ran)

@@ -29,7 +29,7 @@ use Rattle.course.specs.View.{Places}
 use Rattle.course.proofs.Fixes.{handed}
 use Rattle.calls.specs.Questions.{question1, asksLine, asksBoth, asksCrumbs, asksFix, asksFixes, unless, _orElse_}
 use Rattle.calls.specs.Calls as call
-use Rattle.calls.specs.Calls.{Call, asks, performs, turn}
+use Rattle.calls.specs.Calls.{Call, asks, performs, afterCall}
 use Rattle.calls.specs.Promises.{Answer, refused, gives, answer, Called}
 use Rattle.steer.specs.View.{SetsLine}
 use Rattle.questions.proofs.Given.{line-given, crumbs-given, both-given}
@@ -60,7 +60,7 @@ or-zero (suc a) b e = absurd (omega (arith, or-first (suc a) b (λ z. omega (ari
 -- ---- a call
 module _ (c : Call) (h : Homing) (b : List Float) where
   pub refuses : {n : ℕ} → n ≡ asks (length b) c (stateOf h b) → (n ≡ 0 → ⊥) → Called c h b h b
-  unfolding turn
+  unfolding afterCall
   refuses e ne =
       let no : eqb (asks (length b) c (stateOf h b)) 0 ≡ false = ne-eqb _ _ (λ z. ne (e ∙ z)) in
       record {
@@ -73,7 +73,7 @@ module _ (c : Call) (h : Homing) (b : List Float) where
 module _ (c : Call) (h r : Homing) (entry exit : List Float) where
   pub takes : asks (length entry) c (stateOf h entry) ≡ 0 → stateOf r exit ≡ performs (capacity (length entry)) c (stateOf h entry) .state → length exit ≡ length entry
       → behind (max (h .trail .len) (r .trail .len)) exit ≡ behind (max (h .trail .len) (r .trail .len)) entry → Called c h entry r exit
-  unfolding turn
+  unfolding afterCall
   takes e same size beyond =
       let ok : eqb (asks (length entry) c (stateOf h entry)) 0 ≡ true = eq-eqb _ _ e in
       record {

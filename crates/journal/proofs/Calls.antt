@@ -24,7 +24,7 @@ use Rattle.state.specs.Rule.{Done}
 use Rattle.course.specs.Fix.{Fix}
 use Rattle.calls.specs.Follow.{updateHere, brought, engagedOr, wayHome, follow, nearHere, followFrom, setFollowing, autoOff, setAutoFollow}
 use Rattle.calls.specs.Line.{reset, offCourse, setCourse}
-use Rattle.calls.specs.Calls.{Call, Reset, Len, Following, FollowingCourse, CourseAhead, Crumbs, WayBack, Heading, RouteHome, Guide, EndReplay, Course, SetCourse, SetAutoFollow, Observe, Replay, SetFollowing, silent, courseIn, asks, performs, turn}
+use Rattle.calls.specs.Calls.{Call, Reset, Len, Following, FollowingCourse, CourseAhead, Crumbs, WayBack, Heading, RouteHome, Guide, EndReplay, Course, SetCourse, SetAutoFollow, Observe, Replay, SetFollowing, silent, courseIn, asks, performs, afterCall}
 use Rattle.journal.proofs.Trace as trace
 use Rattle.journal.proofs.Sound.{Holds, Ran, Good, Quiet, still, quiet, then, either, resumed}
 use Rattle.journal.proofs.Recording.{flush-good}
@@ -134,6 +134,6 @@ module _ (C : ℕ) (least : 3 ≤ C) where
   performs-good (Course b) s h = still tt s h
 
   -- on a buffer with room for C crumbs
-  pub turn-good : (c : Call) (size : ℕ) → capacity size ≡ C → Good C (turn size c)
-  unfolding turn
+  pub turn-good : (c : Call) (size : ℕ) → capacity size ≡ C → Good C (afterCall size c)
+  unfolding afterCall
   turn-good c size e s h = either (eqb (asks size c s) 0) (rw e (performs-good c s h)) (still tt s h)

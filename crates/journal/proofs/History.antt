@@ -7,7 +7,7 @@ use Rattle.crumbs.specs.Crumb.{stride, capacity}
 use Rattle.trail.specs.Trail.{fresh}
 use Rattle.calls.specs.Line.{new}
 use Rattle.calls.specs.Calls.{Call}
-use Rattle.journal.specs.Claim.{Claim, EveryHistory}
+use Rattle.journal.specs.Claim.{Claim, EveryJournal}
 use Rattle.journal.specs.Journal.{run, journal, held}
 use Rattle.journal.proofs.Trace.{claim}
 use Rattle.journal.proofs.Sound.{Holds, Good, still, then}
@@ -43,5 +43,5 @@ module _ (C : ℕ) (least : 3 ≤ C) where
   unfolding journal new fresh
   claimed calls = claim (run-good calls new (new-holds C) .trace)
 
-pub history : EveryHistory
+pub history : EveryJournal
 history C least most calls = claimed C (omega arith) calls

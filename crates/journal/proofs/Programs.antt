@@ -9,7 +9,7 @@ use Rattle.crumbs.specs.Crumb.{stride, whole, capacity}
 use Rattle.state.specs.State.{State}
 use Rattle.state.specs.Rule.{Done}
 use Rattle.calls.specs.Line.{new}
-use Rattle.calls.specs.Calls.{Call, turn}
+use Rattle.calls.specs.Calls.{Call, afterCall}
 use Rattle.journal.specs.Claim.{Claim}
 use Rattle.journal.specs.Journal.{run, journal, held}
 use Rattle.journal.proofs.History.{history}
@@ -21,15 +21,15 @@ module _ (C : ℕ) (least : 8 ≤ C) (most : C ≤ 4096) (calls : List Call) whe
 -- ---- the calls one after the other
 module _ (size : ℕ) where
   -- the first, and then the rest
-  pub run-first : (c : Call) (calls : List Call) (s : State) → run size (c ∷ calls) s .state ≡ run size calls (turn size c s .state) .state
+  pub run-first : (c : Call) (calls : List Call) (s : State) → run size (c ∷ calls) s .state ≡ run size calls (afterCall size c s .state) .state
   unfolding run
   run-first c calls s = refl
 
   -- some, and then one more
-  pub run-last : (c : Call) (calls : List Call) (s : State) → run size (calls ++ c ∷ []) s .state ≡ turn size c (run size calls s .state) .state
+  pub run-last : (c : Call) (calls : List Call) (s : State) → run size (calls ++ c ∷ []) s .state ≡ afterCall size c (run size calls s .state) .state
   unfolding run
   run-last c [] s = refl
-  run-last c (d ∷ calls) s = run-last c calls (turn size d s .state)
+  run-last c (d ∷ calls) s = run-last c calls (afterCall size d s .state)
 
   -- a buffer of a whole number of crumbs has the size that its capacity gives
   whole-size : whole size ≡ true → stride * capacity size ≡ size

@@ -21,7 +21,7 @@ use Rattle.state.specs.declared.Line.{Line}
 use Rattle.state.specs.declared.Line.the-variants.{Nothing, Breadcrumb, Course}
 use Rattle.state.specs.declared.Follow.{Follow}
 use Rattle.state.specs.State.{State}
-use Rattle.follow.specs.Parts.{left}
+use Rattle.follow.specs.Parts.{endedByThinning}
 use Rattle.follow.specs.Record.{afterThinning, recordedIn, recorded, keep, add, flush}
 use Rattle.journal.proofs.Trace.{impossible, Trace, over, kept, thinned}
 use Rattle.journal.proofs.Sound.{Sound, Ran, Good}
@@ -67,8 +67,8 @@ module _ (C : ℕ) where
 
 -- ---- the following
 -- ended by a thinning, the breadcrumb is followed no longer
-left-segment : (l : Line) (f : Follow) → l ≡ f .line → (f .line ≡ Breadcrumb → 1 ≤ f .segment) → left l f .line ≡ Breadcrumb → 1 ≤ left l f .segment
-unfolding left
+left-segment : (l : Line) (f : Follow) → l ≡ f .line → (f .line ≡ Breadcrumb → 1 ≤ f .segment) → endedByThinning l f .line ≡ Breadcrumb → 1 ≤ endedByThinning l f .segment
+unfolding endedByThinning
 left-segment Breadcrumb f e h on = impossible (cc)
 left-segment Nothing f e h on = h on
 left-segment Course f e h on = h on

@@ -56,5 +56,5 @@ pub record Claim (C : ℕ) (notes : List Note) (places : List Point) : Type 0 wh
       → NotesThinning C (keptSinceReset before) (toleranceSinceReset before) n l
 
 -- every list of calls, refused ones among them, whatever their arguments and lent lines, of every capacity a guide may have
-abbrev pub EveryHistory : Type 0
-EveryHistory = (C : ℕ) → 8 ≤ C → C ≤ 4096 → (calls : List Call) → Claim C (journal C calls .notes) (held (journal C calls .state))
+abbrev pub EveryJournal : Type 0
+EveryJournal = (C : ℕ) → 8 ≤ C → C ≤ 4096 → (calls : List Call) → Claim C (journal C calls .notes) (held (journal C calls .state))

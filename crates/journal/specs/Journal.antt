@@ -7,12 +7,12 @@ use Rattle.crumbs.specs.Crumb.{stride, point}
 use Rattle.state.specs.State.{State}
 use Rattle.state.specs.Rule.{Done, done, andThen}
 use Rattle.calls.specs.Line.{new}
-use Rattle.calls.specs.Calls.{Call, turn}
+use Rattle.calls.specs.Calls.{Call, afterCall}
 
 -- the calls one after the other, on a crumb buffer of `size` numbers: the state after them, and what they noted
 unfoldable pub run : ℕ → List Call → State → Done (Unit {0})
 run size [] s = done tt s
-run size (c ∷ calls) s = andThen (turn size c s) λ _ after. run size calls after
+run size (c ∷ calls) s = andThen (afterCall size c s) λ _ after. run size calls after
 
 -- "It starts empty", with room for C crumbs
 unfoldable pub journal : ℕ → List Call → Done (Unit {0})

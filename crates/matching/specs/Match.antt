@@ -61,14 +61,14 @@ unfoldable pub offNow : Bool → Float → Bool
 offNow true off = lt onM off
 offNow false off = lt offM off
 
--- of two numbers the smaller, and the first where they are equal; of a number and a NaN the number, as Rust's `min`
+-- of two numbers the minimum, and the first where they are equal; of a number and a NaN the number, as Rust's `min`
 abbrev pub isNumber : Float → Bool
 isNumber nan = false
 isNumber (inf s) = true
 isNumber (fin s m e) = true
 
-unfoldable pub smaller : Float → Float → Float
-smaller a b = cond (isNumber a && isNumber b) (cond (le a b) a b) (cond (isNumber a) a b)
+unfoldable pub minimum : Float → Float → Float
+minimum a b = cond (isNumber a && isNumber b) (cond (le a b) a b) (cond (isNumber a) a b)
 
 -- off the line still: a reminder, if it is due
 unfoldable pub stillOff : Bool → Event
@@ -109,6 +109,6 @@ courseMatched near p c =
       «join_fixes» = c .«join_fixes»;
       «join_end» = c .«join_end»;
       along = near .along;
-      reached = smaller (c .reached) (near .along);
+      reached = minimum (c .reached) (near .along);
       fix = At p;
     }

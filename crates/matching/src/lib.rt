@@ -15,7 +15,7 @@ ghost use mathlib.Core.Path.{_≡_};
 ghost use mathlib.Core.Bool.{_||_};
 ghost use Prim.Native.Nat.{_+_, _-_, _<_, min, max};
 ghost use lib.Ieee.{lt};
-ghost use Rattle.matching.specs.Match.{onCourse, onLine, searchBack, searchAhead, nearer, offM, offNow, smaller, stillOff, offEvent, due, remindedAt, followMatched, courseMatched};
+ghost use Rattle.matching.specs.Match.{onCourse, onLine, searchBack, searchAhead, nearer, offM, offNow, minimum, stillOff, offEvent, due, remindedAt, followMatched, courseMatched};
 
 // Off the line beyond this, back on within `costs::ON_M`.
 const OFF_M: f32 = 50.0;
@@ -64,7 +64,7 @@ pub fn off_now(was: bool, off: f32) -> bool
 
 // The smaller of two; of a number and a NaN the number.
 fn smaller(a: f32, b: f32) -> f32
-    ensures { λ r. ⌜ r ≡ smaller a b ⌝ }
+    ensures { λ r. ⌜ r ≡ minimum a b ⌝ }
 {
     if a <= b {
         return a;

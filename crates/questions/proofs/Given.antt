@@ -142,7 +142,7 @@ buffer-given size e =
 -- the state and a crumb buffer of `size` numbers
 pub record Held (h : Homing) (size : ℕ) : Type 0 where
   pub counted : Counted h
-  pub trail : trail.Fit (h .trail) size
+  pub trail : trail.TrailFit (h .trail) size
 
 held-given : (size : ℕ) (h : Homing) (b : List Float) → question1 size ≡ true → (stateFits (stateOf h b) && heldFits (capacity size) (stateOf h b)) ≡ true
     → Held h size
@@ -204,7 +204,7 @@ line-given line n h b e =
 pub record Lent (h : Homing) (size lineSize : ℕ) : Type 0 where
   pub held : Held h size
   pub lined : Lined h lineSize 0
-  pub fit : follow.Fit h size lineSize
+  pub fit : follow.HomingFit h size lineSize
 
 pub both-given : (size : ℕ) (line : List Float) (h : Homing) (b : List Float) → asksBoth size line (stateOf h b) ≡ 0 → Lent h size (length line)
 unfolding asksBoth

@@ -35,11 +35,11 @@ unfolding perform
 settles-quiet r h = record { rebuilt = refl; same = λ C b. refl; fit = λ size f. f }
 
 -- ---- what writes to no buffer, on the buffer at hand
-pub settled : (rule : Made) (h : Homing) (b : List Float) (v : Visited) → trail.Fit (h .trail) (length b) → Settles rule h v → Makes rule h b v b
+pub settled : (rule : Made) (h : Homing) (b : List Float) (v : Visited) → trail.TrailFit (h .trail) (length b) → Settles rule h v → Makes rule h b v b
 settled rule h b v f s =
     record { rebuilt = s .rebuilt; same = s .same (capacity (length b)) b; fit = s .fit (length b) f; size = refl; beyond = refl }
 
-pub makes-quiet : (r : Rebuild) (h : Homing) (b : List Float) → trail.Fit (h .trail) (length b) → Makes (quiet r) h b (visited r h) b
+pub makes-quiet : (r : Rebuild) (h : Homing) (b : List Float) → trail.TrailFit (h .trail) (length b) → Makes (quiet r) h b (visited r h) b
 makes-quiet r h b f = settled (quiet r) h b (visited r h) f (settles-quiet r h)
 
 -- ---- whether the later ride carries on

@@ -13,7 +13,7 @@ use Rattle.update.proofs.Choosing.{picked}
 use Rattle.course.specs.Fix.{Fix}
 use Rattle.calls.specs.Fix.{replay}
 use Rattle.calls.specs.Line.{reset}
-use Rattle.calls.specs.Calls.{Call, Reset, asks, performs, turn}
+use Rattle.calls.specs.Calls.{Call, Reset, asks, performs, afterCall}
 use Rattle.taken.specs.Taken.{NoneRefused}
 use Rattle.journal.specs.Journal.{run}
 use Rattle.log.specs.declared.Utc.{Utc}
@@ -56,8 +56,8 @@ unfolding replays perform performs
 effect-replays x r C s = refl
 
 -- ---- the journal
-one-turn : (size : ℕ) (c : Call) (s : State) → asks size c s ≡ 0 → turn size c s ≡ performs (capacity size) c s
-unfolding turn
+one-turn : (size : ℕ) (c : Call) (s : State) → asks size c s ≡ 0 → afterCall size c s ≡ performs (capacity size) c s
+unfolding afterCall
 one-turn size c s e = picked (performs (capacity size) c s) (done tt s) _ (eq-eqb _ _ e)
 
 -- the journal that is fed the calls, none of which is refused, has the same state and the same notes
@@ -65,7 +65,7 @@ pub journal-same : (size : ℕ) (calls : List Call) (s : State) → NoneRefused 
 unfolding run perform
 journal-same size [] s t = refl
 journal-same size (c ∷ calls) s t =
-    let first = turn size c s in
+    let first = afterCall size c s in
     ap (λ (d : Done (Unit {0})). record { answer = d .answer; state = d .state; notes = first .notes ++ d .notes }) (journal-same size calls (first .state) (t .1))
     ∙ ap (λ (d : Done (Unit {0})). andThen d λ _ after. perform (capacity size) calls after) (one-turn size c s (t .0))
 

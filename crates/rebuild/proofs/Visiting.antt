@@ -30,7 +30,7 @@ use Rattle.rebuild.specs.View.{Makes, Settles}
 use Rattle.rebuild.proofs.Making.{visited, settled, makes-quiet, replayed, one-then}
 
 -- ---- a sample, by its place and by whether it is skipped
-module _ (later : Bool) (x : Sample) (r on : Rebuild) (ticks : on ≡ ticked r) (h : Homing) (entry : List Float) (fit : trail.Fit (h .trail) (length entry)) where
+module _ (later : Bool) (x : Sample) (r on : Rebuild) (ticks : on ≡ ticked r) (h : Homing) (entry : List Float) (fit : trail.TrailFit (h .trail) (length entry)) where
   from : Place → Rebuild → Made
   from p n = visitPlace p later (x .utc) n
 
@@ -97,7 +97,7 @@ pub record Going (later : Bool) (count : ℕ) (xs : List Sample) (r : Rebuild) (
   pub few : count ≤ length xs
 
 module _ {later : Bool} {count : ℕ} {xs : List Sample} {r : Rebuild} {h : Homing} where
-  pub going-start : {b : List Float} → trail.Fit (h .trail) (length b) → count ≤ length xs → Going later count xs r h b 0 (visited r h) b
+  pub going-start : {b : List Float} → trail.TrailFit (h .trail) (length b) → count ≤ length xs → Going later count xs r h b 0 (visited r h) b
   unfolding visitSamples
   going-start {b = b} f few = record { made = makes-quiet r h b f; upto = omega arith; few = few }
 

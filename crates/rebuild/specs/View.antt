@@ -15,7 +15,7 @@ use Rattle.rebuild.specs.Made.{Made, effect, mostHeld}
 pub record Makes (rule : Made) (h : Homing) (entry : List Float) (r : Visited) (exit : List Float) : Type 0 where
   pub rebuilt : r .rebuild ≡ rule .rebuild
   pub same : stateOf (r .homing) exit ≡ effect rule (capacity (length entry)) (stateOf h entry) .state
-  pub fit : trail.Fit (r .homing .trail) (length exit)
+  pub fit : trail.TrailFit (r .homing .trail) (length exit)
   pub size : length exit ≡ length entry
   -- The numbers behind the most crumbs held on the way are unchanged. Free are those behind the crumbs held after, where more were held on the way,
   -- and the numbers of the window that belong to no waiting place.
@@ -26,4 +26,4 @@ pub record Makes (rule : Made) (h : Homing) (entry : List Float) (r : Visited) (
 pub record Settles (rule : Made) (h : Homing) (r : Visited) : Type 0 where
   pub rebuilt : r .rebuild ≡ rule .rebuild
   pub same : (C : ℕ) (b : List Float) → stateOf (r .homing) b ≡ effect rule C (stateOf h b) .state
-  pub fit : (size : ℕ) → trail.Fit (h .trail) size → trail.Fit (r .homing .trail) size
+  pub fit : (size : ℕ) → trail.TrailFit (h .trail) size → trail.TrailFit (r .homing .trail) size

@@ -176,7 +176,7 @@ fn meets(r: Rebuild, h: Homing, later: bool, utc: Utc) -> Visited
 
 // A sample of the recovered ride, or of the later one. The clock goes on with each, located or not.
 fn visit_sample(r: Rebuild, h: Homing, crumbs: &mut [f32], later: bool, sample: Sample) -> Visited
-    requires { ⌜ trail.Fit (h .trail) (length (now crumbs)) ⌝ }
+    requires { ⌜ trail.TrailFit (h .trail) (length (now crumbs)) ⌝ }
     ensures { λ v. ⌜ Makes (visitSample later sample r) h (now (crumbs .entry)) v (now (crumbs .exit)) ⌝ }
 {
     let on = ticked(r);
@@ -206,7 +206,7 @@ fn visit_sample(r: Rebuild, h: Homing, crumbs: &mut [f32], later: bool, sample: 
 
 // Of the four samples the first `count`.
 fn visit_samples(r: Rebuild, h: Homing, crumbs: &mut [f32], e: Entry) -> Visited
-    requires { ⌜ trail.Fit (h .trail) (length (now crumbs)) ⌝ }
+    requires { ⌜ trail.TrailFit (h .trail) (length (now crumbs)) ⌝ }
     requires { ⌜ e .count ≤ 4 ⌝ }
     ensures { λ v. ⌜ Makes (visitSamples (isLater e r) (used e) r) h (now (crumbs .entry)) v (now (crumbs .exit)) ⌝ }
 {
@@ -227,7 +227,7 @@ fn visit_samples(r: Rebuild, h: Homing, crumbs: &mut [f32], e: Entry) -> Visited
 
 // Only an entry of samples is read.
 pub fn visit(r: Rebuild, h: Homing, crumbs: &mut [f32], e: Entry) -> Visited
-    requires { ⌜ trail.Fit (h .trail) (length (now crumbs)) ⌝ }
+    requires { ⌜ trail.TrailFit (h .trail) (length (now crumbs)) ⌝ }
     requires { ⌜ e .count ≤ 4 ⌝ }
     ensures { λ v. ⌜ Makes (visit e r) h (now (crumbs .entry)) v (now (crumbs .exit)) ⌝ }
 {

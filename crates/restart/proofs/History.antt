@@ -17,7 +17,7 @@ use Rattle.state.specs.State.{State, stateOf}
 use Rattle.state.specs.Rule.{Done}
 use Rattle.calls.specs.Line as rule
 use Rattle.calls.specs.Questions.{unless, asksState, asksCrumbs}
-use Rattle.calls.specs.Calls.{Call, Reset, Replay, asks, asksPlace, turn}
+use Rattle.calls.specs.Calls.{Call, Reset, Replay, asks, asksPlace, afterCall}
 use Rattle.questions.proofs.Given.{fix-given}
 use Rattle.taken.specs.Taken.{PlaceOnGlobe, NoneRefused}
 use Rattle.taken.proofs.Tests.{either, one-of}
@@ -90,9 +90,9 @@ module _ (size : ℕ) (least : 3 ≤ capacity size) where
   unfolding asks
   none-refused s m e nothing = tt
   none-refused s m e (reset k) =
-      (state-asked size s e, none-refused (turn size Reset s .state) (turn-measured size least Reset s m) (reset-turn size s e) k)
+      (state-asked size s e, none-refused (afterCall size Reset s .state) (turn-measured size least Reset s m) (reset-turn size s e) k)
   none-refused s m e (replay x now on k) =
-      let after = turn size (Replay x now) s .state in (
+      let after = afterCall size (Replay x now) s .state in (
         or-else-none _ _ e (fix-asked x on),
         none-refused after (turn-measured size least (Replay x now) s m) (replay-turn size x now s m on e) k,
       )
@@ -116,7 +116,7 @@ module _ (size : ℕ) (s : State) (e : asksState s ≡ 0) where
 run-both : (size : ℕ) (xs ys : List Call) (s : State) → run size (xs ++ ys) s .state ≡ run size ys (run size xs s .state) .state
 unfolding run
 run-both size [] ys s = refl
-run-both size (c ∷ xs) ys s = run-both size xs ys (turn size c s .state)
+run-both size (c ∷ xs) ys s = run-both size xs ys (afterCall size c s .state)
 
 none-yet : (C : ℕ) → journal C [] .state ≡ rule.new
 unfolding journal run
@@ -126,7 +126,7 @@ journal-on : (C : ℕ) (cs ks : List Call) → run (stride * C) ks (journal C cs
 unfolding journal
 journal-on C cs ks = sym (run-both (stride * C) cs ks rule.new)
 
-journal-one : (C : ℕ) (cs : List Call) (c : Call) → turn (stride * C) c (journal C cs .state) .state ≡ journal C (cs ++ c ∷ []) .state
+journal-one : (C : ℕ) (cs : List Call) (c : Call) → afterCall (stride * C) c (journal C cs .state) .state ≡ journal C (cs ++ c ∷ []) .state
 unfolding run
 journal-one C cs c = journal-on C cs (c ∷ [])
 
@@ -194,7 +194,7 @@ module _ (C : ℕ) (least : 8 ≤ C) where
   as-journal : {cs : List Call} {h : Homing} {b : List Float} → RanOn C cs h b → stateOf h b ≡ journal C cs .state
   as-journal (new size e) = e ∙ sym (none-yet C)
   as-journal (called {cs = cs} c run did) =
-      did .same ∙ ap₂ (λ (n : ℕ) (s : State). turn n c s .state) (long run) (as-journal run) ∙ journal-one C cs c
+      did .same ∙ ap₂ (λ (n : ℕ) (s : State). afterCall n c s .state) (long run) (as-journal run) ∙ journal-one C cs c
   as-journal (stepped {cs = cs} {h = h} {b = b} budget upper file x run did) =
       step-counts C (omega arith) cs h b (long run) (as-journal run) budget upper file x did
       ∙ ap₂ (λ (n : ℕ) (s : State). journal C (cs ++ stepCalls n budget upper file x s) .state) (long run) (as-journal run)

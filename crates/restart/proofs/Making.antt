@@ -20,7 +20,7 @@ abbrev pub visited : Rebuild → Homing → Visited
 visited r h = record { rebuild = r; homing = h }
 
 -- nothing is done
-pub makes-quiet : (r : Rebuild) (h : Homing) (b : List Float) → trail.Fit (h .trail) (length b) → Makes (quiet r) h b (visited r h) b
+pub makes-quiet : (r : Rebuild) (h : Homing) (b : List Float) → trail.TrailFit (h .trail) (length b) → Makes (quiet r) h b (visited r h) b
 unfolding perform
 makes-quiet r h b f = record { rebuilt = refl; same = refl; fit = f; size = refl; beyond = refl }
 

@@ -36,7 +36,7 @@ unfolding asksEntry
 count-few e z = leb-true (e .count) 4 (said-yes (leb (e .count) 4) 4 (first-yes (unless (leb (e .count) 4) 5) (asksSamples (used e)) z))
 
 -- ---- an entry looked at
-pub not-visited : (e : Entry) (r : Rebuild) (h : Homing) (b : List Float) → trail.Fit (h .trail) (length b) → e .ride < r .recovered
+pub not-visited : (e : Entry) (r : Rebuild) (h : Homing) (b : List Float) → trail.TrailFit (h .trail) (length b) → e .ride < r .recovered
     → Makes (look (some e) r) h b (visited r h) b
 unfolding look
 not-visited e r h b fit before =
@@ -69,7 +69,7 @@ pub record Going (budget upper stop : ℕ) (f : List ℕ) (r : Rebuild) (h : Hom
   pub before : Before f k index
 
 module _ {budget upper stop : ℕ} {f : List ℕ} {r : Rebuild} {h : Homing} where
-  pub going-start : {b : List Float} {index : ℕ} → stop ≡ max (r .walk .slot) (min (r .walk .slot + budget) upper) → trail.Fit (h .trail) (length b) → asksFile f ≡ 0
+  pub going-start : {b : List Float} {index : ℕ} → stop ≡ max (r .walk .slot) (min (r .walk .slot + budget) upper) → trail.TrailFit (h .trail) (length b) → asksFile f ≡ 0
       → index ≡ recordAt f (r .walk .slot) → Going budget upper stop f r h b (r .walk .slot) index (visited r h) b
   going-start {b = b} ends fit a e =
       let none : r .walk .slot - r .walk .slot ≡ 0 = omega arith in

@@ -93,7 +93,7 @@ fn with_slot(r: Rebuild, slot: usize) -> Rebuild
 
 // An entry of a ride before the recovered one is not visited.
 fn look(r: Rebuild, h: Homing, crumbs: &mut [f32], e: Entry) -> Visited
-    requires { ⌜ trail.Fit (h .trail) (length (now crumbs)) ⌝ }
+    requires { ⌜ trail.TrailFit (h .trail) (length (now crumbs)) ⌝ }
     requires { ⌜ e .count ≤ 4 ⌝ }
     ensures { λ v. ⌜ Makes (rule.look (some e) r) h (now (crumbs .entry)) v (now (crumbs .exit)) ⌝ }
 {
@@ -115,7 +115,7 @@ fn walk_slots(
     upper: usize,
     budget: usize,
 ) -> Visited
-    requires { ⌜ trail.Fit (h .trail) (length (now crumbs)) ⌝ }
+    requires { ⌜ trail.TrailFit (h .trail) (length (now crumbs)) ⌝ }
     requires { ⌜ asksFile (now file) ≡ 0 ⌝ }
     ensures { λ v. ⌜ Makes (rule.walk budget upper (slotOf (now (file .entry))) r) h (now (crumbs .entry)) v (now (crumbs .exit)) ⌝ }
 {

@@ -13,7 +13,7 @@ use Rattle.state.specs.declared.Homing.{Homing}
 use Rattle.state.specs.State.{State, stateOf}
 use Rattle.state.specs.Rule.{Done, done}
 use Rattle.course.specs.Fix.{Fix}
-use Rattle.calls.specs.Calls.{Call, Reset, Len, Following, FollowingCourse, CourseAhead, Crumbs, WayBack, Heading, RouteHome, Guide, EndReplay, Course, SetCourse, SetAutoFollow, Observe, Replay, SetFollowing, asks, performs, turn}
+use Rattle.calls.specs.Calls.{Call, Reset, Len, Following, FollowingCourse, CourseAhead, Crumbs, WayBack, Heading, RouteHome, Guide, EndReplay, Course, SetCourse, SetAutoFollow, Observe, Replay, SetFollowing, asks, performs, afterCall}
 use Rattle.calls.specs.Promises.{Called}
 use Rattle.ride.specs.Script.{numbered, callOf}
 use Rattle.ride.proofs.Tests.{both, never}
@@ -57,8 +57,8 @@ does-nothing C (Observe line place clock) s e = absurd (never e refl)
 does-nothing C (Replay point clock) s e = absurd (never e refl)
 does-nothing C (SetFollowing line on clock) s e = absurd (never e refl)
 
-pub leaves : (size : ℕ) (c : Call) (s : State) → onlyAnswers c ≡ true → turn size c s .state ≡ s
-unfolding turn
+pub leaves : (size : ℕ) (c : Call) (s : State) → onlyAnswers c ≡ true → afterCall size c s .state ≡ s
+unfolding afterCall
 leaves size c s e = go (eqb (asks size c s) 0)
   where
     after : Done (Unit {0}) → State

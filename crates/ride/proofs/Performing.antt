@@ -16,7 +16,7 @@ use Rattle.state.specs.State.{State, stateOf}
 use Rattle.course.specs.Fix.{Fix}
 use Rattle.course.specs.Course.{fixes}
 use Rattle.course.proofs.Fixes.{length-fixes}
-use Rattle.calls.specs.Calls.{Call, turn}
+use Rattle.calls.specs.Calls.{Call, afterCall}
 use Rattle.calls.specs.Promises.{Called}
 use Rattle.journal.specs.Journal.{run}
 use Rattle.journal.proofs.Programs.{run-first}
@@ -193,8 +193,8 @@ module _ {s : Script} {h₀ : Homing} {entry : List Float} {n m k at first : ℕ
           h crumbs r′ crumbs′
           → Performing s h₀ entry n m (k + 1) (at + getD (s .sizes) k 0) (first + getD (s .counts) k 0) crumbs′ line′ r′
       goes-on {r′} {crumbs′} kept did =
-          let step : stateOf r′ crumbs′ ≡ turn (length entry) this (stateOf h crumbs) .state =
-          did .same ∙ ap₂ (λ (j : ℕ) (x : Call). turn j x (stateOf h crumbs) .state) (p .long) handed in
+          let step : stateOf r′ crumbs′ ≡ afterCall (length entry) this (stateOf h crumbs) .state =
+          did .same ∙ ap₂ (λ (j : ℕ) (x : Call). afterCall j x (stateOf h crumbs) .state) (p .long) handed in
           record {
             calls = p .calls;
             points = p .points;

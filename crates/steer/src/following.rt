@@ -10,14 +10,14 @@ ghost use Prim.Native.Nat.{_≤_};
 ghost use lib.ListN.{length};
 ghost use Rattle.trail.specs.View as trail;
 ghost use Rattle.state.specs.declared.Line.the-variants as followed;
-ghost use Rattle.follow.specs.View.{Fit, courseOf, Follows};
+ghost use Rattle.follow.specs.View.{HomingFit, courseOf, Follows};
 ghost use Rattle.segments.specs.Segment.{InLine};
 ghost use Rattle.calls.specs.Follow.{follow, followFrom, setFollowing, autoOff, setAutoFollow};
 ghost use Rattle.steer.specs.Decides.{Decides};
 
 // The course where it was found near, else the breadcrumb back.
 fn follow_best(best: Best, h: Homing, crumbs: &mut [f32], line: &[f32], now_ms: u64) -> Answered
-    requires { ⌜ Fit h (length (now crumbs)) (length (now line)) ⌝ }
+    requires { ⌜ HomingFit h (length (now crumbs)) (length (now line)) ⌝ }
     requires { ⌜ (h .follow .line ≡ followed.Nothing) × InLine (h .course .«line_len») best ⌝ }
     ensures { λ r. ⌜ Decides (λ C. follow best C (courseOf h (now (line .entry))) «now_ms») h (now (crumbs .entry)) r (now (crumbs .exit)) ⌝ }
 {
@@ -30,7 +30,7 @@ fn follow_best(best: Best, h: Homing, crumbs: &mut [f32], line: &[f32], now_ms: 
 
 // What is followed already is followed on.
 fn follow_from(h: Homing, crumbs: &mut [f32], line: &[f32], now_ms: u64) -> Answered
-    requires { ⌜ Fit h (length (now crumbs)) (length (now line)) ⌝ }
+    requires { ⌜ HomingFit h (length (now crumbs)) (length (now line)) ⌝ }
     ensures { λ r. ⌜ Decides (λ C. followFrom (h .follow .line) C (courseOf h (now (line .entry))) «now_ms») h (now (crumbs .entry)) r (now (crumbs .exit)) ⌝ }
 {
     let f = h.follow;
@@ -54,7 +54,7 @@ pub fn set_following(
     follow: bool,
     now_ms: u64,
 ) -> Answered
-    requires { ⌜ Fit h (length (now crumbs)) (length (now line)) ⌝ }
+    requires { ⌜ HomingFit h (length (now crumbs)) (length (now line)) ⌝ }
     ensures { λ r. ⌜ Decides (λ C. setFollowing follow C (courseOf h (now (line .entry))) «now_ms») h (now (crumbs .entry)) r (now (crumbs .exit)) ⌝ }
 {
     if follow {
@@ -68,7 +68,7 @@ pub fn set_following(
 
 // Turned off, it also stops a following under way.
 fn auto_off(h: Homing, crumbs: &mut [f32]) -> Homing
-    requires { ⌜ (trail.Fit (h .trail) (length (now crumbs))) × (h .follow .line ≡ followed.Breadcrumb → h .follow .segment ≤ h .trail .len) ⌝ }
+    requires { ⌜ (trail.TrailFit (h .trail) (length (now crumbs))) × (h .follow .line ≡ followed.Breadcrumb → h .follow .segment ≤ h .trail .len) ⌝ }
     ensures { λ r. ⌜ Follows (autoOff (h .«auto_follow»)) h (now (crumbs .entry)) r (now (crumbs .exit)) ⌝ }
 {
     if h.auto_follow {
@@ -83,7 +83,7 @@ fn auto_off(h: Homing, crumbs: &mut [f32]) -> Homing
 
 // Whether riding back over the breadcrumb, or along the course, starts following it.
 pub fn set_auto_follow(h: Homing, crumbs: &mut [f32], on: bool) -> Homing
-    requires { ⌜ (trail.Fit (h .trail) (length (now crumbs))) × (h .follow .line ≡ followed.Breadcrumb → h .follow .segment ≤ h .trail .len) ⌝ }
+    requires { ⌜ (trail.TrailFit (h .trail) (length (now crumbs))) × (h .follow .line ≡ followed.Breadcrumb → h .follow .segment ≤ h .trail .len) ⌝ }
     ensures { λ r. ⌜ Follows (setAutoFollow on) h (now (crumbs .entry)) r (now (crumbs .exit)) ⌝ }
 {
     if on {

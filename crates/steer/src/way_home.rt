@@ -9,13 +9,13 @@ ghost use Prim.Native.Nat.{_≤_};
 ghost use lib.ListN.{length};
 ghost use Rattle.crumbs.specs.Crumb.{capacity};
 ghost use Rattle.state.specs.declared.Line.the-variants as followed;
-ghost use Rattle.follow.specs.View.{Fit, courseOf};
+ghost use Rattle.follow.specs.View.{HomingFit, courseOf};
 ghost use Rattle.calls.specs.Follow.{brought, engagedOr, wayHome, nearHere};
 ghost use Rattle.steer.specs.Decides.{Decides};
 
 // The guide brought up to date where there is a place to show.
 pub fn brought(h: Homing, crumbs: &mut [f32], line: &[f32], now_ms: u64) -> Answered
-    requires { ⌜ Fit h (length (now crumbs)) (length (now line)) ⌝ }
+    requires { ⌜ HomingFit h (length (now crumbs)) (length (now line)) ⌝ }
     ensures { λ r. ⌜ Decides (λ C. brought C (courseOf h (now (line .entry))) «now_ms») h (now (crumbs .entry)) r (now (crumbs .exit)) ⌝ }
 {
     let here = h.here;
@@ -32,7 +32,7 @@ pub fn brought(h: Homing, crumbs: &mut [f32], line: &[f32], now_ms: u64) -> Answ
 
 // A following that began is shown; where none did the answer is no.
 fn engaged_or(engaged: bool, h: Homing, crumbs: &mut [f32], line: &[f32], now_ms: u64) -> Answered
-    requires { ⌜ Fit h (length (now crumbs)) (length (now line)) ⌝ }
+    requires { ⌜ HomingFit h (length (now crumbs)) (length (now line)) ⌝ }
     ensures { λ r. ⌜ Decides (λ C. engagedOr engaged C (courseOf h (now (line .entry))) «now_ms») h (now (crumbs .entry)) r (now (crumbs .exit)) ⌝ }
 {
     if engaged {
@@ -46,7 +46,7 @@ fn engaged_or(engaged: bool, h: Homing, crumbs: &mut [f32], line: &[f32], now_ms
 
 // Follow the breadcrumb back: it ends where the rider turns round.
 pub fn way_home(h: Homing, crumbs: &mut [f32], line: &[f32], now_ms: u64) -> Answered
-    requires { ⌜ Fit h (length (now crumbs)) (length (now line)) ⌝ }
+    requires { ⌜ HomingFit h (length (now crumbs)) (length (now line)) ⌝ }
     requires { ⌜ h .follow .line ≡ followed.Nothing ⌝ }
     ensures { λ r. ⌜ Decides (λ C. wayHome C (courseOf h (now (line .entry))) «now_ms») h (now (crumbs .entry)) r (now (crumbs .exit)) ⌝ }
 {

@@ -29,7 +29,7 @@ use Rattle.state.specs.declared.Follow.{Follow}
 use Rattle.state.specs.declared.Course.{Course}
 use Rattle.state.specs.State.{State, withTrack, withFollow}
 use Rattle.state.specs.Rule.{Done}
-use Rattle.follow.specs.Parts.{left}
+use Rattle.follow.specs.Parts.{endedByThinning}
 use Rattle.follow.specs.Record.{afterThinning, recordedIn, recorded, keep, add, flush}
 use Rattle.follow.specs.Parts.{alongAt, courseFrom, leads, stopped, heldOff}
 use Rattle.follow.specs.Engage.{engageAt, engage, cutTo, leaveAt, forgotten, stopNothing, stopCourse, stopBreadcrumb, stopOn, stop}
@@ -43,8 +43,8 @@ use Rattle.taken.proofs.State.{Lined, SegmentOn, Followed, Coursed, Kep
 
 -- ---- the breadcrumb in the whole state
 -- a breadcrumb that is longer, or one that a thinning made
-left-followed : (on : Line) (len len′ points : ℕ) (f : Follow) → on ≡ f .line → Followed len points f → Followed len′ points (left on f)
-unfolding left
+left-followed : (on : Line) (len len′ points : ℕ) (f : Follow) → on ≡ f .line → Followed len points f → Followed len′ points (endedByThinning on f)
+unfolding endedByThinning
 left-followed line.Breadcrumb len len′ points f e h = record { segment = tt; matched = tt }
 left-followed line.Nothing len len′ points f e h =
     record { segment = subst (λ l. SegmentOn l (f .segment) len′ points) e tt; matched = h .matched }

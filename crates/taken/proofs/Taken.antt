@@ -19,7 +19,7 @@ use Rattle.course.specs.Fix.{Fix}
 use Rattle.course.specs.Course.{points, lineOf}
 use Rattle.calls.specs.Questions.{question1, question4, stateFits, heldFits, lineFits, crumbsFit, unless, asksState, asksCrumbs, asksLine, asksBoth}
 use Rattle.calls.specs.Line.{new, setCourse}
-use Rattle.calls.specs.Calls.{Call, Reset, Len, Following, FollowingCourse, CourseAhead, Crumbs, WayBack, Heading, RouteHome, Guide, EndReplay, Course, SetCourse, SetAutoFollow, Observe, Replay, SetFollowing, asks, courseIn, performs, turn}
+use Rattle.calls.specs.Calls.{Call, Reset, Len, Following, FollowingCourse, CourseAhead, Crumbs, WayBack, Heading, RouteHome, Guide, EndReplay, Course, SetCourse, SetAutoFollow, Observe, Replay, SetFollowing, asks, courseIn, performs, afterCall}
 use Rattle.taken.specs.Taken.{given, FixesOnGlobe, InRange, placedOf, Lendable, Lent, lineAfter, Own, start, called, refused, BufferAfter, EveryTaken, AnyLineAtFirst, EveryLineAgain}
 use Rattle.taken.proofs.Tests.{either, both, and-left, and-right}
 use Rattle.taken.proofs.Laid.{most, laid-fits}
@@ -208,14 +208,14 @@ module _ (size : ℕ) (passes : question1 size ≡ true) where
     performed (SetFollowing b on now) w g =
         rw (w .placed) (stays (following-kept (capacity size) least most-room (placedOf l s) (h .lined) on now s (h .kept)))
 
-    turned : (c : Call) → Lent l s c → InRange c → By c (turn size c s .state)
-    unfolding turn
+    turned : (c : Call) → Lent l s c → InRange c → By c (afterCall size c s .state)
+    unfolding afterCall
     turned c w g =
         either (λ (d : Done (Unit {0})). By c (d .state)) (eqb (asks size c s) 0) (λ e. performed c w g)
         (λ e. absurd (eqb-false (asks size c s) 0 e (not-refused c w g)))
 
-    left-as-it-was : (c : Call) → asks size c s ≢ 0 → Sane (capacity size) (turn size c s .state) l
-    unfolding turn
+    left-as-it-was : (c : Call) → asks size c s ≢ 0 → Sane (capacity size) (afterCall size c s .state) l
+    unfolding afterCall
     left-as-it-was c ne =
         either (λ (d : Done (Unit {0})). Sane (capacity size) (d .state) l) (eqb (asks size c s) 0)
         (λ e. absurd (ne (eqb-true (asks size c s) 0 e))) (λ e. h)

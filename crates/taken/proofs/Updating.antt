@@ -33,7 +33,7 @@ use Rattle.state.specs.Rule.{Done}
 use Rattle.matching.specs.declared.followed.Way.{Way}
 use Rattle.guide.specs.Guide.{leaveM, arriveM, offCleared, arrivalFrom, guideAt, finished, direct}
 use Rattle.guide.specs.Goal.{goalOn, longEnough}
-use Rattle.matching.specs.Match.{onCourse, onLine, aroundSegment, nearer, offM, isNumber, smaller, followMatched, courseMatched}
+use Rattle.matching.specs.Match.{onCourse, onLine, aroundSegment, nearer, offM, isNumber, minimum, followMatched, courseMatched}
 use Rattle.matching.specs.Followed.{followedOn, followed, progress, nearest, widened}
 use Rattle.update.specs.Update.{begun, matchedAt, endedWith, atCourseEnd, matchedTo, matchFrom, followOn, update}
 use Rattle.calls.specs.Questions.{guideFits, shownFits}
@@ -45,8 +45,8 @@ use Rattle.taken.proofs.State.{Lined, SegmentOn, Followed, Coursed, Kep
 use Rattle.taken.proofs.Searching.{Matches, OnSegment, met-on}
 use Rattle.taken.proofs.Following.{stop-kept}
 
-smaller-along : (a b : Float) → Along far a → Along far b → Along far (smaller a b)
-unfolding smaller
+smaller-along : (a b : Float) → Along far a → Along far b → Along far (minimum a b)
+unfolding minimum
 smaller-along a b A B =
     one-of (Along far) (isNumber a && isNumber b) (λ t. one-of (Along far) (le a b) (λ u. A) (λ u. B)) (λ t. one-of (Along far) (isNumber a) (λ u. A) (λ u. B))
 

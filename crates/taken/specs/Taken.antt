@@ -17,7 +17,7 @@ use Rattle.course.specs.Fix.{Fix}
 use Rattle.course.specs.Course.{lineOf}
 use Rattle.calls.specs.Questions.{question1, question4}
 use Rattle.calls.specs.Line.{new}
-use Rattle.calls.specs.Calls.{Call, Reset, Len, Following, FollowingCourse, CourseAhead, Crumbs, WayBack, Heading, RouteHome, Guide, EndReplay, Course, SetCourse, SetAutoFollow, Observe, Replay, SetFollowing, asks, courseIn, turn}
+use Rattle.calls.specs.Calls.{Call, Reset, Len, Following, FollowingCourse, CourseAhead, Crumbs, WayBack, Heading, RouteHome, Guide, EndReplay, Course, SetCourse, SetAutoFollow, Observe, Replay, SetFollowing, asks, courseIn, afterCall}
 
 -- "latitude within ±900,000,000", "longitude within ±1,800,000,000"
 abbrev pub FixOnGlobe : Fix → Type 0
@@ -106,9 +106,9 @@ lineAfter l s c = lineLeft l s (given c)
 pub data Own (size : ℕ) : State → List Crumb → Type 0 where
   start : Own size new []
   called : {s : State} {l : List Crumb} → Own size s l → (c : Call) → Lent l s c → InRange c
-      → Own size (turn size c s .state) (lineAfter l s c)
+      → Own size (afterCall size c s .state) (lineAfter l s c)
   -- a call that is refused, whatever it is given
-  refused : {s : State} {l : List Crumb} → Own size s l → (c : Call) → asks size c s ≢ 0 → Own size (turn size c s .state) l
+  refused : {s : State} {l : List Crumb} → Own size s l → (c : Call) → asks size c s ≢ 0 → Own size (afterCall size c s .state) l
 
 -- Demand 1 over the rules: whatever was called before, the next call is taken
 abbrev pub EveryTaken : Type 0
@@ -134,9 +134,9 @@ abbrev pub EveryLineAgain : Type 0
 EveryLineAgain =
     (size : ℕ) → question1 size ≡ true → (s : State) (l : List Crumb) → Own size s l
     → (c : Call) → Lent l s c → InRange c → (b after : List Float) → Lendable l s 0 b → BufferAfter s (given c) b after
-    → Lendable (lineAfter l s c) (turn size c s .state) 0 after
+    → Lendable (lineAfter l s c) (afterCall size c s .state) 0 after
 
 -- none of these calls is refused
 abbrev pub NoneRefused : ℕ → State → List Call → Type 0
 NoneRefused size s [] = Unit {0}
-NoneRefused size s (c ∷ cs) = (asks size c s ≡ 0) × NoneRefused size (turn size c s .state) cs
+NoneRefused size s (c ∷ cs) = (asks size c s ≡ 0) × NoneRefused size (afterCall size c s .state) cs

@@ -29,16 +29,16 @@ pub record Passed (halve : Bool) (t : Float) (n : ℕ) (entry exit : List Float)
   pub size : length exit ≡ length entry
 
 -- An answer in document 01's terms: the number of the refusal, or how many crumbs are left, the tolerance of the last pass, and the passes made.
-pub data Answer : Type 0 where
-  refused : ℕ → Answer
-  left : ℕ → Float → ℕ → Answer
+pub data ThinAnswer : Type 0 where
+  refused : ℕ → ThinAnswer
+  left : ℕ → Float → ℕ → ThinAnswer
 
-abbrev pub says : Thinned → Answer
+abbrev pub says : Thinned → ThinAnswer
 says (Refused number) = refused number
 says (Left len tolerance passes) = left len tolerance passes
 
 -- the rule's answer for a buffer of `size` numbers that holds the crumbs l
-unfoldable pub answer : ℕ → Float → List Crumb → Answer
+unfoldable pub answer : ℕ → Float → List Crumb → ThinAnswer
 answer size t l =
     elim (question9 size (length l) t) [
       | true ↦ let w = thinning (capacity size) t l in left (length (w .left)) (w .tolerance) (w .passes)

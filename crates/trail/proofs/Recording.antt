@@ -17,7 +17,7 @@ use Rattle.trail.specs.declared.Trail.{Trail}
 use Rattle.trail.specs.declared.Recorded.{Recorded}
 use Rattle.trail.specs.Notes.{thinnedIn}
 use Rattle.trail.specs.Trail.{windowPlaces, minStepM, Track, withWindow, become, thin, put, keep, flush, wait, strays, simplify, add}
-use Rattle.trail.specs.View.{placeAt, places, track, Fit, Follows, Records, Changes}
+use Rattle.trail.specs.View.{placeAt, places, track, TrailFit, TrailFollows, Records, TrailChanges}
 use Rattle.trail.proofs.Window.{length-places, last-places, none-places}
 use Rattle.crumbs.proofs.along.Line.{last-crumbs, last-none}
 use Rattle.trail.proofs.Rules.{keep-full, keep-room, flush-none, flush-some, bends, simplify-bends, simplify-straight, add-first, near, add-near, add-far}
@@ -44,7 +44,7 @@ unfolding put
 put-noted p u = refl
 
 -- there is room behind a thinning
-pub room-behind : {t t₁ : Trail} {b b₁ : List Float} → Fit t (length b) → Follows thin t b t₁ b₁ → t₁ .len < capacity (length b₁)
+pub room-behind : {t t₁ : Trail} {b b₁ : List Float} → TrailFit t (length b) → TrailFollows thin t b t₁ b₁ → t₁ .len < capacity (length b₁)
 room-behind {t} {t₁} {b} {b₁} f g =
     let C = capacity (length b) in
     let few = thin-room C (omega arith) (track t b) (sound-of b f) in
@@ -52,8 +52,8 @@ room-behind {t} {t₁} {b} {b₁} f g =
     omega (arith, g .size)
 
 module _ (t : Trail) (b : List Float) (p : Point) where
-  pub keeps-full : {t₁ t₂ : Trail} {b₁ b₂ : List Float} → Fit t (length b) → t .len ≡ capacity (length b) → Follows thin t b t₁ b₁
-      → Follows (λ C. put p) t₁ b₁ t₂ b₂ → Records (λ C. keep C p) t b (record { trail = t₂; thinned = true }) b₂
+  pub keeps-full : {t₁ t₂ : Trail} {b₁ b₂ : List Float} → TrailFit t (length b) → t .len ≡ capacity (length b) → TrailFollows thin t b t₁ b₁
+      → TrailFollows (λ C. put p) t₁ b₁ t₂ b₂ → Records (λ C. keep C p) t b (record { trail = t₂; thinned = true }) b₂
   keeps-full {t₁} f e g h =
       let C = capacity (length b) in
       let within : t₁ .len ≤ t .len = omega (arith, room-behind f g, g .size) in
@@ -61,7 +61,7 @@ module _ (t : Trail) (b : List Float) (p : Point) where
       (records-then {R = thin} {S = λ C. put p} (record { follows = g; thinned = thin-noted C (track t b) }) h (omega arith) (λ C u. put-noted p u))
       (sym (keep-full C p (track t b) (held-long t b ∙ e)))
 
-  pub keeps-room : {r : Trail} {exit : List Float} → (t .len ≡ capacity (length b) → ⊥) → Follows (λ C. put p) t b r exit
+  pub keeps-room : {r : Trail} {exit : List Float} → (t .len ≡ capacity (length b) → ⊥) → TrailFollows (λ C. put p) t b r exit
       → Records (λ C. keep C p) t b (record { trail = r; thinned = false }) exit
   keeps-room ne h =
       records-as {R = λ C. put p} (record { follows = h; thinned = sym (put-noted p (track t b)) })
@@ -79,7 +79,7 @@ emptied t =
       «retrace_len» = t .«retrace_len»;
     }
 
-empties : (t : Trail) (b : List Float) → Fit t (length b) → Follows (λ C. become (withWindow [])) t b (emptied t) b
+empties : (t : Trail) (b : List Float) → TrailFit t (length b) → TrailFollows (λ C. become (withWindow [])) t b (emptied t) b
 unfolding track places
 empties t b f =
     record {
@@ -105,7 +105,7 @@ none-waiting : (t : Trail) (b : List Float) → t .«window_len» ≡ 0 → last
 unfolding track
 none-waiting t b e = rw (e, none-places)
 
-pub flushes-none : {t : Trail} (b : List Float) → Fit t (length b) → t .«window_len» ≡ 0
+pub flushes-none : {t : Trail} (b : List Float) → TrailFit t (length b) → t .«window_len» ≡ 0
     → Records flush t b (record { trail = t; thinned = false }) b
 flushes-none {t} b f e = records-as (records-still b f) (sym (flush-none (capacity (length b)) (track t b) (none-waiting t b e)))
 
@@ -117,10 +117,10 @@ flushes t b p {r} {exit} some-wait is k =
     (sym (flush-some (capacity (length b)) p (track t b) (last-waiting t b some-wait ∙ ap some (sym is))))
 
 -- ---- simplify
-waits-follows : (p : Point) {t r : Trail} {b : List Float} → Fit t (length b) → Changes (wait p) t r → Follows (λ C. wait p) t b r b
+waits-follows : (p : Point) {t r : Trail} {b : List Float} → TrailFit t (length b) → TrailChanges (wait p) t r → TrailFollows (λ C. wait p) t b r b
 waits-follows p {b = b} f w = record { same = w .same b; fit = w .fit (length b) f; size = refl; beyond = refl }
 
-wait-holds : (p : Point) {t r : Trail} → Changes (wait p) t r → r .len ≡ t .len
+wait-holds : (p : Point) {t r : Trail} → TrailChanges (wait p) t r → r .len ≡ t .len
 unfolding wait
 wait-holds p {t} {r} w = sym (held-long r []) ∙ (ap (λ u. length (u .crumbs)) (w .same []) ∙ held-long t [])
 
@@ -152,13 +152,13 @@ module _ (t : Trail) (b : List Float) (anchor p : Point) where
     straight e f = sym bends-is ∙ rw (e, f)
 
   pub simplifies-bends : {r : Recorded} {t₂ : Trail} {exit : List Float} → bends (capacity (length b)) p (track t b) anchor ≡ true
-      → Records flush t b r exit → Changes (wait p) (r .trail) t₂ → Records (λ C. simplify C anchor p) t b (record { trail = t₂; thinned = r .thinned }) exit
+      → Records flush t b r exit → TrailChanges (wait p) (r .trail) t₂ → Records (λ C. simplify C anchor p) t b (record { trail = t₂; thinned = r .thinned }) exit
   simplifies-bends e k w =
       records-as
       (records-then {R = flush} {S = λ C. wait p} k (waits-follows p (k .follows .fit) w) (omega (arith, wait-holds p w)) (λ C u. wait-noted p u))
       (sym (simplify-bends (capacity (length b)) p (track t b) anchor e))
 
-  pub simplifies-straight : {r : Trail} → Fit t (length b) → bends (capacity (length b)) p (track t b) anchor ≡ false → Changes (wait p) t r
+  pub simplifies-straight : {r : Trail} → TrailFit t (length b) → bends (capacity (length b)) p (track t b) anchor ≡ false → TrailChanges (wait p) t r
       → Records (λ C. simplify C anchor p) t b (record { trail = r; thinned = false }) b
   simplifies-straight f e w =
       records-as {R = λ C. wait p} (record { follows = waits-follows p f w; thinned = sym (wait-noted p (track t b)) })
@@ -187,7 +187,7 @@ module _ (t : Trail) (b : List Float) (p : Point) where
     unfolding track
     near-is = rw (is, anchored)
 
-    pub adds-near : Fit t (length b) → lt (distance place p) minStepM ≡ true → Records (λ C. add C p) t b (record { trail = t; thinned = false }) b
+    pub adds-near : TrailFit t (length b) → lt (distance place p) minStepM ≡ true → Records (λ C. add C p) t b (record { trail = t; thinned = false }) b
     adds-near f e =
         records-as (records-still b f)
         (sym (add-near (capacity (length b)) p (track t b) (crumbAt b (t .len - 1)) (last-held t b some-held) (sym near-is ∙ e)))

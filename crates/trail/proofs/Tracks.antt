@@ -23,19 +23,19 @@ use Rattle.trail.specs.Notes.{thinnedIn}
 use Rattle.crumbs.specs.Along.{crumbOf, recordedM, realong}
 use Rattle.trail.specs.Trail.{windowPlaces, Track, withCrumbs, withWindow, Rule, _>>_, still, thin, put, wait}
 use Rattle.crumbs.specs.Along.{Realongs}
-use Rattle.trail.specs.View.{places, track, Fit, Follows, Records, Changes}
+use Rattle.trail.specs.View.{places, track, TrailFit, TrailFollows, Records, TrailChanges}
 use Rattle.trail.proofs.Window.{length-places, putPlace, places-put}
 use Rattle.trail.proofs.Rules.{thinned-then}
 use Rattle.trail.proofs.Theorems.{Sound, thin-sound}
 
 -- ---- a trail that fits, and its track
-pub sound-of : {t : Trail} (b : List Float) → Fit t (length b) → Sound (capacity (length b)) (track t b)
+pub sound-of : {t : Trail} (b : List Float) → TrailFit t (length b) → Sound (capacity (length b)) (track t b)
 unfolding track
 sound-of b f = record { held = rw length-crumbs (f .held); waiting = rw length-places (f .waiting); tolerance = f .tolerance }
 
 -- a trail r in place of t, on a buffer of the same length
-fit-of : {t : Trail} (r : Trail) (b exit : List Float) → Fit t (length b) → length exit ≡ length b → Sound (capacity (length b)) (track r exit)
-    → Fit r (length exit)
+fit-of : {t : Trail} (r : Trail) (b exit : List Float) → TrailFit t (length b) → length exit ≡ length b → Sound (capacity (length b)) (track r exit)
+    → TrailFit r (length exit)
 unfolding track
 fit-of r b exit f e s =
     rw e
@@ -50,7 +50,7 @@ fit-of r b exit f e s =
 
 -- ---- a rule after a rule, and a rule that is another at this track
 module _ {t t₁ t₂ : Trail} {b b₁ b₂ : List Float} {R S : ℕ → Rule} where
-  pub follows-then : Follows R t b t₁ b₁ → Follows S t₁ b₁ t₂ b₂ → t₁ .len ≤ max (t .len) (t₂ .len) → Follows (λ C. R C >> S C) t b t₂ b₂
+  pub follows-then : TrailFollows R t b t₁ b₁ → TrailFollows S t₁ b₁ t₂ b₂ → t₁ .len ≤ max (t .len) (t₂ .len) → TrailFollows (λ C. R C >> S C) t b t₂ b₂
   follows-then f g h =
       let n = max (t .len) (t₂ .len) in
       record {
@@ -62,7 +62,7 @@ module _ {t t₁ t₂ : Trail} {b b₁ b₂ : List Float} {R S : ℕ → Rule} w
             ∙ behind-more (max (t .len) (t₁ .len)) n b₁ b (omega arith) (f .beyond);
       }
 
-pub records-then : {t t₂ : Trail} {r : Recorded} {b b₁ b₂ : List Float} {R S : ℕ → Rule} → Records R t b r b₁ → Follows S (r .trail) b₁ t₂ b₂
+pub records-then : {t t₂ : Trail} {r : Recorded} {b b₁ b₂ : List Float} {R S : ℕ → Rule} → Records R t b r b₁ → TrailFollows S (r .trail) b₁ t₂ b₂
     → r .trail .len ≤ max (t .len) (t₂ .len) → ((C : ℕ) (u : Track) → thinnedIn (S C u .notes) ≡ false)
     → Records (λ C. R C >> S C) t b (record { trail = t₂; thinned = r .thinned }) b₂
 records-then {t} {b = b} {R = R} {S} f g h quiet =
@@ -87,7 +87,7 @@ records-as f e =
       thinned = f .thinned ∙ ap (λ d. thinnedIn (d .notes)) e;
     }
 
-pub records-still : {t : Trail} (b : List Float) → Fit t (length b) → Records (λ C. still) t b (record { trail = t; thinned = false }) b
+pub records-still : {t : Trail} (b : List Float) → TrailFit t (length b) → Records (λ C. still) t b (record { trail = t; thinned = false }) b
 records-still b f = record { follows = record { same = refl; fit = f; size = refl; beyond = refl }; thinned = refl }
 
 -- ---- a place waits
@@ -102,7 +102,7 @@ waited t p =
       «retrace_len» = t .«retrace_len»;
     }
 
-pub waits : (t : Trail) (p : Point) → length (t .window) ≡ 96 → t .«window_len» < windowPlaces → Changes (wait p) t (waited t p)
+pub waits : (t : Trail) (p : Point) → length (t .window) ≡ 96 → t .«window_len» < windowPlaces → TrailChanges (wait p) t (waited t p)
 unfolding track wait
 waits t p long few =
     record {
@@ -130,8 +130,8 @@ putOne t =
       «retrace_len» = t .«retrace_len»;
     }
 
-pub puts : (t : Trail) (p : Point) (b : List Float) {along : Float} {exit : List Float} → Fit t (length b) → t .len < capacity (length b)
-    → along ≡ recordedM (crumbs (t .len) b) p → exit ≡ putAt b (t .len) (crumbOf p along) → Follows (λ C. put p) t b (putOne t) exit
+pub puts : (t : Trail) (p : Point) (b : List Float) {along : Float} {exit : List Float} → TrailFit t (length b) → t .len < capacity (length b)
+    → along ≡ recordedM (crumbs (t .len) b) p → exit ≡ putAt b (t .len) (crumbOf p along) → TrailFollows (λ C. put p) t b (putOne t) exit
 unfolding track put
 puts t p b {along} {exit} f room far e =
     let n = t .len in
@@ -168,13 +168,13 @@ track-thin t b exit k p q =
     (λ l x. record { crumbs = l; tolerance = x; window = places (t .«window_len») (t .window); retrace = 0; retraceLen = t .«retrace_len» })
     p q
 
-asked : {t : Trail} {size : ℕ} → Fit t size → question9 size (t .len) (t .tolerance) ≡ true
+asked : {t : Trail} {size : ℕ} → TrailFit t size → question9 size (t .len) (t .tolerance) ≡ true
 unfolding question9 ofInt
 asked {t} {size} f =
     rw (f .whole-long, le-leb 3 (capacity size) (omega arith), le-leb (capacity size) 4096 (f .most), le-leb (t .len) (capacity size) (f .held))
     (f .tolerance)
 
-module _ {t : Trail} {b b₁ : List Float} {r : Thinned} (f : Fit t (length b)) (done : ThinDone (t .len) (t .tolerance) b b₁ r) where
+module _ {t : Trail} {b b₁ : List Float} {r : Thinned} (f : TrailFit t (length b)) (done : ThinDone (t .len) (t .tolerance) b b₁ r) where
   pub taken : {x : ℕ} → r ≡ Refused x → ⊥
   taken e = true-false (sym (asked f) ∙ refused-is done e .0)
 
@@ -191,7 +191,7 @@ module _ {t : Trail} {b b₁ : List Float} {r : Thinned} (f : Fit t (length b)) 
     pub room-left : k ≤ capacity (length b₁)
     room-left = omega (arith, fewer, f .held, done .size)
 
-    pub thins : {exit : List Float} → Realongs k b₁ exit → Follows thin t b (thinnedTo t k d) exit
+    pub thins : {exit : List Float} → Realongs k b₁ exit → TrailFollows thin t b (thinnedTo t k d) exit
     thins {exit} g =
         let long : length exit ≡ length b = g .size ∙ done .size in
         let same = track-thin t b exit k (g .held ∙ ap realong (is .held)) (is .tolerance) in

@@ -37,7 +37,7 @@ unfoldable pub emptyWindow : List Float
 emptyWindow = replicate 96 plusZero
 
 -- What questions 1 and 10 ask of a trail and a buffer of `size` numbers, as far as the recording needs it.
-pub record Fit (t : Trail) (size : ℕ) : Type 0 where
+pub record TrailFit (t : Trail) (size : ℕ) : Type 0 where
   pub whole-long : whole size ≡ true
   pub least : 8 ≤ capacity size
   pub most : capacity size ≤ 4096
@@ -46,9 +46,9 @@ pub record Fit (t : Trail) (size : ℕ) : Type 0 where
   pub tolerance : le plusZero (t .tolerance) ≡ true
 
 -- A rule is followed, from a trail t and its buffer to a trail r and its buffer.
-pub record Follows (rule : ℕ → Rule) (t : Trail) (entry : List Float) (r : Trail) (exit : List Float) : Type 0 where
+pub record TrailFollows (rule : ℕ → Rule) (t : Trail) (entry : List Float) (r : Trail) (exit : List Float) : Type 0 where
   pub same : track r exit ≡ rule (capacity (length entry)) (track t entry) .track
-  pub fit : Fit r (length exit)
+  pub fit : TrailFit r (length exit)
   pub size : length exit ≡ length entry
   -- The numbers behind the crumbs held before and after are unchanged. Free are those behind the crumbs held after, where a thinning left fewer,
   -- and the numbers of the window that belong to no waiting place.
@@ -56,16 +56,16 @@ pub record Follows (rule : ℕ → Rule) (t : Trail) (entry : List Float) (r : T
 
 -- The same, with whether a thinning ran.
 pub record Records (rule : ℕ → Rule) (t : Trail) (entry : List Float) (r : Recorded) (exit : List Float) : Type 0 where
-  pub follows : Follows rule t entry (r .trail) exit
+  pub follows : TrailFollows rule t entry (r .trail) exit
   pub thinned : r .thinned ≡ thinnedIn (rule (capacity (length entry)) (track t entry) .notes)
 
 -- A rule that needs no buffer is followed, whatever the buffer.
-pub record Changes (rule : Rule) (t r : Trail) : Type 0 where
+pub record TrailChanges (rule : Rule) (t r : Trail) : Type 0 where
   pub same : (b : List Float) → track r b ≡ rule (track t b) .track
-  pub fit : (size : ℕ) → Fit t size → Fit r size
+  pub fit : (size : ℕ) → TrailFit t size → TrailFit r size
 
 -- A trail of which nothing is recorded yet, on a buffer that passes question 1.
 pub record Emptied (r : Trail) : Type 0 where
   pub same : (b : List Float) → track r b ≡ fresh
   pub window : r .window ≡ emptyWindow
-  pub fit : (size : ℕ) → whole size ≡ true → 8 ≤ capacity size → capacity size ≤ 4096 → Fit r size
+  pub fit : (size : ℕ) → whole size ≡ true → 8 ≤ capacity size → capacity size ≤ 4096 → TrailFit r size

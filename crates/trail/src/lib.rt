@@ -13,7 +13,7 @@ ghost use lib.ListN.{length};
 ghost use Rattle.crumbs.specs.Crumb.{capacity};
 ghost use Rattle.crumbs.specs.Choice.{last};
 ghost use Rattle.trail.specs.Trail.{windowPlaces, strays, thin, put, keep, flush, wait, simplify, add, reset};
-ghost use Rattle.trail.specs.View.{placeAt, places, Emptied, Changes, Fit, Follows, Records};
+ghost use Rattle.trail.specs.View.{placeAt, places, Emptied, TrailChanges, TrailFit, TrailFollows, Records};
 
 // Fixes closer than this to the last one add nothing to the breadcrumb.
 pub const MIN_STEP_M: f32 = 5.0;
@@ -59,7 +59,7 @@ pub fn new() -> Trail
 
 // Forget the breadcrumb.
 pub fn reset(t: Trail) -> Trail
-    ensures { λ r. ⌜ Changes reset t r ⌝ }
+    ensures { λ r. ⌜ TrailChanges reset t r ⌝ }
 {
     Trail {
         len: 0,
@@ -96,7 +96,7 @@ fn last(window: &[f32; 96], window_len: usize, anchor: Point) -> Point
 // `p` waits behind the others.
 fn wait(t: Trail, p: Point) -> Trail
     requires { ⌜ t .«window_len» < windowPlaces ⌝ }
-    ensures { λ r. ⌜ Changes (wait p) t r ⌝ }
+    ensures { λ r. ⌜ TrailChanges (wait p) t r ⌝ }
 {
     let mut next = t;
     let at = 2 * t.window_len;
@@ -123,8 +123,8 @@ fn strays(window: &[f32; 96], window_len: usize, anchor: Point, p: Point, tolera
 // Thin the full breadcrumb in place until a quarter of it is free. The crumbs that a turn-round would
 // go back to may be gone, so one that is under way is forgotten.
 fn thin(t: Trail, crumbs: &mut [f32]) -> Trail
-    requires { ⌜ Fit t (length (now crumbs)) ⌝ }
-    ensures { λ r. ⌜ Follows thin t (now (crumbs .entry)) r (now (crumbs .exit)) ⌝ }
+    requires { ⌜ TrailFit t (length (now crumbs)) ⌝ }
+    ensures { λ r. ⌜ TrailFollows thin t (now (crumbs .entry)) r (now (crumbs .exit)) ⌝ }
 {
     let Thinned::Left {
         len,
@@ -144,8 +144,8 @@ fn thin(t: Trail, crumbs: &mut [f32]) -> Trail
 
 // A crumb at `p` behind those held.
 fn put(t: Trail, crumbs: &mut [f32], p: Point) -> Trail
-    requires { ⌜ (Fit t (length (now crumbs))) × (t .len < capacity (length (now crumbs))) ⌝ }
-    ensures { λ r. ⌜ Follows (λ C. put p) t (now (crumbs .entry)) r (now (crumbs .exit)) ⌝ }
+    requires { ⌜ (TrailFit t (length (now crumbs))) × (t .len < capacity (length (now crumbs))) ⌝ }
+    ensures { λ r. ⌜ TrailFollows (λ C. put p) t (now (crumbs .entry)) r (now (crumbs .exit)) ⌝ }
 {
     let len = t.len;
     let c = Crumb {
@@ -159,7 +159,7 @@ fn put(t: Trail, crumbs: &mut [f32], p: Point) -> Trail
 
 // Keep a crumb at `p`. Where there is no room left, the line is thinned first.
 pub fn keep(t: Trail, crumbs: &mut [f32], p: Point) -> Recorded
-    requires { ⌜ Fit t (length (now crumbs)) ⌝ }
+    requires { ⌜ TrailFit t (length (now crumbs)) ⌝ }
     ensures { λ r. ⌜ Records (λ C. keep C p) t (now (crumbs .entry)) r (now (crumbs .exit)) ⌝ }
 {
     if t.len == crumbs::capacity(crumbs.len()) {
@@ -177,7 +177,7 @@ pub fn keep(t: Trail, crumbs: &mut [f32], p: Point) -> Recorded
 
 // Keep the last place that waits, if one does, and empty the window.
 pub fn flush(t: Trail, crumbs: &mut [f32]) -> Recorded
-    requires { ⌜ Fit t (length (now crumbs)) ⌝ }
+    requires { ⌜ TrailFit t (length (now crumbs)) ⌝ }
     ensures { λ r. ⌜ Records flush t (now (crumbs .entry)) r (now (crumbs .exit)) ⌝ }
 {
     let n = t.window_len;
@@ -201,7 +201,7 @@ pub fn flush(t: Trail, crumbs: &mut [f32]) -> Recorded
 
 // `p` waits. Where a place before it strays, or the window is full, the last that waits is kept first.
 fn simplify(t: Trail, crumbs: &mut [f32], anchor: Point, p: Point) -> Recorded
-    requires { ⌜ Fit t (length (now crumbs)) ⌝ }
+    requires { ⌜ TrailFit t (length (now crumbs)) ⌝ }
     ensures { λ r. ⌜ Records (λ C. simplify C anchor p) t (now (crumbs .entry)) r (now (crumbs .exit)) ⌝ }
 {
     if strays(&t.window, t.window_len, anchor, p, t.tolerance) || t.window_len == WINDOW {
@@ -221,7 +221,7 @@ fn simplify(t: Trail, crumbs: &mut [f32], anchor: Point, p: Point) -> Recorded
 // The window simplification: keep the last fix before one that would make a straight line from the
 // last kept crumb stray too far.
 pub fn add(t: Trail, crumbs: &mut [f32], p: Point) -> Recorded
-    requires { ⌜ Fit t (length (now crumbs)) ⌝ }
+    requires { ⌜ TrailFit t (length (now crumbs)) ⌝ }
     ensures { λ r. ⌜ Records (λ C. add C p) t (now (crumbs .entry)) r (now (crumbs .exit)) ⌝ }
 {
     if t.len == 0 {

@@ -21,7 +21,7 @@ use Rattle.state.specs.State.{State, stateOf}
 use Rattle.follow.specs.Record.{recordedIn, recorded, keep}
 use Rattle.follow.specs.Parts.{heldOff}
 use Rattle.follow.specs.Engage.{cutTo, leaveAt, stopNothing, stopCourse, stopBreadcrumb, stopOn, stop}
-use Rattle.follow.specs.View.{Fit, courseOf, Changes, Follows}
+use Rattle.follow.specs.View.{HomingFit, courseOf, Changes, Follows}
 use Rattle.guide.specs.declared.Told.{Told}
 use Rattle.matching.specs.Match.{onCourse}
 use Rattle.guide.specs.Guide.{arriveM, direct}
@@ -85,7 +85,7 @@ module _ (h st ag : Homing) (entry exit line : List Float) (p : Point) (now : �
                   t .same
                   ∙ ap (λ (n : ℕ). direct (crumbs n line) p (stateOf ag exit) .state) line-length
                   ∙ ap (λ (s : State). direct (courseOf h line) p s .state) state-after;
-              fit = subst (λ (x : Trail). trail.Fit x (length exit)) (sym trail-after) (stops .fit);
+              fit = subst (λ (x : Trail). trail.TrailFit x (length exit)) (sym trail-after) (stops .fit);
               size = stops .size;
               beyond = subst (λ (x : Trail). behind (max (h .trail .len) (x .len)) exit ≡ behind (max (h .trail .len) (x .len)) entry) (sym trail-after) (stops .beyond);
             };

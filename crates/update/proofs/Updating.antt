@@ -21,7 +21,7 @@ use Rattle.state.specs.declared.Course.{Course}
 use Rattle.state.specs.declared.Homing.{Homing}
 use Rattle.state.specs.State.{State, stateOf}
 use Rattle.state.specs.Rule.{Done}
-use Rattle.follow.specs.View.{Fit, courseOf, Changes}
+use Rattle.follow.specs.View.{HomingFit, courseOf, Changes}
 use Rattle.guide.specs.declared.Told.{Told}
 use Rattle.matching.specs.Match.{onLine}
 use Rattle.matching.specs.Followed.{followed}
@@ -34,14 +34,14 @@ use Rattle.matching.proofs.Choosing.{picked, passed-by}
 use Rattle.matching.proofs.followed.Lines.{followed-long}
 
 -- the crumbs and the line fit
-pub roomy : (h : Homing) (room lineRoom : ℕ) → Fit h room lineRoom → Room h room lineRoom
+pub roomy : (h : Homing) (room lineRoom : ℕ) → HomingFit h room lineRoom → Room h room lineRoom
 roomy h room lineRoom f = record { held = f .trail .held; placed = f .course }
 
 -- what fits goes by the trail, the following and the course alone
-pub fit-same : (h r : Homing) (room lineRoom : ℕ) → Fit h room lineRoom → r .trail ≡ h .trail → r .follow ≡ h .follow → r .course ≡ h .course → Fit r room lineRoom
+pub fit-same : (h r : Homing) (room lineRoom : ℕ) → HomingFit h room lineRoom → r .trail ≡ h .trail → r .follow ≡ h .follow → r .course ≡ h .course → HomingFit r room lineRoom
 fit-same h r room lineRoom f t w c =
     record {
-      trail = subst (λ (x : Trail). trail.Fit x room) (sym t) (f .trail);
+      trail = subst (λ (x : Trail). trail.TrailFit x room) (sym t) (f .trail);
       course = subst (λ (x : Course). x .«line_len» ≤ capacity lineRoom) (sym c) (f .course);
       onTrail = λ e.
           let on = f .onTrail (ap (λ (x : Follow). x .line) (sym w) ∙ e) in (
@@ -72,14 +72,14 @@ updates-as rule other h entry r exit is u =
     }
 
 -- one that keeps no crumb
-pub updates-still : (rule : State → Done Event) (h : Homing) (b : List Float) (r : Told) → trail.Fit (h .trail) (length b) → Tells rule h b r → Updates (λ C. rule) h b r b
+pub updates-still : (rule : State → Done Event) (h : Homing) (b : List Float) (r : Told) → trail.TrailFit (h .trail) (length b) → Tells rule h b r → Updates (λ C. rule) h b r b
 updates-still rule h b r f t =
     record {
       told = t .told;
       follows =
           record {
             same = t .same;
-            fit = subst (λ (x : Trail). trail.Fit x (length b)) (sym (t .trail)) f;
+            fit = subst (λ (x : Trail). trail.TrailFit x (length b)) (sym (t .trail)) f;
             size = refl;
             beyond = refl;
           };
@@ -150,7 +150,7 @@ module _ (p : Point) (now : ℕ) (h r : Homing) (room lineRoom : ℕ) (c : Chang
   unfolding begun
   course-kept = ap (λ (s : State). s .course) (c .same [])
 
-  pub fit-begun : Fit h room lineRoom → Fit r room lineRoom
+  pub fit-begun : HomingFit h room lineRoom → HomingFit r room lineRoom
   fit-begun f =
       fit-same h r room lineRoom f (c .trail) follow-kept course-kept
 
@@ -185,12 +185,12 @@ module _ (h b : Homing) (entry exit line : List Float) (p : Point) (now : ℕ) (
       (updates-from (begun p now) (λ C. followOn C (courseOf h line) p now) h b entry r exit c
       (subst (λ (l : List Crumb). Updates (λ C. followOn C l p now) b entry r exit) (course-begun p now h b 0 0 c line) u))
 
-  pub updated-straight : trail.Fit (h .trail) (length entry) → (r : Told) → (onLine (b .follow .line) && leb 2 (followedLen b)) ≡ false → Tells (direct (courseOf b line) p) b entry r
+  pub updated-straight : trail.TrailFit (h .trail) (length entry) → (r : Told) → (onLine (b .follow .line) && leb 2 (followedLen b)) ≡ false → Tells (direct (courseOf b line) p) b entry r
       → Updates (λ C. update C (courseOf h line) p now) h entry r entry
   updated-straight f r e t =
       let C = capacity (length entry) in
       updates-as (λ C. update C (courseOf h line) p now) (λ C s. direct (courseOf h line) p (begun p now s)) h entry r entry
       (goes-straight C (courseOf h line) p now (stateOf h entry) (told false e))
       (updates-from (begun p now) (λ C. direct (courseOf h line) p) h b entry r entry c
-      (updates-still (direct (courseOf h line) p) b entry r (subst (λ (x : Trail). trail.Fit x (length entry)) (sym (c .trail)) f)
+      (updates-still (direct (courseOf h line) p) b entry r (subst (λ (x : Trail). trail.TrailFit x (length entry)) (sym (c .trail)) f)
       (subst (λ (l : List Crumb). Tells (direct l p) b entry r) (course-begun p now h b 0 0 c line) t)))

@@ -17,7 +17,7 @@ ghost use Prim.Native.Nat.{_≤_};
 ghost use lib.ListN.{length};
 ghost use lib.Ieee.{Float};
 ghost use Rattle.state.specs.State.{stateOf};
-ghost use Rattle.follow.specs.View.{Fit, courseOf, Changes};
+ghost use Rattle.follow.specs.View.{HomingFit, courseOf, Changes};
 ghost use Rattle.segments.specs.Segment.{InLine};
 ghost use Rattle.matching.specs.Match.{onLine};
 ghost use Rattle.update.specs.Update.{begun, matchedAt, atCourseEnd, endedWith, matchedTo, matchFrom, followOn, update};
@@ -57,7 +57,7 @@ fn matched_at(h: Homing, crumbs: &[f32], line: &[f32], p: Point, now_ms: u64, ne
 
 // Following ends, and the guide is made anew without it.
 fn ended_with(e: Event, h: Homing, crumbs: &mut [f32], line: &[f32], p: Point, now_ms: u64) -> Told
-    requires { ⌜ Fit h (length (now crumbs)) (length (now line)) ⌝ }
+    requires { ⌜ HomingFit h (length (now crumbs)) (length (now line)) ⌝ }
     ensures { λ r. ⌜ Updates (λ C. endedWith e C (courseOf h (now (line .entry))) p «now_ms») h (now (crumbs .entry)) r (now (crumbs .exit)) ⌝ }
 {
     let stopped = follow::stop_following(h, crumbs);
@@ -89,7 +89,7 @@ fn matched_to(
     now_ms: u64,
     near: Nearest,
 ) -> Told
-    requires { ⌜ Fit h (length (now crumbs)) (length (now line)) ⌝ }
+    requires { ⌜ HomingFit h (length (now crumbs)) (length (now line)) ⌝ }
     requires { ⌜ OnFollowed h near ⌝ }
     ensures { λ r. ⌜ Updates (λ C. matchedTo C (courseOf h (now (line .entry))) p «now_ms» near) h (now (crumbs .entry)) r (now (crumbs .exit)) ⌝ }
 {
@@ -111,7 +111,7 @@ fn match_from(
     p: Point,
     now_ms: u64,
 ) -> Told
-    requires { ⌜ Fit h (length (now crumbs)) (length (now line)) ⌝ }
+    requires { ⌜ HomingFit h (length (now crumbs)) (length (now line)) ⌝ }
     requires { ⌜ (2 ≤ followedLen h) × InLine (followedLen h) best ⌝ }
     ensures { λ r. ⌜ Updates (λ C. matchFrom best C (courseOf h (now (line .entry))) p «now_ms») h (now (crumbs .entry)) r (now (crumbs .exit)) ⌝ }
 {
@@ -126,7 +126,7 @@ fn match_from(
 }
 
 fn follow_on(h: Homing, crumbs: &mut [f32], line: &[f32], p: Point, now_ms: u64) -> Told
-    requires { ⌜ Fit h (length (now crumbs)) (length (now line)) ⌝ }
+    requires { ⌜ HomingFit h (length (now crumbs)) (length (now line)) ⌝ }
     requires { ⌜ (2 ≤ followedLen h) × (onLine (h .follow .line) ≡ true) ⌝ }
     ensures { λ r. ⌜ Updates (λ C. followOn C (courseOf h (now (line .entry))) p «now_ms») h (now (crumbs .entry)) r (now (crumbs .exit)) ⌝ }
 {
@@ -153,7 +153,7 @@ fn leads_on(h: Homing) -> bool
 
 // The guide after a fix at p.
 pub fn update(h: Homing, crumbs: &mut [f32], line: &[f32], p: Point, now_ms: u64) -> Told
-    requires { ⌜ Fit h (length (now crumbs)) (length (now line)) ⌝ }
+    requires { ⌜ HomingFit h (length (now crumbs)) (length (now line)) ⌝ }
     ensures { λ r. ⌜ Updates (λ C. update C (courseOf h (now (line .entry))) p «now_ms») h (now (crumbs .entry)) r (now (crumbs .exit)) ⌝ }
 {
     let t = begun(h, p, now_ms);

@@ -9,7 +9,7 @@ use lib.Ieee.{Float}
 use Rattle.state.specs.declared.Homing.{Homing}
 use Rattle.stored.specs.Stored.{stored, wordCount, numberCount, Loads}
 use Rattle.stored.proofs.Holding.{has-room}
-use Rattle.door.specs.Through.{Leaves, Changes}
+use Rattle.door.specs.Through.{Leaves, ChangesStored}
 
 -- a test of a negated flag
 pub was-false : {b : Bool} → not b ≡ true → b ≡ false
@@ -32,11 +32,11 @@ module _ {w : List ℕ} {n : List Float} {h : Homing} {held : Bool} (loads : Loa
   room-read e = has-room w n h (state-read e)
 
   module _ {unread : ℕ} {does : Homing → Homing → ℕ → Type 0} {untouched : Type 0} {number : ℕ} where
-    pub not-held : not held ≡ true → number ≡ unread → untouched → Changes unread does untouched w n number w n
+    pub not-held : not held ≡ true → number ≡ unread → untouched → ChangesStored unread does untouched w n number w n
     not-held e u t = record { nothing = λ _. (u, (refl, (refl, t))); state = λ g z. absurd (Option·none-ne-some g (sym (none-read e) ∙ z)) }
 
     pub on-held : {r : Homing} {w′ : List ℕ} {n′ : List Float} → not held ≡ false → does h r number → Leaves number r w n w′ n′
-        → Changes unread does untouched w n number w′ n′
+        → ChangesStored unread does untouched w n number w′ n′
     on-held {r = r} e d l =
         record {
           nothing = λ z. absurd (Option·none-ne-some h (sym z ∙ state-read e));

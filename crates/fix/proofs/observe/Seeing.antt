@@ -28,7 +28,7 @@ use Rattle.state.specs.declared.Course.{Course}
 use Rattle.state.specs.declared.Homing.{Homing}
 use Rattle.state.specs.State.{State, stateOf, withFrame, withFed, withHere, withHereMs}
 use Rattle.state.specs.Rule.{done}
-use Rattle.follow.specs.View.{Fit, courseOf, Changes}
+use Rattle.follow.specs.View.{HomingFit, courseOf, Changes}
 use Rattle.update.specs.Update.{update}
 use Rattle.matching.proofs.Choosing.{picked, passed-by}
 use Rattle.update.proofs.Updating.{fit-same}
@@ -149,7 +149,7 @@ module _ (rule : State → State) (h r : Homing) (c : Changes rule h r) (same-fo
   pub changed-line : (line : List Float) → courseOf r line ≡ courseOf h line
   changed-line line = ap (λ (x : Course). crumbs (x .«line_len») line) changed-course
 
-  pub changed-fit : (room lineRoom : ℕ) → Fit h room lineRoom → Fit r room lineRoom
+  pub changed-fit : (room lineRoom : ℕ) → HomingFit h room lineRoom → HomingFit r room lineRoom
   changed-fit room lineRoom f = fit-same h r room lineRoom f (c .trail) changed-follow changed-course
 
   pub changed-ready : (room lineRoom : ℕ) → Ready h room lineRoom → Ready r room lineRoom
@@ -164,7 +164,7 @@ module _ (p : Point) (now : ℕ) where
   unfolding headed
   headed-courses s = refl
 
-  pub headed-fit : (h r : Homing) (room lineRoom : ℕ) → Changes (headed p now) h r → Fit h room lineRoom → Fit r room lineRoom
+  pub headed-fit : (h r : Homing) (room lineRoom : ℕ) → Changes (headed p now) h r → HomingFit h room lineRoom → HomingFit r room lineRoom
   headed-fit h r room lineRoom c = changed-fit (headed p now) h r c headed-follows headed-courses room lineRoom
 
   pub headed-course : (h r : Homing) → Changes (headed p now) h r → (line : List Float) → courseOf r line ≡ courseOf h line

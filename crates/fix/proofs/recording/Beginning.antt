@@ -34,13 +34,13 @@ use Rattle.follow.specs.Parts.{courseFrom, leads}
 use Rattle.follow.specs.Engage.{engageAt, engage}
 use Rattle.joining.specs.Join.{joinedTo, joinOn, mayJoin, joinWith, joining, retraceFixes, withRetrace, retracing}
 use Rattle.joining.specs.Retrace.{ridesBack, lenBefore}
-use Rattle.follow.specs.View.{Fit, courseOf, SameHeld, Asks}
+use Rattle.follow.specs.View.{HomingFit, courseOf, SameHeld, Asks}
 use Rattle.follow.proofs.Engaging.{leads-some}
 use Rattle.joining.proofs.Counting.{rode-back, rode-on}
 use Rattle.fix.specs.Ready.{Ready}
 
 -- a trail that holds the same fits the same
-pub held-fit : (t r : Trail) (size : ℕ) → SameHeld t r → trail.Fit t size → trail.Fit r size
+pub held-fit : (t r : Trail) (size : ℕ) → SameHeld t r → trail.TrailFit t size → trail.TrailFit r size
 held-fit t r size e f =
     record {
       whole-long = f .whole-long;
@@ -54,7 +54,7 @@ held-fit t r size e f =
 other : lines.Breadcrumb ≡ lines.Course → ⊥
 other e = let z : _≡_ {A = ℕ} 0 1 = cc in omega (arith, z)
 
-pub fit-held : (h r : Homing) (room lineRoom : ℕ) → Fit h room lineRoom → SameHeld (h .trail) (r .trail) → r .follow ≡ h .follow → r .course .«line_len» ≡ h .course .«line_len» → Fit r room lineRoom
+pub fit-held : (h r : Homing) (room lineRoom : ℕ) → HomingFit h room lineRoom → SameHeld (h .trail) (r .trail) → r .follow ≡ h .follow → r .course .«line_len» ≡ h .course .«line_len» → HomingFit r room lineRoom
 fit-held h r room lineRoom f t w c =
     record {
       trail = held-fit (h .trail) (r .trail) room t (f .trail);
@@ -205,7 +205,7 @@ module _ (h : Homing) (b : List Float) (p : Point) (r : Answered) (a : Asks (ret
   pub retrace-course : (line : List Float) → courseOf (r .homing) line ≡ courseOf h line
   retrace-course line = ap (λ (n : ℕ). crumbs n line) retrace-length
 
-  pub retrace-fit : (lineRoom : ℕ) → Fit h (length b) lineRoom → Fit (r .homing) (length b) lineRoom
+  pub retrace-fit : (lineRoom : ℕ) → HomingFit h (length b) lineRoom → HomingFit (r .homing) (length b) lineRoom
   retrace-fit lineRoom f = fit-held h (r .homing) (length b) lineRoom f (a .held) retrace-follows retrace-length
 
   pub retrace-few : r .yes ≡ true → ((h .trail .retrace ≡ 0 → ⊥) → h .trail .«retrace_len» ≤ h .trail .len) → r .homing .trail .«retrace_len» ≤ r .homing .trail .len
@@ -250,7 +250,7 @@ module _ (h : Homing) (b line : List Float) (now : ℕ) (r : Answered) (a : Asks
   pub engage-course : courseOf (r .homing) line ≡ courseOf h line
   engage-course = ap (λ (n : ℕ). crumbs n line) engage-length
 
-  pub engaged-fit : (lineRoom : ℕ) → r .yes ≡ true → trail.Fit (h .trail) (length b) → h .course .«line_len» ≤ capacity lineRoom → Fit (r .homing) (length b) lineRoom
+  pub engaged-fit : (lineRoom : ℕ) → r .yes ≡ true → trail.TrailFit (h .trail) (length b) → h .course .«line_len» ≤ capacity lineRoom → HomingFit (r .homing) (length b) lineRoom
   unfolding engageAt track
   engaged-fit lineRoom said f few =
       let on = engage-yes (courseOf h line) now (stateOf h b) (sym (a .answered) ∙ said) in
@@ -269,7 +269,7 @@ module _ (h : Homing) (b line : List Float) (now : ℕ) (r : Answered) (a : Asks
         onCourse = λ e. absurd (other (sym lined ∙ e));
       }
 
-  pub unengaged-fit : (lineRoom : ℕ) → r .yes ≡ false → Fit h (length b) lineRoom → Fit (r .homing) (length b) lineRoom
+  pub unengaged-fit : (lineRoom : ℕ) → r .yes ≡ false → HomingFit h (length b) lineRoom → HomingFit (r .homing) (length b) lineRoom
   unengaged-fit lineRoom never f =
       fit-held h (r .homing) (length b) lineRoom f (a .held) (ap (λ (s : State). s .follow) (a .same ∙ engage-no (courseOf h line) now (stateOf h b) (sym (a .answered) ∙ never))) engage-length
 

@@ -20,9 +20,9 @@ use Rattle.state.specs.declared.Course.{Course}
 use Rattle.state.specs.declared.Homing.{Homing}
 use Rattle.state.specs.State.{State, stateOf}
 use Rattle.state.specs.Rule.{Done}
-use Rattle.follow.specs.Parts.{left}
+use Rattle.follow.specs.Parts.{endedByThinning}
 use Rattle.follow.specs.Record.{afterThinning, recordedIn, recorded, add}
-use Rattle.follow.specs.View.{Fit, courseOf, Follows}
+use Rattle.follow.specs.View.{HomingFit, courseOf, Follows}
 use Rattle.guide.specs.declared.Told.{Told}
 use Rattle.update.specs.Update.{update}
 use Rattle.update.specs.View.{Updates}
@@ -31,8 +31,8 @@ use Rattle.calls.specs.Fix.{addUpdate}
 use Rattle.fix.specs.Ready.{Grows}
 
 -- ---- adding leaves a following alone that is not of the breadcrumb
-left-alone : (on : Line) (f : Follow) → (on ≡ lines.Breadcrumb → ⊥) → left on f ≡ f
-unfolding left
+left-alone : (on : Line) (f : Follow) → (on ≡ lines.Breadcrumb → ⊥) → endedByThinning on f ≡ f
+unfolding endedByThinning
 left-alone lines.Breadcrumb f never = absurd (never refl)
 left-alone lines.Nothing f never = refl
 left-alone lines.Course f never = refl
@@ -60,7 +60,7 @@ module _ (h r : Homing) (p : Point) (entry mid : List Float) (grows : Grows h) (
   grown-off : r .follow .line ≡ lines.Breadcrumb → ⊥
   grown-off e = grows (ap (λ (x : Follow). x .line) (sym grown-follow) ∙ e)
 
-  pub fit-grown : (lineRoom : ℕ) → Fit h (length entry) lineRoom → Fit r (length mid) lineRoom
+  pub fit-grown : (lineRoom : ℕ) → HomingFit h (length entry) lineRoom → HomingFit r (length mid) lineRoom
   fit-grown lineRoom fit =
       record {
         trail = f .fit;

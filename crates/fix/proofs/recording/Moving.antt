@@ -16,7 +16,7 @@ use Rattle.state.specs.declared.Homing.{Homing}
 use Rattle.state.specs.State.{State, stateOf}
 use Rattle.state.specs.Rule.{Done, done, andThen}
 use Rattle.follow.specs.declared.Answered.{Answered}
-use Rattle.follow.specs.View.{Fit, Asks}
+use Rattle.follow.specs.View.{HomingFit, Asks}
 use Rattle.guide.specs.declared.Told.{Told}
 use Rattle.update.specs.View.{Updates}
 use Rattle.update.proofs.Updating.{fit-same}
@@ -73,7 +73,7 @@ updates-following rule h entry r exit u =
     record { told = refl; follows = record { same = u .follows .same; fit = u .follows .fit; size = u .follows .size; beyond = u .follows .beyond } }
 
 -- nothing happens
-pub updates-nothing : (whole : ℕ → State → Done Event) (h : Homing) (b : List Float) → trail.Fit (h .trail) (length b)
+pub updates-nothing : (whole : ℕ → State → Done Event) (h : Homing) (b : List Float) → trail.TrailFit (h .trail) (length b)
     → whole (capacity (length b)) (stateOf h b) ≡ done event.Nothing (stateOf h b) → Updates whole h b (record { homing = h; event = event.Nothing }) b
 updates-nothing whole h b f is =
     record {

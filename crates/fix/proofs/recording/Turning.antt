@@ -23,7 +23,7 @@ use Rattle.follow.specs.declared.Answered.{Answered}
 use Rattle.follow.specs.Parts.{courseFrom}
 use Rattle.follow.specs.Engage.{engageAt, engage, cutTo, forgotten}
 use Rattle.joining.specs.Join.{joining, retracing}
-use Rattle.follow.specs.View.{Fit, courseOf, Asks, Changes}
+use Rattle.follow.specs.View.{HomingFit, courseOf, Asks, Changes}
 use Rattle.guide.specs.declared.Told.{Told}
 use Rattle.update.specs.Update.{update}
 use Rattle.update.specs.View.{Updates}
@@ -68,10 +68,10 @@ module _ (h r : Homing) (line : List Float) (end now : ℕ) (c : Changes (engage
   pub on-grows : Grows r
   on-grows = course-grows r on-follow
 
-  pub on-fit : (room lineRoom : ℕ) → (1 ≤ end) × (end < h .course .«line_len») → Fit h room lineRoom → Fit r room lineRoom
+  pub on-fit : (room lineRoom : ℕ) → (1 ≤ end) × (end < h .course .«line_len») → HomingFit h room lineRoom → HomingFit r room lineRoom
   on-fit room lineRoom on f =
       record {
-        trail = subst (λ (t : Trail). trail.Fit t room) (sym (c .trail)) (f .trail);
+        trail = subst (λ (t : Trail). trail.TrailFit t room) (sym (c .trail)) (f .trail);
         course = subst (λ (n : ℕ). n ≤ capacity lineRoom) (sym on-length) (f .course);
         onTrail = λ e. absurd (on-grows e);
         onCourse = λ e. (
@@ -108,7 +108,7 @@ module _ (h back : Homing) (turns : TurnsBack h back) where
   pub back-idle : h .follow .line ≡ lines.Nothing → back .follow .line ≡ lines.Nothing
   back-idle e = ap (λ (f : Follow). f .line) back-follow ∙ e
 
-  pub back-fit : (room lineRoom : ℕ) → h .follow .line ≡ lines.Nothing → Fit h room lineRoom → Fit back room lineRoom
+  pub back-fit : (room lineRoom : ℕ) → h .follow .line ≡ lines.Nothing → HomingFit h room lineRoom → HomingFit back room lineRoom
   back-fit room lineRoom e f =
       record {
         trail = turns .fit room (f .trail);

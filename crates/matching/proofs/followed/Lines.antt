@@ -22,7 +22,7 @@ use Rattle.state.specs.declared.Line.{Line}
 use Rattle.state.specs.declared.Line.the-variants as line
 use Rattle.state.specs.declared.Homing.{Homing}
 use Rattle.state.specs.State.{State, stateOf}
-use Rattle.follow.specs.View.{Fit, courseOf}
+use Rattle.follow.specs.View.{HomingFit, courseOf}
 use Rattle.segments.specs.Segment.{InLine}
 use Rattle.matching.specs.Match.{onLine, offM, nearer}
 use Rattle.matching.specs.Followed.{followedOn, followed, nearest, progress, widened}
@@ -112,7 +112,7 @@ followed-on line.Course segment course held l t c = c refl .1
 followed-on line.Breadcrumb segment course held l t c = t refl .1
 followed-on line.Nothing segment course held l t c = absurd (false≢true l)
 
-pub on-followed : (h : Homing) (room lineRoom : ℕ) → Fit h room lineRoom → onLine (h .follow .line) ≡ true → h .follow .segment < followedLen h
+pub on-followed : (h : Homing) (room lineRoom : ℕ) → HomingFit h room lineRoom → onLine (h .follow .line) ≡ true → h .follow .segment < followedLen h
 on-followed h room lineRoom f l = followed-on (h .follow .line) (h .follow .segment) (h .course .«line_len») (h .trail .len) l (f .onTrail) (f .onCourse)
 
 pub low-end : (from segment : ℕ) → from ≡ max (segment - 64) 1 → 1 ≤ from

@@ -23,7 +23,7 @@ use Rattle.state.specs.Rule.{Done, done, andThen}
 use Rattle.follow.specs.declared.Answered.{Answered}
 use Rattle.follow.specs.Record.{flush}
 use Rattle.follow.specs.Engage.{engageAt, engage, stop}
-use Rattle.follow.specs.View.{Fit, courseOf, Changes, Follows, Asks}
+use Rattle.follow.specs.View.{HomingFit, courseOf, Changes, Follows, Asks}
 use Rattle.guide.specs.declared.Told.{Told}
 use Rattle.update.specs.Update.{update}
 use Rattle.update.specs.View.{Updates}
@@ -49,7 +49,7 @@ decides-as rule other h entry r exit is d =
     }
 
 -- one that changes nothing
-pub decides-still : (answer : Bool) (h : Homing) (b : List Float) → trail.Fit (h .trail) (length b) → Decides (λ C s. done answer s) h b (record { homing = h; yes = answer }) b
+pub decides-still : (answer : Bool) (h : Homing) (b : List Float) → trail.TrailFit (h .trail) (length b) → Decides (λ C s. done answer s) h b (record { homing = h; yes = answer }) b
 decides-still answer h b f = record { answered = refl; follows = record { same = refl; fit = f; size = refl; beyond = refl } }
 
 -- ---- one rule after another
@@ -128,7 +128,7 @@ module _ {A : Type 0} (first : ℕ → State → Done A) (rule : ℕ → State �
 
 -- ---- brought up to date
 module _ (h : Homing) (entry lent : List Float) (now : ℕ) where
-  pub brought-nowhere : h .here ≡ Nowhere → trail.Fit (h .trail) (length entry)
+  pub brought-nowhere : h .here ≡ Nowhere → trail.TrailFit (h .trail) (length entry)
       → Decides (λ C. brought C (courseOf h lent) now) h entry (record { homing = h; yes = true }) entry
   unfolding brought updateHere
   brought-nowhere n f =
@@ -190,7 +190,7 @@ pub auto-set : {A : Type 0} (rule : ℕ → State → Done A) (on : Bool) (h m r
 auto-set rule on h m r entry exit f c =
     record {
       same = c .same exit ∙ ap (withAutoFollow on) (f .same);
-      fit = subst (λ (t : Trail). trail.Fit t (length exit)) (sym (c .trail)) (f .fit);
+      fit = subst (λ (t : Trail). trail.TrailFit t (length exit)) (sym (c .trail)) (f .fit);
       size = f .size;
       beyond = subst (λ (t : Trail). behind (max (h .trail .len) (t .len)) exit ≡ behind (max (h .trail .len) (t .len)) entry) (sym (c .trail)) (f .beyond);
     }

@@ -28,19 +28,19 @@ use Rattle.state.specs.declared.Homing.{Homing}
 use Rattle.state.specs.State.{State, stateOf}
 use Rattle.state.specs.Rule.{Done}
 use Rattle.follow.specs.declared.Answered.{Answered}
-use Rattle.follow.specs.Parts.{left}
+use Rattle.follow.specs.Parts.{endedByThinning}
 use Rattle.follow.specs.Record.{afterThinning, recordedIn, recorded, keep, flush}
 use Rattle.follow.specs.Parts.{courseFrom, leads, stopped, heldOff}
 use Rattle.follow.specs.Engage.{engageAt, engage, cutTo, leaveAt, stopNothing, stopCourse, stopBreadcrumb, stopOn, stop}
-use Rattle.follow.specs.View.{Fit, courseOf, Changes, Follows, SameHeld, Asks}
+use Rattle.follow.specs.View.{HomingFit, courseOf, Changes, Follows, SameHeld, Asks}
 use Rattle.segments.specs.Segment.{InLine}
 use Rattle.matching.specs.Match.{onCourse, onLine}
 use Rattle.calls.specs.Follow.{nearHere}
 use Rattle.steer.proofs.way_home.Keeping.{gives}
 
 -- ---- by the line that is followed
-module _ (r : Homing) (room lineRoom : ℕ) (t : trail.Fit (r .trail) room) (c : r .course .«line_len» ≤ capacity lineRoom) where
-  pub fit-idle : r .follow .line ≡ line.Nothing → Fit r room lineRoom
+module _ (r : Homing) (room lineRoom : ℕ) (t : trail.TrailFit (r .trail) room) (c : r .course .«line_len» ≤ capacity lineRoom) where
+  pub fit-idle : r .follow .line ≡ line.Nothing → HomingFit r room lineRoom
   unfolding onLine
   fit-idle n =
       record {
@@ -50,18 +50,18 @@ module _ (r : Homing) (room lineRoom : ℕ) (t : trail.Fit (r .trail) room) (c :
         onCourse = λ e. absurd (false≢true (ap onLine (sym n ∙ e)));
       }
 
-  fit-trail : r .follow .line ≡ line.Breadcrumb → 1 ≤ r .follow .segment → r .follow .segment < r .trail .len → Fit r room lineRoom
+  fit-trail : r .follow .line ≡ line.Breadcrumb → 1 ≤ r .follow .segment → r .follow .segment < r .trail .len → HomingFit r room lineRoom
   unfolding onCourse
   fit-trail n a b = record { trail = t; course = c; onTrail = λ e. (a, b); onCourse = λ e. absurd (false≢true (ap onCourse (sym n ∙ e))) }
 
-  fit-course : r .follow .line ≡ line.Course → 1 ≤ r .follow .segment → r .follow .segment < r .course .«line_len» → Fit r room lineRoom
+  fit-course : r .follow .line ≡ line.Course → 1 ≤ r .follow .segment → r .follow .segment < r .course .«line_len» → HomingFit r room lineRoom
   unfolding onCourse
   fit-course n a b = record { trail = t; course = c; onTrail = λ e. absurd (true≢false (ap onCourse (sym n ∙ e))); onCourse = λ e. (a, b) }
 
 -- ---- nothing is followed after a thinning, where nothing was before it
 thinned-line : (b : Bool) (f : Follow) → f .line ≡ line.Nothing → afterThinning b f .line ≡ line.Nothing
-unfolding afterThinning left
-thinned-line true f n = ap (λ (l : Line). left l f .line) n ∙ n
+unfolding afterThinning endedByThinning
+thinned-line true f n = ap (λ (l : Line). endedByThinning l f .line) n ∙ n
 thinned-line false f n = n
 
 -- ---- the window flushed
@@ -121,7 +121,7 @@ module _ (h t : Homing) (entry mid : List Float) (d : Follows stop h entry t mid
   pub idle-stopped : t .follow .line ≡ line.Nothing
   idle-stopped = ap (λ (s : State). s .follow .line) (d .same) ∙ stop-idle _ (stateOf h entry)
 
-  pub stopped-fits : (lineRoom : ℕ) → h .course .«line_len» ≤ capacity lineRoom → Fit t (length mid) lineRoom
+  pub stopped-fits : (lineRoom : ℕ) → h .course .«line_len» ≤ capacity lineRoom → HomingFit t (length mid) lineRoom
   stopped-fits lineRoom l = fit-idle t (length mid) lineRoom (d .fit) (subst (λ (n : ℕ). n ≤ capacity lineRoom) (sym line-stopped) l) idle-stopped
 
 -- ---- a following of the course begun
@@ -140,15 +140,15 @@ module _ (h r : Homing) (course : List Crumb) (end now : ℕ) (c : Changes (enga
   segment-engaged : r .follow .segment ≡ end
   segment-engaged = ap (λ (s : State). s .follow .segment) (c .same []) ∙ engage-line course line.Course end now (stateOf h []) .1
 
-  pub engaged-fits : (room lineRoom : ℕ) → Fit h room lineRoom → (1 ≤ end) × (end < h .course .«line_len») → Fit r room lineRoom
+  pub engaged-fits : (room lineRoom : ℕ) → HomingFit h room lineRoom → (1 ≤ end) × (end < h .course .«line_len») → HomingFit r room lineRoom
   engaged-fits room lineRoom f on =
-      fit-course r room lineRoom (subst (λ (t : Trail). trail.Fit t room) (sym (c .trail)) (f .trail)) (subst (λ (n : ℕ). n ≤ capacity lineRoom) (sym line-engaged) (f .course))
+      fit-course r room lineRoom (subst (λ (t : Trail). trail.TrailFit t room) (sym (c .trail)) (f .trail)) (subst (λ (n : ℕ). n ≤ capacity lineRoom) (sym line-engaged) (f .course))
       (ap (λ (s : State). s .follow .line) (c .same []) ∙ engage-line course line.Course end now (stateOf h []) .0)
       (subst (λ (n : ℕ). 1 ≤ n) (sym segment-engaged) (on .0))
       (subst (λ (n : ℕ). n < r .course .«line_len») (sym segment-engaged) (subst (λ (n : ℕ). end < n) (sym line-engaged) (on .1)))
 
 -- ---- a following of the breadcrumb begun, or none
-fit-held : (t r : Trail) (room : ℕ) → trail.Fit t room → SameHeld t r → trail.Fit r room
+fit-held : (t r : Trail) (room : ℕ) → trail.TrailFit t room → SameHeld t r → trail.TrailFit r room
 fit-held t r room f s =
     record {
       whole-long = f .whole-long;
@@ -183,11 +183,11 @@ module _ (f : Homing) (e : Answered) (course : List Crumb) (now : ℕ) (b : List
   pub line-home : e .homing .course .«line_len» ≡ f .course .«line_len»
   line-home = ap (λ (s : State). s .course .«line_len») (a .same) ∙ home-len course now (stateOf f b)
 
-  pub home-fits : (lineRoom : ℕ) → trail.Fit (f .trail) (length b) → f .course .«line_len» ≤ capacity lineRoom → f .follow .line ≡ line.Nothing → Fit (e .homing) (length b) lineRoom
+  pub home-fits : (lineRoom : ℕ) → trail.TrailFit (f .trail) (length b) → f .course .«line_len» ≤ capacity lineRoom → f .follow .line ≡ line.Nothing → HomingFit (e .homing) (length b) lineRoom
   unfolding trail.track
   home-fits lineRoom t l n = by-answer (leads (crumbs (f .trail .len) b)) refl
     where
-      t' : trail.Fit (e .homing .trail) (length b)
+      t' : trail.TrailFit (e .homing .trail) (length b)
       t' = fit-held (f .trail) (e .homing .trail) (length b) t (a .held)
 
       l' : e .homing .course .«line_len» ≤ capacity lineRoom
@@ -196,7 +196,7 @@ module _ (f : Homing) (e : Answered) (course : List Crumb) (now : ℕ) (b : List
       after : (x : Bool) → leads (crumbs (f .trail .len) b) ≡ x → stateOf (e .homing) b ≡ gives course now (stateOf f b) x .state
       after x g = a .same ∙ ap (λ (d : Done Bool). d .state) (engage-gives course now (stateOf f b) x g)
 
-      by-answer : (x : Bool) → leads (crumbs (f .trail .len) b) ≡ x → Fit (e .homing) (length b) lineRoom
+      by-answer : (x : Bool) → leads (crumbs (f .trail .len) b) ≡ x → HomingFit (e .homing) (length b) lineRoom
       by-answer true g =
           let end = length (crumbs (f .trail .len) b) - 1 in
           let on = engage-line course line.Breadcrumb end now (stateOf f b) in

@@ -12,7 +12,7 @@ use Rattle.course.specs.Fix.{Fix}
 use Rattle.calls.specs.Questions.{question1, stateFits, heldFits, unless, _orElse_, asksState, asksCrumbs}
 use Rattle.calls.specs.Fix.{replay}
 use Rattle.calls.specs.Line.{new, reset}
-use Rattle.calls.specs.Calls.{Call, Reset, Replay, asks, performs, turn}
+use Rattle.calls.specs.Calls.{Call, Reset, Replay, asks, performs, afterCall}
 use Rattle.taken.specs.Taken.{FixOnGlobe}
 use Rattle.taken.proofs.Tests.{either, and-left, and-right, both}
 use Rattle.taken.proofs.Asking.{room-of, or-else-none}
@@ -77,20 +77,20 @@ module _ (size : ℕ) where
 
   -- as the journal performs them
   pub replay-turn : (x : Fix) (now : ℕ) (s : State) → Measured s → FixOnGlobe x → asksCrumbs size s ≡ 0
-      → asksCrumbs size (turn size (Replay x now) s .state) ≡ 0
-  unfolding turn performs
+      → asksCrumbs size (afterCall size (Replay x now) s .state) ≡ 0
+  unfolding afterCall performs
   replay-turn x now s m g e =
       either (λ (d : Done (Unit {0})). asksCrumbs size (d .state) ≡ 0) (eqb (asks size (Replay x now) s) 0) (λ _. replay-asked x now s m g e) (λ _. e)
 
-  pub reset-turn : (s : State) → asksCrumbs size s ≡ 0 → asksCrumbs size (turn size Reset s .state) ≡ 0
-  unfolding turn performs
+  pub reset-turn : (s : State) → asksCrumbs size s ≡ 0 → asksCrumbs size (afterCall size Reset s .state) ≡ 0
+  unfolding afterCall performs
   reset-turn s e = either (λ (d : Done (Unit {0})). asksCrumbs size (d .state) ≡ 0) (eqb (asks size Reset s) 0) (λ _. reset-asked s e) (λ _. e)
 
 -- ---- every list of calls
 run-measured : (size : ℕ) → 3 ≤ capacity size → (calls : List Call) (s : State) → Measured s → Measured (run size calls s .state)
 unfolding run
 run-measured size least [] s m = m
-run-measured size least (c ∷ calls) s m = run-measured size least calls (turn size c s .state) (turn-measured size least c s m)
+run-measured size least (c ∷ calls) s m = run-measured size least calls (afterCall size c s .state) (turn-measured size least c s m)
 
 pub journal-measured : (C : ℕ) → 3 ≤ C → (calls : List Call) → Measured (journal C calls .state)
 unfolding journal

@@ -57,7 +57,7 @@ use Rattle.calls.specs.Fix.{fixLostMs, stillMs, isAt, cleared, missing, sameFix
 use Rattle.calls.specs.Follow.{updateHere, brought, engagedOr, wayHome, follow, nearHere, followFrom, setFollowing, autoOff, setAutoFollow}
 use Rattle.calls.specs.Line.{new, reset, offCourse, setCourse}
 use Rattle.calls.specs.Questions.{asksCrumbs, asksBoth, _orElse_}
-use Rattle.calls.specs.Calls.{Call, Reset, Len, Following, FollowingCourse, CourseAhead, Crumbs, WayBack, Heading, RouteHome, Guide, EndReplay, Course, SetCourse, SetAutoFollow, Observe, Replay, SetFollowing, asksPlace, asks, courseIn, performs, turn}
+use Rattle.calls.specs.Calls.{Call, Reset, Len, Following, FollowingCourse, CourseAhead, Crumbs, WayBack, Heading, RouteHome, Guide, EndReplay, Course, SetCourse, SetAutoFollow, Observe, Replay, SetFollowing, asksPlace, asks, courseIn, performs, afterCall}
 use Rattle.questions.proofs.Given.{fix-given}
 use Rattle.taken.specs.Taken.{FixOnGlobe, PlaceOnGlobe}
 use Rattle.taken.proofs.Tests.{either, one-of}
@@ -421,6 +421,6 @@ module _ (size : ℕ) (least : 3 ≤ capacity size) where
   performs-measured Guide s e h = h
   performs-measured (Course b) s e h = h
 
-  pub turn-measured : (c : Call) (s : State) → Measured s → M (turn size c s)
-  unfolding turn
+  pub turn-measured : (c : Call) (s : State) → Measured s → M (afterCall size c s)
+  unfolding afterCall
   turn-measured c s h = either M (eqb (asks size c s) 0) (λ t. performs-measured c s (eqb-true (asks size c s) 0 t) h) (λ _. h)

@@ -29,7 +29,7 @@ use Rattle.state.specs.declared.Frame.{Frame}
 use Rattle.state.specs.declared.Follow.{Follow}
 use Rattle.state.specs.declared.Course.{Course}
 use Rattle.state.specs.State.{State, withFrame}
-use Rattle.follow.specs.Parts.{left}
+use Rattle.follow.specs.Parts.{endedByThinning}
 use Rattle.follow.specs.Record.{afterThinning, recordedIn, recorded, add}
 use Rattle.joining.specs.Join.{retraceFixes}
 use Rattle.course.specs.Fix.{Fix, located}
@@ -190,8 +190,8 @@ course-fits : (segment len len′ n : ℕ) → followFits line.Course segment le
 unfolding followFits
 course-fits segment len len′ n e = e
 
-left-followed : (on : Line) (len len′ n : ℕ) (f : Follow) → f .line ≡ on → Followed len n f → Followed len′ n (left on f)
-unfolding left
+left-followed : (on : Line) (len len′ n : ℕ) (f : Follow) → f .line ≡ on → Followed len n f → Followed len′ n (endedByThinning on f)
+unfolding endedByThinning
 left-followed line.Breadcrumb len len′ n f e h = record { on = nothing-fits 0 len′ n; matched = nowhere-fits }
 left-followed line.Nothing len len′ n f e h = record { on = subst (λ l. followFits l (f .segment) len′ n ≡ true) (sym e) (nothing-fits (f .segment) len′ n); matched = h .matched }
 left-followed line.Course len len′ n f e h =
