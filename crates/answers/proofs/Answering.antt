@@ -11,7 +11,8 @@ use Rattle.binary32.specs.Casts.{asU32}
 use Rattle.plane.specs.declared.Point.{Point}
 use Rattle.plane.specs.declared.Spot.the-variants.{At}
 use Rattle.plane.specs.Plane.{distance}
-use Rattle.crumbs.specs.Crumb.{crumbs, Front}
+use Rattle.crumbs.specs.Crumb.{crumbs}
+use Rattle.crumbs.specs.Inner.{Front}
 use Rattle.crumbs.proofs.Crumbs.{length-crumbs}
 use Rattle.crumbs.specs.Along.{recordedM, startOf}
 use Rattle.trail.specs.View.{track}

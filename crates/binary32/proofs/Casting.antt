@@ -14,7 +14,8 @@ use lib.Ieee.Compare.{differs-from-itself}
 use mir.Syntax.{w64}
 use mir.Val.{Fits, SFits, toZ, ofZ}
 use mir.ValLaws.{toZ-ofZ}
-use Rattle.binary32.specs.Casts.{asU32, within32, asF32}
+use Rattle.binary32.specs.Casts.{asU32}
+use Rattle.binary32.specs.Inner.{within32, asF32}
 
 -- ---- as u32
 abbrev pub bound : ℕ → Float

@@ -4,7 +4,8 @@ ghost use mathlib.Core.Path.{_≡_};
 ghost use Prim.Native.Nat.{ℕ, _+_, _*_, _^_, _≤_, _<_, min};
 ghost use lib.Ieee.{binary32, ofBits, toBits};
 ghost use Rattle.binary32.specs.Root.{rootOf, root};
-ghost use Rattle.binary32.specs.Casts.{asU32, asF32};
+ghost use Rattle.binary32.specs.Casts.{asU32};
+ghost use Rattle.binary32.specs.Inner.{asF32};
 ghost use Rattle.binary32.specs.Limits.{clamp, maxZero};
 ghost use Rattle.binary32.specs.Inner.{IsRoot, Nearest};
 

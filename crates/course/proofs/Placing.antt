@@ -13,7 +13,8 @@ use lib.Seq.{take-all, take-suc}
 use lib.Ieee.{Float}
 use Rattle.plane.specs.declared.Point.{Point}
 use Rattle.crumbs.specs.declared.Crumb.{Crumb}
-use Rattle.crumbs.specs.Crumb.{capacity, putAt, crumbs, behind}
+use Rattle.crumbs.specs.Crumb.{capacity, crumbs, behind}
+use Rattle.crumbs.specs.Inner.{putAt}
 use Rattle.crumbs.specs.Choice.{last}
 use Rattle.crumbs.proofs.Choices.{last-snoc}
 use Rattle.crumbs.proofs.Crumbs.{length-crumbs, crumbs-behind, behind-put, length-put}

@@ -10,7 +10,8 @@ use lib.ListN.{length, getD, take, drop, set, length-set, length-take}
 use lib.Seq.{drop-cons, drop-drop, getD-drop, getD-take, getD-set-same, getD-set-other, drop-set-lt, take-suc-set, take-all, ext-getD}
 use lib.Ieee.{Float, nan}
 use Rattle.crumbs.specs.declared.Crumb.{Crumb}
-use Rattle.crumbs.specs.Crumb.{stride, capacity, crumbAt, putAt, crumbs, inFront, behind, Front}
+use Rattle.crumbs.specs.Crumb.{stride, capacity, crumbAt, crumbs, inFront, behind}
+use Rattle.crumbs.specs.Inner.{putAt, Front}
 
 crumb-path : {x y : Crumb} → x .east ≡ y .east → x .north ≡ y .north → x .along ≡ y .along → x ≡ y
 crumb-path p q r = λ i. record { east = p i; north = q i; along = r i }

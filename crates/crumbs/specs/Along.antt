@@ -1,16 +1,13 @@
 -- The line of crumbs, from its first: document 01, "Crumb", and homing.rs's `recorded_m`, `start` and, behind a thinning, `thin`.
-use Prim.Native.Nat.{ℕ}
-use mathlib.Core.Path.{_≡_}
 use mathlib.Core.List.{List, [], _∷_}
 use mathlib.Core.Option.{Option, none, some}
-use lib.ListN.{length}
 use lib.Ieee.{Float}
 use Rattle.binary32.specs.Arithmetic.{_⊕_}
 use Rattle.binary32.specs.Limits.{plusZero}
 use Rattle.plane.specs.declared.Point.{Point}
 use Rattle.plane.specs.Plane.{distance}
 use Rattle.crumbs.specs.declared.Crumb.{Crumb}
-use Rattle.crumbs.specs.Crumb.{crumbs, behind, point}
+use Rattle.crumbs.specs.Crumb.{point}
 use Rattle.crumbs.specs.Choice.{last}
 
 abbrev pub crumbOf : Point → Float → Crumb
@@ -41,9 +38,3 @@ realongBehind a (b ∷ l) = let c = crumbOf (point b) (alongTo a (point b)) in c
 unfoldable pub realong : List Crumb → List Crumb
 realong [] = []
 realong (a ∷ l) = a ∷ realongBehind a l
-
--- Along is recomputed over the first n crumbs of a buffer.
-pub record Realongs (n : ℕ) (entry exit : List Float) : Type 0 where
-  pub held : crumbs n exit ≡ realong (crumbs n entry)
-  pub beyond : behind n exit ≡ behind n entry
-  pub size : length exit ≡ length entry

@@ -1,10 +1,9 @@
 -- Document 01, "Crumb": "A crumb is east, north and along, three f32 in metres. The caller lends one f32 buffer, three numbers a crumb."
 -- How crumbs lie in a buffer, and the list of crumbs that a buffer holds.
-use Prim.Native.Nat.{ℕ, zero, suc, _+_, _*_, _/_, _%_, _≤_, _<_}
-use mathlib.Core.Path.{_≡_}
+use Prim.Native.Nat.{ℕ, zero, suc, _+_, _*_, _/_, _%_}
 use mathlib.Core.Bool.{Bool}
 use mathlib.Core.List.{List, [], _∷_}
-use lib.ListN.{length, getD, set, take, drop}
+use lib.ListN.{getD, take, drop}
 use lib.Dec.{eqb}
 use lib.Ieee.{Float, nan}
 use Rattle.crumbs.specs.declared.Crumb.{Crumb}
@@ -26,10 +25,6 @@ capacity size = size / stride
 unfoldable pub crumbAt : List Float → ℕ → Crumb
 crumbAt b i = record { east = getD b (stride * i) nan; north = getD b (stride * i + 1) nan; along = getD b (stride * i + 2) nan }
 
--- the buffer with the crumb c at place i
-unfoldable pub putAt : List Float → ℕ → Crumb → List Float
-putAt b i c = set (set (set b (stride * i) (c .east)) (stride * i + 1) (c .north)) (stride * i + 2) (c .along)
-
 -- the first n crumbs of a buffer
 unfoldable pub crumbs : ℕ → List Float → List Crumb
 crumbs zero b = []
@@ -46,9 +41,3 @@ behind n b = drop (stride * n) b
 -- where a crumb lies in the plane
 abbrev pub point : Crumb → Point
 point c = record { east = c .east; north = c .north }
-
--- "The held crumbs come back as the front part of the lent buffer." Where n crumbs are more than the buffer b has room for, the part r is empty.
-pub record Front (n : ℕ) (b r : List Float) : Type 0 where
-  pub numbers : n ≤ capacity (length b) → r ≡ inFront n b
-  pub held : n ≤ capacity (length b) → crumbs (capacity (length r)) r ≡ crumbs n b
-  pub empty : capacity (length b) < n → r ≡ []

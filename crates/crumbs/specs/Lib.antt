@@ -1,3 +1,4 @@
 pub mod Crumb
 pub mod Choice
 pub mod Along
+pub mod Inner

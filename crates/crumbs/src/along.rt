@@ -8,7 +8,8 @@ ghost use Prim.Native.Nat.{_<_, _≤_};
 ghost use lib.ListN.{length};
 ghost use Rattle.crumbs.specs.Crumb.{capacity, point, crumbs as held};
 ghost use Rattle.crumbs.specs.Choice.{last};
-ghost use Rattle.crumbs.specs.Along.{startOf, alongTo, recordedM, Realongs};
+ghost use Rattle.crumbs.specs.Along.{startOf, alongTo, recordedM};
+ghost use Rattle.crumbs.specs.Inner.{Realongs};
 
 // Where the breadcrumb ends: its last crumb.
 pub fn end(crumbs: &[f32], len: usize) -> Point

@@ -6,7 +6,8 @@ use plane::Point;
 ghost use mathlib.Core.Path.{_≡_};
 ghost use Prim.Native.Nat.{_<_};
 ghost use lib.ListN.{length};
-ghost use Rattle.crumbs.specs.Crumb.{whole, capacity, crumbAt, putAt, point, Front};
+ghost use Rattle.crumbs.specs.Crumb.{whole, capacity, crumbAt, point};
+ghost use Rattle.crumbs.specs.Inner.{putAt, Front};
 
 // How many numbers of a buffer a crumb takes.
 pub const STRIDE: usize = 3;

@@ -37,7 +37,7 @@ pub record Gives (promise : Changed → Type 0) (r : Homing) (number : ℕ) : Ty
   pub refusal : number ≡ numberOf (saysReply (call .answer))
 
 -- the same of `observe`, whose event is written where `was` stood
-pub record Tells (promise : Observed → Type 0) (was is : ℕ) (r : Homing) (number : ℕ) : Type 0 where
+pub record TellsEvent (promise : Observed → Type 0) (was is : ℕ) (r : Homing) (number : ℕ) : Type 0 where
   pub call : Observed
   pub promised : promise call
   pub state : r ≡ call .homing
@@ -79,7 +79,7 @@ SetAutoFollow on b b′ = ChangesStored (noStateWith (length b)) (λ h. Gives (�
 -- `cittumay_observe` and `cittumay_observe_missing`: the fix x, lent the crumb buffer b and the line
 abbrev pub Observe : List Float → Place → ℕ → List Float → ℕ → List Float → ℕ → List ℕ → List Float → ℕ → List ℕ → List Float → Type 0
 Observe line x now b event b′ event′ =
-    ChangesStored (noStateWith (length b)) (λ h. Tells (λ c. Observes line x now h b c b′) event event′) ((b′ ≡ b) × (event′ ≡ event))
+    ChangesStored (noStateWith (length b)) (λ h. TellsEvent (λ c. Observes line x now h b c b′) event event′) ((b′ ≡ b) × (event′ ≡ event))
 
 -- `cittumay_replay` of the fix x, lent the crumb buffer b
 abbrev pub Replay : Fix → ℕ → List Float → List Float → List ℕ → List Float → ℕ → List ℕ → List Float → Type 0

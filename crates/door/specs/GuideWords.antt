@@ -31,8 +31,8 @@ areGuide w =
     && (leb (wordAt w 1) 1 && leb (wordAt w 2) 1 && leb (wordAt w 3) 1 && leb (wordAt w 8) 1)
     && (leb (wordAt w 7) most16 && leb (wordAt w 9) most16)
 
-unfoldable pub guideAt : List ℕ → Guide
-guideAt w =
+unfoldable pub guideFrom : List ℕ → Guide
+guideFrom w =
     record {
       mode = modeOf (wordAt w 0);
       following = flagAt w 1;
@@ -47,7 +47,7 @@ guideAt w =
 
 -- the guide that words are, if they are one; what lies behind the ten is not read
 unfoldable pub guideOf : List ℕ → Option Guide
-guideOf w = cond (areGuide w) (some (guideAt w)) none
+guideOf w = cond (areGuide w) (some (guideFrom w)) none
 
 -- Reading back what was written gives the same guide, where its bearing and its heading have 16 bits, whatever lies behind.
 abbrev pub GuideReadBack : Type 0

@@ -25,7 +25,7 @@ ghost use Rattle.answers.specs.Promises.{AnswersLen, AnswersFollowing, AnswersF
 ghost use Rattle.stored.specs.Fields.{modeOf, modeTag, headingOf, headingFlag, headingIn};
 ghost use Rattle.stored.specs.Stored.{stored};
 ghost use Rattle.door.specs.Through.{numberOf, noState, noStateWith};
-ghost use Rattle.door.specs.GuideWords.{guideSize, guideWords, areGuide, guideAt, guideOf};
+ghost use Rattle.door.specs.GuideWords.{guideSize, guideWords, areGuide, guideFrom, guideOf};
 ghost use Rattle.door.specs.Answers.{valuesOf, Answers, Parts, one, flagged, spotted, ahead, aheadValues, riding, headingValues, showing, guideValues, withRoom, back, backValues};
 
 // How many words a guide takes.
@@ -421,7 +421,7 @@ fn heading_of(known: bool, angle: u16) -> Heading
 
 fn guide_at(words: &[u32]) -> Guide
     requires { ⌜ areGuide (now words) ≡ true ⌝ }
-    ensures { λ r. ⌜ r ≡ guideAt (now (words .entry)) ⌝ }
+    ensures { λ r. ⌜ r ≡ guideFrom (now (words .entry)) ⌝ }
 {
     let mode = mode_of(words[0]);
     let heading = heading_of(words[8] == 1, words[9] as u16);

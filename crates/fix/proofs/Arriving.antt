@@ -15,6 +15,7 @@ use Rattle.plane.specs.declared.Point.{Point}
 use Rattle.crumbs.specs.Crumb.{capacity, behind}
 use Rattle.trail.specs.declared.Trail.{Trail}
 use Rattle.trail.specs.View as trail
+use Rattle.trail.specs.Inner.{Records}
 use Rattle.motion.specs.Heading.{elapsed}
 use Rattle.state.specs.declared.Frame.{Frame}
 use Rattle.state.specs.declared.Homing.{Homing}
@@ -104,7 +105,7 @@ module _ (h : Homing) (x : Fix) (now : ℕ) (f : Frame) (p : Point) (m : Motion)
   unfolding recordedIn
   takes e = record { same = λ b. ap (λ (n : Follow). withFollow n (withTrack (trail.track (k .trail) b) (stateOf on b))) e; trail = refl }
 
-  grows : trail.Records (λ C. trails.add C p) (h .trail) entry k exit → w ≡ afterThinning (k .thinned) (h .follow) → Follows (λ C. add C p) on entry grown exit
+  grows : Records (λ C. trails.add C p) (h .trail) entry k exit → w ≡ afterThinning (k .thinned) (h .follow) → Follows (λ C. add C p) on entry grown exit
   unfolding add
   grows did e = taken-over (λ C. trails.add C p) on grown k entry exit did (takes e)
 
@@ -112,6 +113,6 @@ module _ (h : Homing) (x : Fix) (now : ℕ) (f : Frame) (p : Point) (m : Motion)
   unfolding passOnly passing
   passes e = record { same = λ b. ap (λ (n : Lap). withLap n (stateOf grown b)) e; trail = refl }
 
-  pub replays-parts : f ≡ located x (h .frame) → p ≡ framed f x → m ≡ trackHeading (h .motion) p now → trail.Records (λ C. trails.add C p) (h .trail) entry k exit
+  pub replays-parts : f ≡ located x (h .frame) → p ≡ framed f x → m ≡ trackHeading (h .motion) p now → Records (λ C. trails.add C p) (h .trail) entry k exit
       → w ≡ afterThinning (k .thinned) (h .follow) → l ≡ passing p (m .heading) (h .lap) → Follows (λ C. replay C x now) h entry whole exit
   replays-parts ef ep em did ew el = replays h on grown whole x now f p there entry exit ef ep (λ b. refl) refl (on-it em) (grows did ew) (passes el)

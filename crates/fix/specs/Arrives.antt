@@ -1,4 +1,4 @@
--- What a state at a new fix promises.
+-- For the functions inside: what a state at a new fix promises.
 use Prim.Native.Nat.{ℕ}
 use mathlib.Core.Path.{_≡_}
 use Rattle.state.specs.declared.Homing.{Homing}

@@ -1,4 +1,4 @@
--- What `passOnly` makes of the lap.
+-- For the functions inside: what `passOnly` makes of the lap.
 use Rattle.plane.specs.declared.Point.{Point}
 use Rattle.plane.specs.declared.Heading.{Heading}
 use Rattle.lap.specs.declared.Lap.{Lap}

@@ -1,4 +1,4 @@
--- What the guide's questions give of a state that takes a fix, and what the functions promise.
+-- For the functions inside: what the questions give of a state that takes a fix, and what the functions promise.
 use Prim.Native.Nat.{ℕ, _≤_, _<_}
 use mathlib.Core.Path.{_≡_}
 use mathlib.Core.List.{List}

@@ -16,7 +16,8 @@ use Rattle.trail.specs.declared.Trail.{Trail}
 use Rattle.trail.specs.declared.Recorded.{Recorded}
 use Rattle.trail.specs.Notes.{thinnedIn}
 use Rattle.trail.specs.Trail.{Track, Rule, withCrumbs}
-use Rattle.trail.specs.View.{track, Records}
+use Rattle.trail.specs.View.{track}
+use Rattle.trail.specs.Inner.{Records}
 use Rattle.trail.specs.View as trail
 use Rattle.state.specs.declared.Homing.{Homing}
 use Rattle.state.specs.declared.Line.{Line}

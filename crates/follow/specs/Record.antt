@@ -19,7 +19,7 @@ unfoldable pub recordedIn : Bool → Track → State → State
 recordedIn thinned t s = withFollow (afterThinning thinned (s .follow)) (withTrack t s)
 
 -- what was done to the breadcrumb, in the whole state
-unfoldable pub recorded : trail.Done → State → Done (Unit {0})
+unfoldable pub recorded : trail.TrailDone → State → Done (Unit {0})
 recorded d s = record { answer = tt; state = recordedIn (thinnedIn (d .notes)) (d .track) s; notes = d .notes }
 
 -- a crumb is kept at p; p is added by way of the window; the window's last place is kept

@@ -1,4 +1,4 @@
--- What the guide's questions give of a state and its two lent buffers, and what the functions promise of them.
+-- For the functions inside: what the questions give of a state and its two lent buffers, and what the functions promise of them.
 use Prim.Native.Nat.{ℕ, _≤_, _<_, max}
 use mathlib.Core.Path.{_≡_}
 use mathlib.Core.Bool.{Bool}

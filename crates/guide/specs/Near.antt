@@ -1,4 +1,4 @@
--- Whether some segment of the course lies within 500 m. These rules serve the functions inside: what the guide shows is `nearCourse`.
+-- For the functions inside: whether some segment of the course lies within 500 m. What the guide shows is `nearCourse`.
 use Prim.Native.Nat.{ℕ, zero, suc}
 use mathlib.Core.Bool.{Bool, true, false}
 use mathlib.Core.List.{List}

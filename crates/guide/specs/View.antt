@@ -1,4 +1,4 @@
--- What a function that shows a guide promises.
+-- For the functions inside: what a function that shows a guide promises.
 use mathlib.Core.Path.{_≡_}
 use mathlib.Core.List.{List}
 use lib.Ieee.{Float}

@@ -16,7 +16,7 @@ ghost use lib.ListN.{length};
 ghost use Rattle.crumbs.specs.Crumb.{capacity, crumbs as heldCrumbs};
 ghost use Rattle.trail.specs.View.{track};
 ghost use Rattle.joining.specs.Retrace.{backwards, againstNear, nearestBefore, ridesBack, lenBefore};
-ghost use Rattle.segments.specs.Segment.{InLine};
+ghost use Rattle.segments.specs.Inner.{InLine};
 
 // Riding back along the breadcrumb: this close to it, away from its newest `RETRACE_SKIP_M`.
 const RETRACE_M: f32 = 20.0;

@@ -88,7 +88,7 @@ module _ {C : ℕ} where
   may-trace nothing = over
   may-trace (one p k) = keeps-trace k
 
-  records : (d : trail.Done) (s : State) → Sound C (s .track) (s .follow) → MayKeep C (holding (s .track)) (holding (d .track)) (d .notes)
+  records : (d : trail.TrailDone) (s : State) → Sound C (s .track) (s .follow) → MayKeep C (holding (s .track)) (holding (d .track)) (d .notes)
       → track.Sound C (d .track) → Back (d .track) → Ran C (holding (s .track)) (recorded d s)
   unfolding recorded recordedIn
   records d s h k t b =

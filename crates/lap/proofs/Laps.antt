@@ -9,7 +9,8 @@ use Rattle.plane.specs.declared.Heading.{Heading}
 use Rattle.plane.specs.Plane.{distance}
 use Rattle.lap.specs.declared.Lap.{Lap}
 use Rattle.lap.specs.declared.LapStepped.{LapStepped}
-use Rattle.lap.specs.Lap.{movingAt, lapStart, stepFrom, stepPass, lapStepOf}
+use Rattle.lap.specs.Lap.{movingAt, lapStart, stepFrom, stepPass}
+use Rattle.lap.specs.Inner.{lapStepOf}
 
 abbrev pub startedAt : Lap → Spot → Lap
 startedAt l s = record { pass = l .pass; start = s; passed = l .passed }

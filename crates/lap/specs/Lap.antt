@@ -1,23 +1,13 @@
 -- The passes of the start, which is where the rider first moves. homing.rs, `step_pass`.
 use mathlib.Core.Bool.{Bool, true, false, _||_}
-use lib.Ieee.{Float}
 use Rattle.plane.specs.declared.Point.{Point}
 use Rattle.plane.specs.declared.Spot.{Spot}
 use Rattle.plane.specs.declared.Spot.the-variants.{At, Nowhere}
 use Rattle.plane.specs.declared.Heading.{Heading}
 use Rattle.plane.specs.declared.Heading.the-variants.{Known, Unknown}
 use Rattle.plane.specs.Plane.{distance}
-use Rattle.lap.specs.declared.StartPass.{StartPass}
 use Rattle.lap.specs.declared.Lap.{Lap}
-use Rattle.lap.specs.declared.LapStepped.{LapStepped}
 use Rattle.lap.specs.Pass.{stepOf}
-
--- a lap with another pass, and nothing else changed
-abbrev pub withPass : Lap → StartPass → Lap
-withPass l p = record { pass = p; start = l .start; passed = l .passed }
-
-abbrev pub lapStepOf : Lap → Float → Bool → LapStepped
-lapStepOf l direct moving = let d = stepOf (l .pass) direct moving in record { lap = withPass l (d .pass); passed = d .passed }
 
 -- the rider moves while there is a heading
 unfoldable pub movingAt : Heading → Bool

@@ -1,7 +1,8 @@
 // The passes of the start, which is where the rider first moved.
 ghost use mathlib.Core.Path.{_≡_};
 ghost use Rattle.lap.specs.Pass.{stepOf};
-ghost use Rattle.lap.specs.Lap.{lapStepOf, movingAt, lapStart, stepPass};
+ghost use Rattle.lap.specs.Lap.{movingAt, lapStart, stepPass};
+ghost use Rattle.lap.specs.Inner.{lapStepOf};
 use plane::Heading;
 use plane::Point;
 use plane::Spot;

@@ -1,4 +1,4 @@
--- What a state's two lent buffers have room for, and where on the followed line a match lies.
+-- For the functions inside: what a state's two lent buffers have room for, and where on the followed line a match lies.
 use Prim.Native.Nat.{ℕ, _≤_, _<_}
 use Rattle.crumbs.specs.Crumb.{capacity}
 use Rattle.segments.specs.declared.costs.Nearest.{Nearest}

@@ -1,4 +1,4 @@
--- A point from its two numbers.
+-- For the functions inside: a point from its two numbers.
 use lib.Ieee.{Float}
 use Rattle.plane.specs.declared.Point.{Point}
 

@@ -3,7 +3,8 @@
 ghost use mathlib.Core.Path.{_≡_};
 ghost use lib.Ieee.{binary32};
 ghost use Rattle.binary32.specs.Root.{root};
-ghost use Rattle.binary32.specs.Casts.{asU32, asF32};
+ghost use Rattle.binary32.specs.Casts.{asU32};
+ghost use Rattle.binary32.specs.Inner.{asF32};
 ghost use Rattle.binary32.specs.Limits.{clamp, maxZero};
 ghost use Rattle.trig.specs.Fix.{cos, angle};
 ghost use Rattle.plane.specs.Plane.{distance, project, offSegment, bearing, metres};

@@ -11,7 +11,7 @@ use mir.Syntax.{w32, w64}
 use mir.Val.{SFits, toZ, ofZ}
 use mir.ValLaws.{toZ-ofZ}
 use mir.Facts.{sfits-widen}
-use Rattle.binary32.specs.Casts.{within32, asF32}
+use Rattle.binary32.specs.Inner.{within32, asF32}
 use Rattle.plane.specs.Fix.{wrapped}
 
 -- ---- sizes

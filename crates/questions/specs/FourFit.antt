@@ -1,4 +1,4 @@
--- Crumbs that surely fit, which serve the functions inside.
+-- For the functions inside: crumbs that surely fit.
 use Prim.Native.Nat.{ℕ, _+_, _≤_}
 use mathlib.Core.Path.{_≡_}
 use mathlib.Core.Bool.{true}

@@ -1,4 +1,4 @@
--- Tests by which a crumb surely fits. They serve the functions inside: what a crumb must meet is `crumbFits`.
+-- For the functions inside: tests by which a crumb surely fits. What a crumb must meet is `crumbFits`.
 use Prim.Native.Nat.{_^_}
 use mathlib.Core.Bool.{Bool, _&&_}
 use lib.Ieee.{Float, neg, le}

@@ -13,7 +13,8 @@ use Rattle.state.specs.State.{State}
 use Rattle.course.specs.Fix.{Fix}
 use Rattle.calls.specs.Questions.{question1}
 use Rattle.calls.specs.Calls.{Call, Reset, Replay}
-use Rattle.taken.specs.Taken.{FixOnGlobe, PlaceOnGlobe, Own, called, NoneRefused}
+use Rattle.taken.specs.Taken.{FixOnGlobe, PlaceOnGlobe, Own, called}
+use Rattle.taken.proofs.Refusals.{NoneRefused}
 use Rattle.taken.proofs.Taken.{taken}
 use Rattle.journal.specs.Journal.{run}
 use Rattle.log.specs.declared.Kind.{Kind}

@@ -14,7 +14,7 @@ use Rattle.course.specs.Fix.{Fix}
 use Rattle.calls.specs.Fix.{replay}
 use Rattle.calls.specs.Line.{reset}
 use Rattle.calls.specs.Calls.{Call, Reset, asks, performs, afterCall}
-use Rattle.taken.specs.Taken.{NoneRefused}
+use Rattle.taken.proofs.Refusals.{NoneRefused}
 use Rattle.journal.specs.Journal.{run}
 use Rattle.log.specs.declared.Utc.{Utc}
 use Rattle.log.specs.declared.Entry.{Entry}

@@ -19,7 +19,8 @@ use Rattle.calls.specs.Line as rule
 use Rattle.calls.specs.Questions.{unless, asksState, asksCrumbs}
 use Rattle.calls.specs.Calls.{Call, Reset, Replay, asks, asksPlace, afterCall}
 use Rattle.questions.proofs.Given.{fix-given}
-use Rattle.taken.specs.Taken.{PlaceOnGlobe, NoneRefused}
+use Rattle.taken.specs.Taken.{PlaceOnGlobe}
+use Rattle.taken.proofs.Refusals.{NoneRefused}
 use Rattle.taken.proofs.Tests.{either, one-of}
 use Rattle.taken.proofs.Asking.{fix-asked, or-else-none}
 use Rattle.journal.specs.Journal.{run, journal}

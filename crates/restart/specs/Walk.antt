@@ -1,4 +1,4 @@
--- Where a walk over a file's slots is. Document 01, "Entry".
+-- For the functions inside: where a walk over a file's slots is. Document 01, "Entry".
 use Prim.Native.Nat.{ℕ}
 use mathlib.Core.List.{List}
 use lib.ListN.{getD}

@@ -1,4 +1,4 @@
--- What is told of a rebuild that was answered, in the functions' own values.
+-- For the functions inside: what is told of a rebuild that was answered, in the functions' own values.
 use Prim.Native.Nat.{ℕ, _≤_}
 use mathlib.Core.Path.{_≡_}
 use mathlib.Core.List.{List}

@@ -16,7 +16,7 @@ use Rattle.course.specs.Fix.{Fix}
 use Rattle.course.specs.Course.{fixes}
 use Rattle.calls.specs.Calls.{Call, Reset, Len, Following, FollowingCourse, CourseAhead, Crumbs, WayBack, Heading, RouteHome, Guide, EndReplay, Course, SetCourse, SetAutoFollow, Observe, Replay, SetFollowing}
 use Rattle.ride.specs.Script.{Entry, entries, placeIn, fixIn, numbered, callOf, readable, decode}
-use Rattle.ride.specs.Theorems.{arguments, linesOf, pointsOf, Each, SliceOf, Slices, EveryListWritten}
+use Rattle.ride.specs.Theorems.{arguments, linesOf, pointsOf, Each, SliceOf, CallSlices, EveryListWritten}
 
 -- ---- how a call is written
 abbrev onOff : ℕ → Bool → ℕ
@@ -165,7 +165,7 @@ each-part f all is (c ∷ cs) h =
     let e : length (all (c ∷ cs)) ≡ length (f c) + length (all cs) = ap length (is c cs) ∙ length-append (f c) (all cs) in
     (record { fits = omega (arith, e, h) }, each-part f all is cs (omega (arith, e, h)))
 
-slices : List Call → Slices
+slices : List Call → CallSlices
 slices cs =
     record {
       room = length (linesOf cs);

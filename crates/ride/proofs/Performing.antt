@@ -21,7 +21,7 @@ use Rattle.calls.specs.Promises.{Called}
 use Rattle.journal.specs.Journal.{run}
 use Rattle.journal.proofs.Programs.{run-first}
 use Rattle.ride.specs.Script.{Entry, entries, callOf, readable, decode}
-use Rattle.ride.specs.Promises.{Performs}
+use Rattle.ride.specs.Inner.{Performs}
 use Rattle.ride.proofs.Tests.{both}
 use Rattle.ride.proofs.Entries.{entryAt, length-entries, getD-entries}
 use Rattle.ride.proofs.Points.{part-fixes}

@@ -21,7 +21,8 @@ use Rattle.homing.specs.declared.Changed.{Changed}
 use Rattle.homing.specs.declared.Reply.the-variants.{Taken, Refused}
 use Rattle.homing.specs.Answers.{saysReply}
 use Rattle.homing.specs.Promises.{MakesNew}
-use Rattle.ride.specs.Promises.{Performs, Rides}
+use Rattle.ride.specs.Promises.{Rides}
+use Rattle.ride.specs.Inner.{Performs}
 use Rattle.ride.proofs.Tests.{both, never}
 use Rattle.history.proofs.History.{holds-same}
 

@@ -1,3 +1,4 @@
 pub mod Script
 pub mod Promises
 pub mod Theorems
+pub mod Inner

@@ -5,21 +5,14 @@ use mathlib.Core.List.{List}
 use lib.ListN.{length}
 use lib.Ieee.{Float}
 use Rattle.crumbs.specs.Crumb.{capacity}
-use Rattle.state.specs.declared.Homing.{Homing}
 use Rattle.state.specs.State.{stateOf}
 use Rattle.calls.specs.Line.{new}
 use Rattle.calls.specs.Calls.{Call}
 use Rattle.calls.specs.Questions.{question1, unless}
 use Rattle.calls.specs.Promises.{answer}
-use Rattle.journal.specs.Journal.{run}
 use Rattle.homing.specs.declared.Changed.{Changed}
 use Rattle.homing.specs.Answers.{saysReply}
 use Rattle.history.specs.History.{Holds}
-
--- The calls cs, one after the other, take the state h and its crumb buffer to the state r and its crumb buffer.
-pub record Performs (cs : List Call) (h : Homing) (entry : List Float) (r : Homing) (exit : List Float) : Type 0 where
-  pub same : stateOf r exit ≡ run (length entry) cs (stateOf h entry) .state
-  pub size : length exit ≡ length entry
 
 -- A new guide is made on a crumb buffer, and performs the calls cs. Where question 1 says no, none is performed and nothing changed. What the
 -- working line holds after calls that were performed is free; its length stays.

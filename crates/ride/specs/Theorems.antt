@@ -75,7 +75,7 @@ pub record MachineSize (cs : List Call) : Type 0 where
   pub clocks : SliceOf (λ c. Fits w64 (arguments c .clock)) 8 cs
 
 -- the slices that `ride` is given, beside a working line of so many f32
-pub record Slices : Type 0 where
+pub record CallSlices : Type 0 where
   pub room : ℕ
   pub ops : List ℕ
   pub clocks : List ℕ
@@ -86,7 +86,7 @@ pub record Slices : Type 0 where
   pub lons : List ℤ
 
 -- slices that say the calls cs
-pub record Says (s : Slices) (cs : List Call) : Type 0 where
+pub record Says (s : CallSlices) (cs : List Call) : Type 0 where
   pub says : written (s .room) (s .ops) (s .clocks) (s .sizes) (s .counts) (s .lines) (s .lats) (s .lons) ≡ cs
   pub room : s .room * 4 < 2 ^ 63
   pub ops : SliceOf (Fits w8) 1 (s .ops)
@@ -99,4 +99,4 @@ pub record Says (s : Slices) (cs : List Call) : Type 0 where
 
 -- what `ride` promises of the calls that its slices say is so promised of every list of calls
 abbrev pub EveryListWritten : Type 0
-EveryListWritten = (cs : List Call) → MachineSize cs → (s : Slices) × Says s cs
+EveryListWritten = (cs : List Call) → MachineSize cs → (s : CallSlices) × Says s cs

@@ -11,7 +11,8 @@ ghost use Rattle.course.specs.Course.{fixes};
 ghost use Rattle.calls.specs.Calls.{Replay};
 ghost use Rattle.calls.specs.Promises.{Called};
 ghost use Rattle.ride.specs.Script.{entries, placeIn, fixIn, callOf, readable, written};
-ghost use Rattle.ride.specs.Promises.{Performs, Rides};
+ghost use Rattle.ride.specs.Promises.{Rides};
+ghost use Rattle.ride.specs.Inner.{Performs};
 
 // The calls' numbers; any other is `len`'s.
 const RESET: u8 = 0;

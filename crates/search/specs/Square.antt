@@ -1,4 +1,4 @@
--- The segment whose square is the least. These rules serve the functions inside: what the search gives is `nearestOnBreadcrumb`.
+-- For the functions inside: the segment whose square is the least. What the search gives is `nearestOnBreadcrumb`.
 use Prim.Native.Nat.{ℕ, zero, suc, _-_}
 use mathlib.Core.Bool.{Bool, not, _||_, cond}
 use mathlib.Core.List.{List}

@@ -5,3 +5,4 @@ pub mod Square
 pub mod Turn
 pub mod CostConstants
 pub mod Cost
+pub mod Inner

@@ -1,5 +1,5 @@
 -- Where a position meets a segment, and which of the segments tried comes first. homing.rs, `nearest_on` and `nearest_within`.
-use Prim.Native.Nat.{ℕ, _-_, _≤_, _<_}
+use Prim.Native.Nat.{ℕ, _-_}
 use mathlib.Core.Bool.{true, false, _||_, cond}
 use mathlib.Core.List.{List}
 use lib.Ieee.{lt}
@@ -53,8 +53,3 @@ considered line p cost end best = cheaper best (nearestOn line p end) (cost end)
 unfoldable pub found : SoFar → Best
 found Empty = Nothing
 found (Least near cost) = Found near
-
--- what is found lies on a line of `len` crumbs
-abbrev pub InLine : ℕ → Best → Type 0
-InLine len Nothing = Unit {0}
-InLine len (Found near) = (1 ≤ near .end) × (near .end < len)

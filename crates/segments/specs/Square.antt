@@ -1,4 +1,4 @@
--- The square of how far a position is off a segment of a line. No rule is stated by it: searches that take no root go by it.
+-- For the functions inside: the square of how far a position is off a segment of a line, by which searches go that take no root.
 use Prim.Native.Nat.{ℕ, _-_}
 use mathlib.Core.List.{List}
 use lib.Ieee.{Float}

@@ -17,7 +17,7 @@ use Rattle.plane.specs.Fix.{eastPerE7, frame}
 use Rattle.plane.proofs.Starred as plane
 use Rattle.thin.specs.Crumb.{clear, farther, reach, twoOn, passBy, measuringPass, halvingPass, doubled, passesFrom, thinning}
 use Rattle.thin.specs.Questions.{question9}
-use Rattle.thin.specs.Promises.{answer}
+use Rattle.thin.specs.Promises.{thinAnswer}
 use Rattle.lap.specs.Pass.{passArmM, passM, passEndM, fromStage, stepOf}
 use Rattle.state.specs.Guide.{arrow, arrowFrom}
 use Rattle.segments.specs.CostConstants.{onM}
@@ -39,7 +39,7 @@ zero-within (inf s) h = absurd h
 zero-within (fin s m e) h = zeros-level s _ _ h (zero-mul (down e))
 
 pub table : Table
-unfolding answer question9 thinning passesFrom measuringPass halvingPass passBy reach twoOn farther clear doubled offSegment project atShare between share distance root clamp arrow metres stepOf fromStage passArmM passM passEndM offNow offM onM constant ofBits toUnsigned le lt add sub mul div
+unfolding thinAnswer question9 thinning passesFrom measuringPass halvingPass passBy reach twoOn farther clear doubled offSegment project atShare between share distance root clamp arrow metres stepOf fromStage passArmM passM passEndM offNow offM onM constant ofBits toUnsigned le lt add sub mul div
 table =
     record {
       straight-answer = λ along. refl;

@@ -14,7 +14,7 @@ use Rattle.plane.specs.Fix.{eastPerE7, frame}
 use Rattle.crumbs.specs.declared.Crumb.{Crumb}
 use Rattle.crumbs.specs.Crumb.{stride}
 use Rattle.thin.specs.Crumb.{thinning}
-use Rattle.thin.specs.Promises.{left, refused, answer}
+use Rattle.thin.specs.Promises.{left, refused, thinAnswer}
 use Rattle.lap.specs.declared.Stage.the-variants.{Spent}
 use Rattle.lap.specs.declared.StartPass.{StartPass}
 use Rattle.lap.specs.Pass.{stepOf}
@@ -57,13 +57,13 @@ passes p (d ∷ ds) = let s = stepOf p d true in s .passed ∷ passes (s .pass) 
 
 pub record Table : Type 0 where
   -- "`thin`, C = 8, tolerance 6: (10i, 0), i = 0 to 7: 2 left, 1 pass."
-  pub straight-answer : (along : ℕ → Float) → answer (stride * 8) (number 6) (map (straight along) eight) ≡ left 2 (number 6) 1
+  pub straight-answer : (along : ℕ → Float) → thinAnswer (stride * 8) (number 6) (map (straight along) eight) ≡ left 2 (number 6) 1
   pub straight-left : (along : ℕ → Float) → thinning 8 (number 6) (map (straight along) eight) .left ≡ map (straight along) (0 ∷ 7 ∷ [])
   -- "Same, north alternately 0 and 10,000,000: points 0, 2, 4, 6, 7, 18 passes, tolerance 786,432."
-  pub zigzag-answer : (along : ℕ → Float) → answer (stride * 8) (number 6) (map (zigzag along) eight) ≡ left 5 (number 786432) 18
+  pub zigzag-answer : (along : ℕ → Float) → thinAnswer (stride * 8) (number 6) (map (zigzag along) eight) ≡ left 5 (number 786432) 18
   pub zigzag-left : (along : ℕ → Float) → thinning 8 (number 6) (map (zigzag along) eight) .left ≡ map (zigzag along) (0 ∷ 2 ∷ 4 ∷ 6 ∷ 7 ∷ [])
   -- "C = 2: 9.", whatever the tolerance and the line
-  pub room-for-two : (t : Float) (l : List Crumb) → answer (stride * 2) t l ≡ refused 9
+  pub room-for-two : (t : Float) (l : List Crumb) → thinAnswer (stride * 2) t l ≡ refused 9
   -- "Bearings north, east, south, west: 0, 1024, 2048, 3072.", from the origin to places 1 m away
   pub north : towards plusZero one ≡ 0
   pub east : towards one plusZero ≡ 1024

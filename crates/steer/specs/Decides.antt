@@ -1,4 +1,4 @@
--- What a call that answers yes or no promises of a state and its two lent buffers.
+-- For the functions inside: what a call that answers yes or no promises of a state and its two lent buffers.
 use Prim.Native.Nat.{ℕ}
 use mathlib.Core.Path.{_≡_}
 use mathlib.Core.Bool.{Bool}

@@ -11,7 +11,7 @@ ghost use lib.ListN.{length};
 ghost use Rattle.trail.specs.View as trail;
 ghost use Rattle.state.specs.declared.Line.the-variants as followed;
 ghost use Rattle.follow.specs.View.{HomingFit, courseOf, Follows};
-ghost use Rattle.segments.specs.Segment.{InLine};
+ghost use Rattle.segments.specs.Inner.{InLine};
 ghost use Rattle.calls.specs.Follow.{follow, followFrom, setFollowing, autoOff, setAutoFollow};
 ghost use Rattle.steer.specs.Decides.{Decides};
 

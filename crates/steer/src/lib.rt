@@ -24,7 +24,7 @@ ghost use Rattle.crumbs.specs.Crumb.{capacity};
 ghost use Rattle.follow.specs.View.{Changes};
 ghost use Rattle.course.specs.Course.{fixes};
 ghost use Rattle.calls.specs.Line.{noLap, lined, awaiting, offCourse};
-ghost use Rattle.steer.specs.View.{Made, Resets, SetsLine};
+ghost use Rattle.steer.specs.View.{MadeNew, Resets, SetsLine};
 
 // ---- made anew
 
@@ -44,7 +44,7 @@ fn no_lap() -> Lap
 
 // A guide that has recorded nothing, follows nothing and knows of no course.
 pub fn new() -> Homing
-    ensures { λ r. ⌜ Made r ⌝ }
+    ensures { λ r. ⌜ MadeNew r ⌝ }
 {
     let trail = trail::new();
     let frame = Frame {

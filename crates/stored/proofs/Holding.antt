@@ -11,7 +11,8 @@ use lib.ListN.{length}
 use lib.Ieee.{Float}
 use Rattle.state.specs.declared.Homing.{Homing}
 use Rattle.stored.specs.Fields.{within, wordAt}
-use Rattle.stored.specs.Stored.{mark, mosts, holds, heldIf, homingAt, stored, Loads, HasRoom}
+use Rattle.stored.specs.Stored.{mark, mosts, holds, heldIf, homingAt, stored, HasRoom}
+use Rattle.stored.specs.Inner.{Loads}
 use Rattle.stored.specs.Parts.{wordCount, numberCount}
 use Rattle.stored.proofs.fields.Limits.{within-room}
 pub use Rattle.stored.proofs.stored_rebuild.Holding.{rebuild-has-room}

@@ -15,9 +15,9 @@ use Rattle.lap.specs.declared.Stage.the-variants as stage
 use Rattle.state.specs.declared.Line.the-variants as line
 use Rattle.state.specs.declared.Mode.the-variants as mode
 use Rattle.state.specs.declared.Homing.{Homing}
-use Rattle.stored.specs.Fields.{most32, most16, most8, within, wordAt, flagAt, signedAt, spotAt, headingAt, placeAt}
+use Rattle.stored.specs.Fields.{most32, most16, most8, within, wordAt, flagAt, signedAt, spotAt, headingAt, placeRead}
 use Rattle.stored.specs.Stored.{mark, mosts, homingAt, holds, heldIf, stored, wordsOf, headOf, numbersOf, StateFits, ReadBack}
-use Rattle.stored.specs.Parts.{numberCount, trailAt, frameAt, motionAt, followAt, courseAt, lapAt, guideAt, shownOf, guideIn, shownFlag}
+use Rattle.stored.specs.Parts.{numberCount, trailAt, frameAt, motionAt, followAt, courseAt, lapAt, guideRead, shownOf, guideIn, shownFlag}
 use Rattle.stored.proofs.fields.Limits.{within-more, within-at}
 use Rattle.stored.proofs.fields.Same.{narrow-same, flag-same, line-same, stage-same, mode-same, spot-same, heading-back}
 use Rattle.stored.proofs.parts.Parts.{place-back, shown-same}
@@ -50,14 +50,14 @@ module _ (h : Homing) (fits : StateFits h) (ws : List ℕ) (ns : List Float) whe
   }
 
   frame-back : frameAt W N ≡ h .frame
-  unfolding frameAt placeAt signedAt wordsOf numbersOf headOf mosts
+  unfolding frameAt placeRead signedAt wordsOf numbersOf headOf mosts
   frame-back = λ i. record {
     origin = place-back (h .frame .origin) (fits .origin) (at 6 (omega arith)) (at 7 (omega arith)) i;
     «east_per_e7» = h .frame .«east_per_e7»;
   }
 
-  fed-back : placeAt W 8 ≡ h .fed
-  unfolding placeAt signedAt wordsOf mosts
+  fed-back : placeRead W 8 ≡ h .fed
+  unfolding placeRead signedAt wordsOf mosts
   fed-back = place-back (h .fed) (fits .fed) (at 9 (omega arith)) (at 10 (omega arith))
 
   here-back : spotAt W 11 N 2 ≡ h .here
@@ -103,8 +103,8 @@ module _ (h : Homing) (fits : StateFits h) (ws : List ℕ) (ns : List Float) whe
     passed = flag-same (h .lap .passed) i;
   }
 
-  guide-back : guideAt W ≡ guideIn (h .guide)
-  unfolding guideAt headingAt wordsOf mosts
+  guide-back : guideRead W ≡ guideIn (h .guide)
+  unfolding guideRead headingAt wordsOf mosts
   guide-back = λ i. record {
     mode = mode-same (guideIn (h .guide) .mode) i;
     following = flag-same (guideIn (h .guide) .following) i;
@@ -117,7 +117,7 @@ module _ (h : Homing) (fits : StateFits h) (ws : List ℕ) (ns : List Float) whe
     heading = heading-back (guideIn (h .guide) .heading) (at 44 (omega arith)) i;
   }
 
-  shown-back : shownOf (flagAt W 34) (guideAt W) ≡ h .guide
+  shown-back : shownOf (flagAt W 34) (guideRead W) ≡ h .guide
   unfolding wordsOf
   shown-back = ap (shownOf (eqb (shownFlag (h .guide)) 1)) guide-back ∙ shown-same (h .guide)
 

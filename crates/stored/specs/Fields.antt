@@ -82,8 +82,8 @@ abbrev pub placeOf : Bool → ℤ → ℤ → Place
 placeOf true lat lon = place.At lat lon
 placeOf false lat lon = place.Missing
 
-unfoldable pub placeAt : List ℕ → ℕ → Place
-placeAt w i = placeOf (flagAt w i) (signedAt w (i + 1)) (signedAt w (i + 2))
+unfoldable pub placeRead : List ℕ → ℕ → Place
+placeRead w i = placeOf (flagAt w i) (signedAt w (i + 1)) (signedAt w (i + 2))
 
 abbrev pub lineOf : ℕ → Line
 lineOf n = getD (line.Nothing ∷ line.Breadcrumb ∷ line.Course ∷ []) n line.Nothing

@@ -20,7 +20,7 @@ use Rattle.state.specs.declared.Course.{Course}
 use Rattle.state.specs.declared.Guide.{Guide}
 use Rattle.state.specs.declared.Shown.{Shown}
 use Rattle.state.specs.declared.Shown.the-variants as shown
-use Rattle.stored.specs.Fields.{most64, most32, most16, most8, wordAt, numberAt, narrowAt, flagAt, spotAt, headingAt, placeAt, lineOf, stageOf, modeOf, flag, unsigned, spotFlag, headingFlag, headingIn, placeFlag, latIn, lonIn, lineTag, stageTag, modeTag}
+use Rattle.stored.specs.Fields.{most64, most32, most16, most8, wordAt, numberAt, narrowAt, flagAt, spotAt, headingAt, placeRead, lineOf, stageOf, modeOf, flag, unsigned, spotFlag, headingFlag, headingIn, placeFlag, latIn, lonIn, lineTag, stageTag, modeTag}
 
 abbrev pub wordCount : ℕ
 wordCount = 45
@@ -70,7 +70,7 @@ trailAt w n =
     }
 
 unfoldable pub frameAt : List ℕ → List Float → Frame
-frameAt w n = record { origin = placeAt w 5; «east_per_e7» = numberAt n 1 }
+frameAt w n = record { origin = placeRead w 5; «east_per_e7» = numberAt n 1 }
 
 unfoldable pub motionAt : List ℕ → List Float → Motion
 motionAt w n = record { from = spotAt w 13 n 4; heading = headingAt w 14; «heading_ms» = wordAt w 16 }
@@ -101,8 +101,8 @@ courseAt w n =
 unfoldable pub lapAt : List ℕ → List Float → Lap
 lapAt w n = record { pass = record { stage = stageOf (wordAt w 30) }; start = spotAt w 31 n 12; passed = flagAt w 32 }
 
-unfoldable pub guideAt : List ℕ → Guide
-guideAt w =
+unfoldable pub guideRead : List ℕ → Guide
+guideRead w =
     record {
       mode = modeOf (wordAt w 35);
       following = flagAt w 36;

@@ -39,15 +39,15 @@ abbrev pub pendingOf : Bool → Utc → Stage
 pendingOf true t = stage.Pending t
 pendingOf false t = stage.Decided
 
-unfoldable pub utcAt : List ℕ → ℕ → Utc
-utcAt w i = utcOf (flagAt w i) (wordAt w (i + 1))
+unfoldable pub utcRead : List ℕ → ℕ → Utc
+utcRead w i = utcOf (flagAt w i) (wordAt w (i + 1))
 
 unfoldable pub rebuildAt : List ℕ → Rebuild
 rebuildAt w =
     record {
       recovered = narrowAt most32 w 1;
       walk = record { slot = wordAt w 2 };
-      stage = pendingOf (flagAt w 3) (utcAt w 4);
+      stage = pendingOf (flagAt w 3) (utcRead w 4);
       «clock_ms» = wordAt w 6;
     }
 
@@ -103,8 +103,3 @@ pub record StoresRebuild (r : Rebuild) (w w′ : List ℕ) : Type 0 where
 -- Words in which a rebuild is stored hold that rebuild, every field.
 abbrev pub RebuildHoldsStored : Type 0
 RebuildHoldsStored = (r : Rebuild) (w w′ : List ℕ) → StoresRebuild r w w′ → storedRebuild w′ ≡ some r
-
--- What loading gives: the rebuild where one is held.
-pub record LoadsRebuild (w : List ℕ) (r : Rebuild) (held : Bool) : Type 0 where
-  pub there : held ≡ true → storedRebuild w ≡ some r
-  pub nothing : held ≡ false → storedRebuild w ≡ none

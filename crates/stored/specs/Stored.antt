@@ -27,8 +27,8 @@ use lib.Dec.{leb, eqb}
 use lib.ListN.{length, drop}
 use lib.Ieee.{Float}
 use Rattle.state.specs.declared.Homing.{Homing}
-use Rattle.stored.specs.Fields.{within, wordAt, flagAt, spotAt, placeAt, pointIn}
-unfoldable pub use Rattle.stored.specs.Parts.{trailAt, frameAt, motionAt, followAt, courseAt, lapAt, guideAt}
+use Rattle.stored.specs.Fields.{within, wordAt, flagAt, spotAt, placeRead, pointIn}
+unfoldable pub use Rattle.stored.specs.Parts.{trailAt, frameAt, motionAt, followAt, courseAt, lapAt, guideRead}
 pub use Rattle.stored.specs.Parts.{wordCount, numberCount, windowAt, placeMosts, headingMosts, trailMosts, motionMosts, followMosts, courseMosts, lapMosts, guideMosts, shownOf, blank, guideIn, shownFlag, placeWords, headingWords, trailWords, motionWords, followWords, courseWords, lapWords, guideWords, PlaceFits}
 unfoldable pub use Rattle.stored.specs.Words.{mosts, wordsOf}
 pub use Rattle.stored.specs.Words.{mark}
@@ -39,7 +39,7 @@ homingAt w n =
     record {
       trail = trailAt w n;
       frame = frameAt w n;
-      fed = placeAt w 8;
+      fed = placeRead w 8;
       here = spotAt w 11 n 2;
       «here_ms» = wordAt w 12;
       motion = motionAt w n;
@@ -49,7 +49,7 @@ homingAt w n =
       arrived = flagAt w 29;
       lap = lapAt w n;
       «updated_ms» = wordAt w 33;
-      guide = shownOf (flagAt w 34) (guideAt w);
+      guide = shownOf (flagAt w 34) (guideRead w);
     }
 
 -- whether there is room for a state
@@ -109,8 +109,3 @@ pub record Stores (h : Homing) (w : List ℕ) (n : List Float) (w′ : List ℕ)
 -- Slices in which a state is stored hold that state, every field.
 abbrev pub HoldsStored : Type 0
 HoldsStored = (h : Homing) (w : List ℕ) (n : List Float) (w′ : List ℕ) (n′ : List Float) → Stores h w n w′ n′ → stored w′ n′ ≡ some h
-
--- What loading gives: the state where one is held.
-pub record Loads (w : List ℕ) (n : List Float) (h : Homing) (held : Bool) : Type 0 where
-  pub there : held ≡ true → stored w n ≡ some h
-  pub nothing : held ≡ false → stored w n ≡ none

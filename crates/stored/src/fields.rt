@@ -13,7 +13,7 @@ ghost use Prim.Native.Nat.{_+_, _<_, _≤_};
 ghost use lib.ListN.{length};
 ghost use lib.Seq.{paste};
 ghost use Rattle.log.specs.Entry.{signed as signedOf};
-ghost use Rattle.stored.specs.Fields.{most32, most16, most8, wordAt, narrowAt, flagAt, signedAt, pointAt, spotAt, headingAt, placeAt, lineOf, stageOf, modeOf, flag as flagOf, unsigned as unsignedOf, spotFlag, pointIn, headingFlag, headingIn, placeFlag, latIn, lonIn, lineTag, stageTag, modeTag};
+ghost use Rattle.stored.specs.Fields.{most32, most16, most8, wordAt, narrowAt, flagAt, signedAt, pointAt, spotAt, headingAt, placeRead, lineOf, stageOf, modeOf, flag as flagOf, unsigned as unsignedOf, spotFlag, pointIn, headingFlag, headingIn, placeFlag, latIn, lonIn, lineTag, stageTag, modeTag};
 
 // The most that a word may be, by its field's type.
 pub const U64: u64 = 0xFFFF_FFFF_FFFF_FFFF;
@@ -144,7 +144,7 @@ pub fn heading_at(words: &[u64], i: usize) -> Heading
 
 pub fn place_at(words: &[u64], i: usize) -> Place
     requires { ⌜ i + 2 < length (now words) ⌝ }
-    ensures { λ r. ⌜ r ≡ placeAt (now (words .entry)) i ⌝ }
+    ensures { λ r. ⌜ r ≡ placeRead (now (words .entry)) i ⌝ }
 {
     if flag_at(words, i) {
         return Place::At(i32_at(words, i + 1), i32_at(words, i + 2));

@@ -10,7 +10,8 @@ ghost use mathlib.Core.Bool.{true};
 ghost use Prim.Native.Nat.{_+_, _<_, _≤_};
 ghost use lib.ListN.{length};
 ghost use Rattle.stored.specs.Fields.{within, flagAt};
-ghost use Rattle.stored.specs.Rebuilt.{rebuildCount, rebuildMosts, utcAt, pendingOf, rebuildAt, holdsRebuild, pendingFlag, pendingIn, utcFlag, utcIn, rebuildWords, LoadsRebuild, StoresRebuild};
+ghost use Rattle.stored.specs.Rebuilt.{rebuildCount, rebuildMosts, utcRead, pendingOf, rebuildAt, holdsRebuild, pendingFlag, pendingIn, utcFlag, utcIn, rebuildWords, StoresRebuild};
+ghost use Rattle.stored.specs.Inner.{LoadsRebuild};
 
 pub const REBUILD_WORDS: usize = 7;
 
@@ -36,7 +37,7 @@ pub struct HeldRebuild {
 
 fn utc_at(words: &[u64], i: usize) -> Utc
     requires { ⌜ i + 1 < length (now words) ⌝ }
-    ensures { λ r. ⌜ r ≡ utcAt (now (words .entry)) i ⌝ }
+    ensures { λ r. ⌜ r ≡ utcRead (now (words .entry)) i ⌝ }
 {
     if fields::flag_at(words, i) {
         return Utc::At(words[i + 1]);
@@ -46,7 +47,7 @@ fn utc_at(words: &[u64], i: usize) -> Utc
 
 fn stage_at(words: &[u64]) -> Stage
     requires { ⌜ rebuildCount ≤ length (now words) ⌝ }
-    ensures { λ r. ⌜ r ≡ pendingOf (flagAt (now (words .entry)) 3) (utcAt (now (words .entry)) 4) ⌝ }
+    ensures { λ r. ⌜ r ≡ pendingOf (flagAt (now (words .entry)) 3) (utcRead (now (words .entry)) 4) ⌝ }
 {
     if fields::flag_at(words, 3) {
         return Stage::Pending(utc_at(words, 4));

@@ -20,7 +20,7 @@ use Rattle.search.specs.declared.Join.the-variants.{Segment, NoSegment}
 use Rattle.search.specs.Course.{joined}
 use Rattle.search.proofs.Theorems.{joined-end}
 use Rattle.trail.specs.Notes.{thinnedIn}
-use Rattle.trail.specs.Trail.{Track, Done as TrackDone, withCrumbs}
+use Rattle.trail.specs.Trail.{Track, TrailDone as TrackDone, withCrumbs}
 use Rattle.trail.specs.Trail as trail
 use Rattle.trail.proofs.Theorems.{Sound, keep-sound, flush-sound, add-sound, keep-keeps, flush-keeps, add-keeps, one}
 use Rattle.state.specs.declared.Line.{Line}

@@ -1,4 +1,5 @@
 pub mod Tests
+pub mod Refusals
 pub mod Bounds
 pub mod Laid
 pub mod Recording

@@ -135,8 +135,3 @@ EveryLineAgain =
     (size : ℕ) → question1 size ≡ true → (s : State) (l : List Crumb) → Own size s l
     → (c : Call) → Lent l s c → InRange c → (b after : List Float) → Lendable l s 0 b → BufferAfter s (given c) b after
     → Lendable (lineAfter l s c) (afterCall size c s .state) 0 after
-
--- none of these calls is refused
-abbrev pub NoneRefused : ℕ → State → List Call → Type 0
-NoneRefused size s [] = Unit {0}
-NoneRefused size s (c ∷ cs) = (asks size c s ≡ 0) × NoneRefused size (afterCall size c s .state) cs

@@ -9,7 +9,7 @@ use lib.Ieee.{Float}
 use Rattle.crumbs.specs.declared.Crumb.{Crumb}
 use Rattle.crumbs.specs.Choice.{Choice, end, leave, strike, first, last}
 use Rattle.thin.specs.Crumb.{clear, farther, reach, twoOn, passBy, halvingPass}
-use Rattle.thin.specs.Promises.{step}
+use Rattle.thin.specs.Inner.{step}
 
 -- ---- a step goes on, and stays within the line
 pub record Within (step : Crumb → List Crumb → ℕ) : Type 0 where

@@ -10,11 +10,13 @@ use lib.ListN.{length, take, drop, set, drop-of-length-le}
 use lib.Seq.{drop-drop, drop-set-lt, take-suc-set}
 use lib.Ieee.{Float}
 use Rattle.crumbs.specs.declared.Crumb.{Crumb}
-use Rattle.crumbs.specs.Crumb.{capacity, crumbAt, putAt, crumbs, behind}
+use Rattle.crumbs.specs.Crumb.{capacity, crumbAt, crumbs, behind}
+use Rattle.crumbs.specs.Inner.{putAt}
 use Rattle.crumbs.proofs.Crumbs.{length-crumbs, drop-crumbs, take-crumbs}
 use Rattle.crumbs.proofs.Crumbs.{crumbs-put, behind-put, length-put, put-same, put-other, put-copied}
 use Rattle.thin.specs.Crumb.{twoOn, passBy}
-use Rattle.thin.specs.Promises.{step, Stood, Passed}
+use Rattle.thin.specs.Promises.{Stood}
+use Rattle.thin.specs.Inner.{step, Passed}
 use Rattle.thin.proofs.Passes.{step-within, pass-drop, pass-none, pass-keep, pass-few}
 use Rattle.thin.proofs.Reaching.{after, length-after}
 

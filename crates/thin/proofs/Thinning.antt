@@ -17,7 +17,8 @@ use Rattle.crumbs.proofs.Choices.{choice-length}
 use Rattle.thin.specs.declared.Thinned.the-variants.{Left, Refused}
 use Rattle.thin.specs.Crumb.{measuringPass, halvingPass, doubled, target, Thinning, passesFrom, thinning}
 use Rattle.thin.specs.Questions.{question9}
-use Rattle.thin.specs.Promises.{step, Stood, Passed, left, refused, answer, thinned, ThinDone}
+use Rattle.thin.specs.Promises.{Stood, left, refused, thinAnswer, thinned, ThinDone}
+use Rattle.thin.specs.Inner.{step, Passed}
 use Rattle.thin.proofs.Passes.{pass-choice}
 use Rattle.thin.proofs.Passing.{stood-here, stood-then}
 use Rattle.thin.proofs.Asked.{true-false, asked}
@@ -44,13 +45,13 @@ unfolding passesFrom
 rule-last most p t l e = rw e
 
 pub answer-left : (size : ℕ) (t : Float) (l : List Crumb) (w : Thinning) → question9 size (length l) t ≡ true → thinning (capacity size) t l ≡ w
-    → answer size t l ≡ left (length (w .left)) (w .tolerance) (w .passes)
-unfolding answer
-answer-left size t l w h e = rw (h, answer) (ap (λ v. left (length (v .left)) (v .tolerance) (v .passes)) e)
+    → thinAnswer size t l ≡ left (length (w .left)) (w .tolerance) (w .passes)
+unfolding thinAnswer
+answer-left size t l w h e = rw (h, thinAnswer) (ap (λ v. left (length (v .left)) (v .tolerance) (v .passes)) e)
 
-pub answer-refused : (size : ℕ) (t : Float) (l : List Crumb) → question9 size (length l) t ≡ false → answer size t l ≡ refused 9
-unfolding answer
-answer-refused size t l h = rw (h, answer)
+pub answer-refused : (size : ℕ) (t : Float) (l : List Crumb) → question9 size (length l) t ≡ false → thinAnswer size t l ≡ refused 9
+unfolding thinAnswer
+answer-refused size t l h = rw (h, thinAnswer)
 
 -- ---- the code, a pass at a time
 module _ {p n r : ℕ} {t : Float} {entry exit : List Float} (d : Passed (ltb 17 p) t n entry exit r) where

@@ -1,4 +1,4 @@
--- Bounds on squares, which serve the functions inside.
+-- For the functions inside: bounds on squares.
 use mathlib.Core.Path.{_≡_}
 use mathlib.Core.Bool.{true}
 use lib.Dec.{T}

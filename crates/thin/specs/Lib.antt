@@ -3,3 +3,4 @@ pub mod Questions
 pub mod Promises
 pub mod Theorems
 pub mod Bounds
+pub mod Inner

@@ -1,7 +1,7 @@
 -- What `thin` and the functions below it promise of a buffer, by the rules.
 use Prim.Native.Nat.{ℕ, _<_}
 use mathlib.Core.Path.{_≡_}
-use mathlib.Core.Bool.{Bool, true, false}
+use mathlib.Core.Bool.{true, false}
 use mathlib.Core.List.{List}
 use lib.ListN.{length}
 use lib.Ieee.{Float}
@@ -9,26 +9,14 @@ use Rattle.crumbs.specs.declared.Crumb.{Crumb}
 use Rattle.crumbs.specs.Crumb.{capacity, crumbAt, crumbs, behind}
 use Rattle.thin.specs.declared.Thinned.{Thinned}
 use Rattle.thin.specs.declared.Thinned.the-variants.{Left, Refused}
-use Rattle.thin.specs.Crumb.{reach, twoOn, passBy, Thinning, thinning}
+use Rattle.thin.specs.Crumb.{Thinning, thinning}
 use Rattle.thin.specs.Questions.{question9}
-
--- how far past a crumb a pass goes: one that halves, or one that measures at the tolerance t
-unfoldable pub step : Bool → Float → Crumb → List Crumb → ℕ
-step true t = twoOn
-step false t = reach t
 
 -- each of the first n crumbs of a buffer stood among them before
 pub record Stood (n : ℕ) (entry exit : List Float) : Type 0 where
   pub among : (i : ℕ) → i < n → (j : ℕ) × ((j < n) × (crumbAt exit i ≡ crumbAt entry j))
 
--- A pass over the first n crumbs of a buffer leaves r crumbs in front, those of the rule, and changes no number behind the n crumbs.
-pub record Passed (halve : Bool) (t : Float) (n : ℕ) (entry exit : List Float) (r : ℕ) : Type 0 where
-  pub kept : crumbs r exit ≡ passBy (step halve t) 0 (crumbs n entry)
-  pub beyond : behind n exit ≡ behind n entry
-  pub stood : Stood n entry exit
-  pub size : length exit ≡ length entry
-
--- An answer in document 01's terms: the number of the refusal, or how many crumbs are left, the tolerance of the last pass, and the passes made.
+-- An thinAnswer in document 01's terms: the number of the refusal, or how many crumbs are left, the tolerance of the last pass, and the passes made.
 pub data ThinAnswer : Type 0 where
   refused : ℕ → ThinAnswer
   left : ℕ → Float → ℕ → ThinAnswer
@@ -37,9 +25,9 @@ abbrev pub says : Thinned → ThinAnswer
 says (Refused number) = refused number
 says (Left len tolerance passes) = left len tolerance passes
 
--- the rule's answer for a buffer of `size` numbers that holds the crumbs l
-unfoldable pub answer : ℕ → Float → List Crumb → ThinAnswer
-answer size t l =
+-- the rule's thinAnswer for a buffer of `size` numbers that holds the crumbs l
+unfoldable pub thinAnswer : ℕ → Float → List Crumb → ThinAnswer
+thinAnswer size t l =
     elim (question9 size (length l) t) [
       | true ↦ let w = thinning (capacity size) t l in left (length (w .left)) (w .tolerance) (w .passes)
       | false ↦ refused 9
@@ -52,7 +40,7 @@ thinned n t b = thinning (capacity (length b)) t (crumbs n b)
 -- `thin`, given the first n crumbs of a buffer and the tolerance t
 pub record ThinDone (n : ℕ) (t : Float) (entry exit : List Float) (r : Thinned) : Type 0 where
   -- count, tolerance and passes are the rule's, or the refusal is
-  pub answered : says r ≡ answer (length entry) t (crumbs n entry)
+  pub answered : says r ≡ thinAnswer (length entry) t (crumbs n entry)
   -- a refusal changes nothing
   pub refused : question9 (length entry) n t ≡ false → exit ≡ entry
   -- otherwise the held crumbs are those that the rule leaves, to the bit,

@@ -17,7 +17,8 @@ use Rattle.trail.specs.declared.Trail.{Trail}
 use Rattle.trail.specs.declared.Recorded.{Recorded}
 use Rattle.trail.specs.Notes.{thinnedIn}
 use Rattle.trail.specs.Trail.{windowPlaces, minStepM, Track, withWindow, become, thin, put, keep, flush, wait, strays, simplify, add}
-use Rattle.trail.specs.View.{placeAt, places, track, TrailFit, TrailFollows, Records, TrailChanges}
+use Rattle.trail.specs.View.{waitingAt, places, track, TrailFit}
+use Rattle.trail.specs.Inner.{TrailFollows, Records, TrailChanges}
 use Rattle.trail.proofs.Window.{length-places, last-places, none-places}
 use Rattle.crumbs.proofs.along.Line.{last-crumbs, last-none}
 use Rattle.trail.proofs.Rules.{keep-full, keep-room, flush-none, flush-some, bends, simplify-bends, simplify-straight, add-first, near, add-near, add-far}
@@ -97,7 +98,7 @@ empties t b f =
       beyond = refl;
     }
 
-last-waiting : (t : Trail) (b : List Float) → 0 < t .«window_len» → last (track t b .window) ≡ some (placeAt (t .window) (t .«window_len» - 1))
+last-waiting : (t : Trail) (b : List Float) → 0 < t .«window_len» → last (track t b .window) ≡ some (waitingAt (t .window) (t .«window_len» - 1))
 unfolding track
 last-waiting t b h = last-places (t .«window_len») (t .window) h
 
@@ -109,7 +110,7 @@ pub flushes-none : {t : Trail} (b : List Float) → TrailFit t (length b) → t 
     → Records flush t b (record { trail = t; thinned = false }) b
 flushes-none {t} b f e = records-as (records-still b f) (sym (flush-none (capacity (length b)) (track t b) (none-waiting t b e)))
 
-pub flushes : (t : Trail) (b : List Float) (p : Point) {r : Recorded} {exit : List Float} → 0 < t .«window_len» → p ≡ placeAt (t .window) (t .«window_len» - 1)
+pub flushes : (t : Trail) (b : List Float) (p : Point) {r : Recorded} {exit : List Float} → 0 < t .«window_len» → p ≡ waitingAt (t .window) (t .«window_len» - 1)
     → Records (λ C. keep C p) t b r exit → Records flush t b (record { trail = emptied (r .trail); thinned = r .thinned }) exit
 flushes t b p {r} {exit} some-wait is k =
     records-as

@@ -8,7 +8,8 @@ use borrow.Author.Tests.{le-leb}
 use lib.ListN.{length}
 use lib.Ieee.{Float, ofInt}
 use Rattle.plane.specs.declared.Point.{Point}
-use Rattle.crumbs.specs.Crumb.{capacity, putAt, crumbs, behind}
+use Rattle.crumbs.specs.Crumb.{capacity, crumbs, behind}
+use Rattle.crumbs.specs.Inner.{putAt}
 use Rattle.crumbs.proofs.Choices.{choice-length}
 use Rattle.crumbs.proofs.Crumbs.{length-crumbs, crumbs-behind, behind-put, behind-more, length-put}
 use Rattle.thin.specs.declared.Thinned.{Thinned}
@@ -22,8 +23,9 @@ use Rattle.trail.specs.declared.Recorded.{Recorded}
 use Rattle.trail.specs.Notes.{thinnedIn}
 use Rattle.crumbs.specs.Along.{crumbOf, recordedM, realong}
 use Rattle.trail.specs.Trail.{windowPlaces, Track, withCrumbs, withWindow, Rule, _>>_, still, thin, put, wait}
-use Rattle.crumbs.specs.Along.{Realongs}
-use Rattle.trail.specs.View.{places, track, TrailFit, TrailFollows, Records, TrailChanges}
+use Rattle.crumbs.specs.Inner.{Realongs}
+use Rattle.trail.specs.View.{places, track, TrailFit}
+use Rattle.trail.specs.Inner.{TrailFollows, Records, TrailChanges}
 use Rattle.trail.proofs.Window.{length-places, putPlace, places-put}
 use Rattle.trail.proofs.Rules.{thinned-then}
 use Rattle.trail.proofs.Theorems.{Sound, thin-sound}

@@ -15,22 +15,22 @@ use Rattle.plane.specs.Plane.{offSegment}
 use Rattle.crumbs.specs.Choice.{last}
 use Rattle.crumbs.proofs.Choices.{last-snoc}
 use Rattle.trail.specs.Trail.{strays}
-use Rattle.trail.specs.View.{placeAt, places}
+use Rattle.trail.specs.View.{waitingAt, places}
 
 -- ---- how many, and the last
 pub length-places : (n : ℕ) (w : List Float) → length (places n w) ≡ n
 unfolding places
 length-places zero w = refl
-length-places (suc n) w = length-append (places n w) (placeAt w n ∷ []) ∙ omega (arith, length-places n w)
+length-places (suc n) w = length-append (places n w) (waitingAt w n ∷ []) ∙ omega (arith, length-places n w)
 
-pub places-on : (n : ℕ) (w : List Float) → places (n + 1) w ≡ places n w ++ placeAt w n ∷ []
+pub places-on : (n : ℕ) (w : List Float) → places (n + 1) w ≡ places n w ++ waitingAt w n ∷ []
 unfolding places
 places-on n w = ap (λ k. places k w) (add-one n)
 
-pub last-places : (n : ℕ) (w : List Float) → 0 < n → last (places n w) ≡ some (placeAt w (n - 1))
+pub last-places : (n : ℕ) (w : List Float) → 0 < n → last (places n w) ≡ some (waitingAt w (n - 1))
 unfolding places
 last-places zero w h = absurd (omega arith)
-last-places (suc n) w h = let e : n ≡ suc n - 1 = omega arith in last-snoc (places n w) (placeAt w n) ∙ ap (λ k. some (placeAt w k)) e
+last-places (suc n) w h = let e : n ≡ suc n - 1 = omega arith in last-snoc (places n w) (waitingAt w n) ∙ ap (λ k. some (waitingAt w k)) e
 
 pub none-places : (w : List Float) → last (places 0 w) ≡ none
 unfolding places
@@ -47,8 +47,8 @@ module _ (w : List Float) (n : ℕ) (p : Point) where
       getD-set-other (set w (2 * n) (p .east)) (2 * n + 1) k (p .north) nan (omega arith)
       ∙ getD-set-other w (2 * n) k (p .east) nan (omega arith)
 
-  before : (i : ℕ) → i < n → placeAt putPlace i ≡ placeAt w i
-  unfolding placeAt
+  before : (i : ℕ) → i < n → waitingAt putPlace i ≡ waitingAt w i
+  unfolding waitingAt
   before i h = ap₂ (λ e m. record { east = e; north = m }) (other i (2 * i) h (omega arith)) (other i (2 * i + 1) h (omega arith))
 
   all-before : (k : ℕ) → k ≤ n → places k putPlace ≡ places k w
@@ -56,8 +56,8 @@ module _ (w : List Float) (n : ℕ) (p : Point) where
   all-before zero h = refl
   all-before (suc k) h = ap₂ (λ l q. l ++ q ∷ []) (all-before k (omega arith)) (before k (omega arith))
 
-  at : 2 * n + 1 < length w → placeAt putPlace n ≡ p
-  unfolding placeAt
+  at : 2 * n + 1 < length w → waitingAt putPlace n ≡ p
+  unfolding waitingAt
   at h =
       ap₂ (λ e m. record { east = e; north = m })
       (getD-set-other (set w (2 * n) (p .east)) (2 * n + 1) (2 * n) (p .north) nan (omega arith)
@@ -89,18 +89,18 @@ module _ (t : Float) (a p : Point) where
     unfolding strays places
     strays-none = refl
 
-    pub strays-next : (i : ℕ) → strays t a p (places i w) ≡ false → lt t (offSegment (placeAt w i) a p) ≡ false
+    pub strays-next : (i : ℕ) → strays t a p (places i w) ≡ false → lt t (offSegment (waitingAt w i) a p) ≡ false
         → strays t a p (places (i + 1) w) ≡ false
     strays-next i e f = rw (places-on, strays-on, e) f
 
     -- one is enough
-    pub strays-found : (n i : ℕ) → i < n → lt t (offSegment (placeAt w i) a p) ≡ true → strays t a p (places n w) ≡ true
+    pub strays-found : (n i : ℕ) → i < n → lt t (offSegment (waitingAt w i) a p) ≡ true → strays t a p (places n w) ≡ true
     unfolding places
     strays-found zero i h f = absurd (omega arith)
-    strays-found (suc n) i h f = strays-on (places n w) (placeAt w n) ∙ at (ℕ-discrete i n) (λ k. strays-found n i k f)
+    strays-found (suc n) i h f = strays-on (places n w) (waitingAt w n) ∙ at (ℕ-discrete i n) (λ k. strays-found n i k f)
       where
         at : Dec (i ≡ n) → (i < n → strays t a p (places n w) ≡ true)
-            → (strays t a p (places n w) || lt t (offSegment (placeAt w n) a p)) ≡ true
+            → (strays t a p (places n w) || lt t (offSegment (waitingAt w n) a p)) ≡ true
         at (yes e) earlier =
-            ap (λ k. strays t a p (places n w) || lt t (offSegment (placeAt w k) a p)) (sym e) ∙ rw f (or-true (strays t a p (places n w)))
+            ap (λ k. strays t a p (places n w) || lt t (offSegment (waitingAt w k) a p)) (sym e) ∙ rw f (or-true (strays t a p (places n w)))
         at (no ne) earlier = rw (earlier (omega arith))

@@ -1,3 +1,4 @@
 pub mod Notes
 pub mod Trail
 pub mod View
+pub mod Inner

@@ -52,12 +52,12 @@ fresh = record { crumbs = []; tolerance = toleranceM; window = []; retrace = 0; 
 
 -- ---- the form of a rule
 -- the track after a rule, and what it noted, in the order in which it was done
-pub record Done : Type 0 where
+pub record TrailDone : Type 0 where
   pub track : Track
   pub notes : List Note
 
 abbrev pub Rule : Type 0
-Rule = Track → Done
+Rule = Track → TrailDone
 
 -- one rule, and then another
 infixl 1 _>>_

@@ -13,7 +13,8 @@ ghost use lib.ListN.{length};
 ghost use Rattle.crumbs.specs.Crumb.{capacity};
 ghost use Rattle.crumbs.specs.Choice.{last};
 ghost use Rattle.trail.specs.Trail.{windowPlaces, strays, thin, put, keep, flush, wait, simplify, add, reset};
-ghost use Rattle.trail.specs.View.{placeAt, places, Emptied, TrailChanges, TrailFit, TrailFollows, Records};
+ghost use Rattle.trail.specs.View.{waitingAt, places, TrailFit};
+ghost use Rattle.trail.specs.Inner.{Emptied, TrailChanges, TrailFollows, Records};
 
 // Fixes closer than this to the last one add nothing to the breadcrumb.
 pub const MIN_STEP_M: f32 = 5.0;
@@ -73,7 +74,7 @@ pub fn reset(t: Trail) -> Trail
 // The place `i` of the window.
 pub fn waiting(window: &[f32; 96], i: usize) -> Point
     requires { ⌜ i < windowPlaces ⌝ }
-    ensures { λ r. ⌜ r ≡ placeAt (now (window .entry)) i ⌝ }
+    ensures { λ r. ⌜ r ≡ waitingAt (now (window .entry)) i ⌝ }
 {
     let at = 2 * i;
     Point {

@@ -1,4 +1,4 @@
--- What the guide after a fix promises of a state and its two lent buffers.
+-- For the functions inside: what the guide after a fix promises of a state and its two lent buffers.
 use Prim.Native.Nat.{ℕ}
 use mathlib.Core.Path.{_≡_}
 use mathlib.Core.List.{List}

@@ -18,7 +18,7 @@ ghost use lib.ListN.{length};
 ghost use lib.Ieee.{Float};
 ghost use Rattle.state.specs.State.{stateOf};
 ghost use Rattle.follow.specs.View.{HomingFit, courseOf, Changes};
-ghost use Rattle.segments.specs.Segment.{InLine};
+ghost use Rattle.segments.specs.Inner.{InLine};
 ghost use Rattle.matching.specs.Match.{onLine};
 ghost use Rattle.update.specs.Update.{begun, matchedAt, atCourseEnd, endedWith, matchedTo, matchFrom, followOn, update};
 ghost use Rattle.matching.specs.View.{Room, followedLen, OnFollowed};

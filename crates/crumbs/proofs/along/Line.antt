@@ -11,11 +11,13 @@ use lib.Ieee.{Float}
 use Rattle.binary32.specs.Limits.{plusZero}
 use Rattle.plane.specs.declared.Point.{Point}
 use Rattle.crumbs.specs.declared.Crumb.{Crumb}
-use Rattle.crumbs.specs.Crumb.{capacity, crumbAt, putAt, crumbs, behind, point}
+use Rattle.crumbs.specs.Crumb.{capacity, crumbAt, crumbs, behind, point}
+use Rattle.crumbs.specs.Inner.{putAt}
 use Rattle.crumbs.specs.Choice.{last}
 use Rattle.crumbs.proofs.Choices.{last-snoc}
 use Rattle.crumbs.proofs.Crumbs.{length-crumbs, getD-crumbs, drop-crumbs, take-crumbs, crumbs-put, behind-put, length-put, put-same}
-use Rattle.crumbs.specs.Along.{crumbOf, alongTo, alongBehind, recordedM, startOf, realongBehind, realong, Realongs}
+use Rattle.crumbs.specs.Along.{crumbOf, alongTo, alongBehind, recordedM, startOf, realongBehind, realong}
+use Rattle.crumbs.specs.Inner.{Realongs}
 
 -- ---- the last and the first crumb of a buffer
 last-is : (n : ℕ) (b : List Float) → crumbs (suc n) b ≡ crumbs n b ++ crumbAt b n ∷ []

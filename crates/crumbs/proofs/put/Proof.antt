@@ -2,7 +2,7 @@
 use mathlib.Core.Path.{refl}
 use native.Mathlib.Omega.{arith}
 use lib.ListN.{length-set}
-use Rattle.crumbs.specs.Crumb.{putAt}
+use Rattle.crumbs.specs.Inner.{putAt}
 use borrow.Author.Needs.{needs}
 use Rattle.crumbs.proofs.put.Statement.{statement}
 use Rattle.crumbs.proofs.put.Tie as tie

@@ -13,7 +13,8 @@ use Rattle.crumbs.specs.Crumb.{capacity, crumbs, inFront}
 use Rattle.crumbs.proofs.Crumbs.{length-crumbs}
 use Rattle.state.specs.declared.Homing.{Homing}
 use Rattle.calls.specs.Promises.{Answer}
-use Rattle.stored.specs.Stored.{stored, Loads}
+use Rattle.stored.specs.Stored.{stored}
+use Rattle.stored.specs.Inner.{Loads}
 use Rattle.door.specs.Through.{numberOf}
 use Rattle.door.specs.GuideWords.{guideSize}
 use Rattle.door.specs.Answers.{valuesOf, withRoom, Answers, Parts}

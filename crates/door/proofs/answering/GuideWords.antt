@@ -16,7 +16,7 @@ use Rattle.state.specs.declared.Mode.the-variants as mode
 use Rattle.state.specs.declared.Guide.{Guide}
 use Rattle.stored.specs.Fields.{most16, wordAt, flagAt, modeOf, headingOf, modeTag, headingFlag, headingIn}
 use Rattle.door.specs.Through.{flagOf}
-use Rattle.door.specs.GuideWords.{guideSize, guideWords, areGuide, guideAt, guideOf, GuideReadBack}
+use Rattle.door.specs.GuideWords.{guideSize, guideWords, areGuide, guideFrom, guideOf, GuideReadBack}
 
 -- ---- written
 -- ten words written one by one to a list that has room for them
@@ -76,7 +76,7 @@ are-read w e =
       heading = leb-true (wordAt w 9) most16 (angles .1);
     }
 
-pub guide-read : {b : Bool} (w : List ℕ) → b ≡ areGuide w → not b ≡ false → guideOf w ≡ some (guideAt w)
+pub guide-read : {b : Bool} (w : List ℕ) → b ≡ areGuide w → not b ≡ false → guideOf w ≡ some (guideFrom w)
 unfolding guideOf
 guide-read w told e = let yes : areGuide w ≡ true = sym told ∙ not-false _ e in simp yes
 
@@ -119,7 +119,7 @@ long-enough : (n : ℕ) → guideSize ≤ suc (suc (suc (suc (suc (suc (suc (suc
 long-enough n = omega arith
 
 pub guide-read-back : GuideReadBack
-unfolding guideOf areGuide guideAt guideWords
+unfolding guideOf areGuide guideFrom guideWords
 guide-read-back g bearing way ws =
     let long : leb guideSize (length (guideWords g ++ ws)) ≡ true = le-leb guideSize (length (guideWords g ++ ws)) (long-enough (length ws)) in
     simp (long, mode-most, flag-most, known-most, le-leb (g .bearing) most16 bearing, le-leb (headingIn (g .heading)) most16 way, mode-back, flag-back, heading-back)

@@ -7,7 +7,8 @@ use mathlib.Core.Option.{none, some, Option·none-ne-some, Option·some-injectiv
 use lib.ListN.{length}
 use lib.Ieee.{Float}
 use Rattle.state.specs.declared.Homing.{Homing}
-use Rattle.stored.specs.Stored.{stored, wordCount, numberCount, Loads}
+use Rattle.stored.specs.Stored.{stored, wordCount, numberCount}
+use Rattle.stored.specs.Inner.{Loads}
 use Rattle.stored.proofs.Holding.{has-room}
 use Rattle.door.specs.Through.{Leaves, ChangesStored}
 

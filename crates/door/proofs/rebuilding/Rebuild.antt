@@ -16,7 +16,8 @@ use Rattle.rebuild.specs.Rebuild.{new, caughtUp}
 use Rattle.restart.specs.declared.Settled.{Settled}
 use Rattle.restart.specs.Promises.{SettlesBreadcrumb}
 use Rattle.stored.specs.Stored.{stored, Stores}
-use Rattle.stored.specs.Rebuilt.{rebuildCount, storedRebuild, StoresRebuild, LoadsRebuild}
+use Rattle.stored.specs.Rebuilt.{rebuildCount, storedRebuild, StoresRebuild}
+use Rattle.stored.specs.Inner.{LoadsRebuild}
 use Rattle.door.specs.Through.{flagOf, noState, Leaves}
 use Rattle.door.specs.Rebuild.{LeavesRebuild, RebuildNew, RebuildCaughtUp, OnBoth}
 use Rattle.door.proofs.answering.Answers.{held-same, held-none}

@@ -22,7 +22,7 @@ use Rattle.search.specs.Search.{nearestOnBreadcrumb}
 use Rattle.search.specs.Along.{ends}
 use Rattle.search.proofs.Theorems.{breadcrumb-met, ends-at-most}
 use Rattle.joining.specs.Retrace.{retraceM, retraceSkipM, backwards, againstNear, nearestBefore, ridesBack}
-use Rattle.segments.specs.Segment.{InLine}
+use Rattle.segments.specs.Inner.{InLine}
 
 -- ---- the nearest segment
 pub on-line : (len : ℕ) (best : Best) (near : Nearest) → best ≡ Found near → InLine len best → (1 ≤ near .end) × (near .end < len)

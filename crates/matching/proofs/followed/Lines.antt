@@ -23,7 +23,7 @@ use Rattle.state.specs.declared.Line.the-variants as line
 use Rattle.state.specs.declared.Homing.{Homing}
 use Rattle.state.specs.State.{State, stateOf}
 use Rattle.follow.specs.View.{HomingFit, courseOf}
-use Rattle.segments.specs.Segment.{InLine}
+use Rattle.segments.specs.Inner.{InLine}
 use Rattle.matching.specs.Match.{onLine, offM, nearer}
 use Rattle.matching.specs.Followed.{followedOn, followed, nearest, progress, widened}
 use Rattle.matching.specs.View.{lenOn, followedLen, OnFollowed}

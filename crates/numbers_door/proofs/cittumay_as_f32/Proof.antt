@@ -3,7 +3,7 @@ use mathlib.Core.Path.{ap, _∙_}
 use borrow.Author.Needs.{needs}
 use mir.Syntax.{w64}
 use mir.ValLaws.{toZ-ofZ}
-use Rattle.binary32.specs.Casts.{asF32}
+use Rattle.binary32.specs.Inner.{asF32}
 use Rattle.numbers_door.proofs.cittumay_as_f32.Statement.{statement}
 use Rattle.numbers_door.proofs.cittumay_as_f32.Tie as tie
 

@@ -8,7 +8,7 @@ use mir.Syntax.{w32, w64}
 use mir.Val.{SFits, toZ, ofZ}
 use mir.ValLaws.{toZ-ofZ}
 use Rattle.binary32.specs.Arithmetic.{constant}
-use Rattle.binary32.specs.Casts.{asF32}
+use Rattle.binary32.specs.Inner.{asF32}
 use Rattle.plane.specs.Fix.{mPerE7, wrapped, frame}
 use Rattle.plane.proofs.Signed.{minus-size, wrapped-size, small-fits, asF32-small}
 use Rattle.plane.proofs.frame.Statement.{statement}

@@ -11,7 +11,7 @@ use Rattle.plane.specs.declared.Point.{Point}
 use Rattle.crumbs.specs.declared.Crumb.{Crumb}
 use Rattle.crumbs.specs.Crumb.{crumbAt, crumbs}
 use Rattle.crumbs.proofs.Crumbs.{length-crumbs, drop-crumbs}
-use Rattle.trail.specs.View.{placeAt, places}
+use Rattle.trail.specs.View.{waitingAt, places}
 use Rattle.trail.proofs.Window.{places-on}
 use Rattle.calls.specs.Questions.{placeFits, placesFit, crumbFits, crumbsFit}
 use Rattle.questions.specs.Sure.{noneBelow, noneAbove}
@@ -33,7 +33,7 @@ unfolding placesFit
 placesFit-on [] p = and-true (placeFits p)
 placesFit-on (q ∷ l) p = ap (λ x. placeFits q && x) (placesFit-on l p) ∙ sym (and-assoc (placeFits q) (placesFit l) (placeFits p))
 
-pub waiting-next : {n : ℕ} {w : List Float} {ok : Bool} {i : ℕ} {x : Bool} {p : Point} → Waiting n w ok i → i < n → p ≡ placeAt w i → x ≡ placeFits p
+pub waiting-next : {n : ℕ} {w : List Float} {ok : Bool} {i : ℕ} {x : Bool} {p : Point} → Waiting n w ok i → i < n → p ≡ waitingAt w i → x ≡ placeFits p
     → Waiting n w (ok && x) (i + 1)
 waiting-next {n} {w} {ok} {i} {x} {p} before h at fits =
     record {
@@ -41,7 +41,7 @@ waiting-next {n} {w} {ok} {i} {x} {p} before h at fits =
       passed =
           ap (λ y. y && x) (before .passed)
           ∙ ap (λ y. placesFit (places i w) && y) (fits ∙ ap placeFits at)
-          ∙ sym (ap placesFit (places-on i w) ∙ placesFit-on (places i w) (placeAt w i));
+          ∙ sym (ap placesFit (places-on i w) ∙ placesFit-on (places i w) (waitingAt w i));
     }
 
 pub waiting-end : {n : ℕ} {w : List Float} {ok : Bool} {i : ℕ} → Waiting n w ok i → n ≤ i → ok ≡ placesFit (places n w)

@@ -33,7 +33,7 @@ use Rattle.follow.specs.Record.{afterThinning, recordedIn, recorded, keep, flus
 use Rattle.follow.specs.Parts.{courseFrom, leads, stopped, heldOff}
 use Rattle.follow.specs.Engage.{engageAt, engage, cutTo, leaveAt, stopNothing, stopCourse, stopBreadcrumb, stopOn, stop}
 use Rattle.follow.specs.View.{HomingFit, courseOf, Changes, Follows, SameHeld, Asks}
-use Rattle.segments.specs.Segment.{InLine}
+use Rattle.segments.specs.Inner.{InLine}
 use Rattle.matching.specs.Match.{onCourse, onLine}
 use Rattle.calls.specs.Follow.{nearHere}
 use Rattle.steer.proofs.way_home.Keeping.{gives}

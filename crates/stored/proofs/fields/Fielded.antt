@@ -12,7 +12,7 @@ use Rattle.lap.specs.declared.Stage.the-variants as stage
 use Rattle.state.specs.declared.Place.the-variants as place
 use Rattle.state.specs.declared.Line.the-variants as line
 use Rattle.state.specs.declared.Mode.the-variants as mode
-use Rattle.stored.specs.Fields.{most16, narrowAt, flagAt, signedAt, pointAt, spotOf, spotAt, headingOf, headingAt, placeOf, placeAt, lineOf, stageOf, modeOf}
+use Rattle.stored.specs.Fields.{most16, narrowAt, flagAt, signedAt, pointAt, spotOf, spotAt, headingOf, headingAt, placeOf, placeRead, lineOf, stageOf, modeOf}
 
 pub spot-there : (w : List ℕ) (i : ℕ) (n : List Float) (j : ℕ) {p : Point} → flagAt w i ≡ true → p ≡ pointAt n j → spot.At p ≡ spotAt w i n j
 unfolding spotAt
@@ -30,13 +30,13 @@ pub heading-missing : (w : List ℕ) (i : ℕ) → flagAt w i ≡ false → head
 unfolding headingAt
 heading-missing w i t = sym (ap (λ b. headingOf b (narrowAt most16 w (i + 1))) t)
 
-pub place-there : (w : List ℕ) (i : ℕ) {a b : ℤ} → flagAt w i ≡ true → a ≡ signedAt w (i + 1) → b ≡ signedAt w (i + 2) → place.At a b ≡ placeAt w i
-unfolding placeAt
+pub place-there : (w : List ℕ) (i : ℕ) {a b : ℤ} → flagAt w i ≡ true → a ≡ signedAt w (i + 1) → b ≡ signedAt w (i + 2) → place.At a b ≡ placeRead w i
+unfolding placeRead
 place-there w i {a} {b} t x y =
     ap (λ u. place.At u b) x ∙ ap (λ u. place.At (signedAt w (i + 1)) u) y ∙ sym (ap (λ f. placeOf f (signedAt w (i + 1)) (signedAt w (i + 2))) t)
 
-pub place-missing : (w : List ℕ) (i : ℕ) → flagAt w i ≡ false → place.Missing ≡ placeAt w i
-unfolding placeAt
+pub place-missing : (w : List ℕ) (i : ℕ) → flagAt w i ≡ false → place.Missing ≡ placeRead w i
+unfolding placeRead
 place-missing w i t = sym (ap (λ f. placeOf f (signedAt w (i + 1)) (signedAt w (i + 2))) t)
 
 pub last-line : (n : ℕ) → (n ≡ 1 → ⊥) → (n ≡ 2 → ⊥) → line.Nothing ≡ lineOf n

@@ -7,14 +7,14 @@ use Rattle.log.specs.declared.Utc.{Utc}
 use Rattle.log.specs.declared.Utc.the-variants as utc
 use Rattle.rebuild.specs.declared.Stage.the-variants as pending
 use Rattle.stored.specs.Fields.{wordAt, flagAt}
-use Rattle.stored.specs.Rebuilt.{utcOf, utcAt, pendingOf}
+use Rattle.stored.specs.Rebuilt.{utcOf, utcRead, pendingOf}
 
-pub utc-there : (w : List ℕ) (i : ℕ) → flagAt w i ≡ true → utc.At (wordAt w (i + 1)) ≡ utcAt w i
-unfolding utcAt
+pub utc-there : (w : List ℕ) (i : ℕ) → flagAt w i ≡ true → utc.At (wordAt w (i + 1)) ≡ utcRead w i
+unfolding utcRead
 utc-there w i t = sym (ap (λ b. utcOf b (wordAt w (i + 1))) t)
 
-pub utc-missing : (w : List ℕ) (i : ℕ) → flagAt w i ≡ false → utc.Unknown ≡ utcAt w i
-unfolding utcAt
+pub utc-missing : (w : List ℕ) (i : ℕ) → flagAt w i ≡ false → utc.Unknown ≡ utcRead w i
+unfolding utcRead
 utc-missing w i t = sym (ap (λ b. utcOf b (wordAt w (i + 1))) t)
 
 pub stage-there : (f : Bool) (t : Utc) {u : Utc} → f ≡ true → u ≡ t → pending.Pending u ≡ pendingOf f t

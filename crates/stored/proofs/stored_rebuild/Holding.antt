@@ -9,7 +9,8 @@ use lib.Dec.{eqb}
 use lib.ListN.{length}
 use Rattle.rebuild.specs.declared.Rebuild.{Rebuild}
 use Rattle.stored.specs.Fields.{within, wordAt}
-use Rattle.stored.specs.Rebuilt.{rebuildMark, rebuildCount, rebuildMosts, holdsRebuild, rebuildIf, rebuildAt, storedRebuild, LoadsRebuild, RebuildHasRoom}
+use Rattle.stored.specs.Rebuilt.{rebuildMark, rebuildCount, rebuildMosts, holdsRebuild, rebuildIf, rebuildAt, storedRebuild, RebuildHasRoom}
+use Rattle.stored.specs.Inner.{LoadsRebuild}
 use Rattle.stored.proofs.fields.Limits.{within-room}
 
 and-false : (b : Bool) → (b && false) ≡ false

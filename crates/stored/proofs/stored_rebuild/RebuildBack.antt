@@ -12,7 +12,7 @@ use Rattle.rebuild.specs.declared.Stage.{Stage}
 use Rattle.rebuild.specs.declared.Stage.the-variants as stage
 use Rattle.rebuild.specs.declared.Rebuild.{Rebuild}
 use Rattle.stored.specs.Fields.{most32, within}
-use Rattle.stored.specs.Rebuilt.{rebuildMosts, utcOf, pendingOf, utcAt, rebuildAt, holdsRebuild, rebuildIf, storedRebuild, pendingFlag, pendingIn, utcFlag, utcIn, rebuildWords, RebuildReadBack}
+use Rattle.stored.specs.Rebuilt.{rebuildMosts, utcOf, pendingOf, utcRead, rebuildAt, holdsRebuild, rebuildIf, storedRebuild, pendingFlag, pendingIn, utcFlag, utcIn, rebuildWords, RebuildReadBack}
 use Rattle.stored.proofs.fields.Limits.{within-more, within-at}
 use Rattle.stored.proofs.fields.Same.{narrow-same}
 
@@ -30,7 +30,7 @@ module _ (r : Rebuild) (fits : within rebuildMosts (rebuildWords r) ≡ true) (w
   recovered-fits = within-at rebuildMosts (rebuildWords r) fits 1 (omega arith)
 
   rebuild-back : rebuildAt (rebuildWords r ++ ws) ≡ r
-  unfolding rebuildAt utcAt rebuildWords
+  unfolding rebuildAt utcRead rebuildWords
   rebuild-back = λ i. record {
     recovered = narrow-same most32 (r .recovered) recovered-fits i;
     walk = r .walk;

@@ -151,7 +151,7 @@ M d = Measured (d .state)
 abbrev Keeps : {A : Type 0} → (State → Done A) → Type 0
 Keeps rule = (s : State) → Measured s → M (rule s)
 
-recorded-measured : (d : trail.Done) (s : State) → Measured s → Rounded (d .track .crumbs) → M (recorded d s)
+recorded-measured : (d : trail.TrailDone) (s : State) → Measured s → Rounded (d .track .crumbs) → M (recorded d s)
 unfolding recorded recordedIn
 recorded-measured d s h k = (h .0, k)
 

@@ -205,7 +205,7 @@ unfolding afterThinning
 after-followed true len len′ n f g h = left-followed (f .line) len len′ n f refl h
 after-followed false len len′ n f g h = record { on = longer-follow (f .line) (f .segment) len len′ n (g refl) (h .on); matched = h .matched }
 
-recorded-passing : {C : ℕ} {s : State} (d : trail.Done) → Passing C s → Sound C (d .track) → Onward (s .track) (d .track)
+recorded-passing : {C : ℕ} {s : State} (d : trail.TrailDone) → Passing C s → Sound C (d .track) → Onward (s .track) (d .track)
     → (thinnedIn (d .notes) ≡ false → length (s .track .crumbs) ≤ length (d .track .crumbs)) → Passing C (recorded d s .state)
 unfolding recorded recordedIn
 recorded-passing {C} {s} d k sound o g =

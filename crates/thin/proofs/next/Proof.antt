@@ -3,7 +3,7 @@ use mathlib.Core.Path.{ap, sym, _∙_}
 use native.Mathlib.Omega.{arith}
 use Prim.Native.Nat.{_+_}
 use denote.Ref.{now}
-use Rattle.thin.specs.Promises.{step}
+use Rattle.thin.specs.Inner.{step}
 use Rattle.thin.proofs.Passing.{step-halving}
 use borrow.Author.Needs.{needs}
 use Rattle.thin.proofs.next.Statement.{statement}

@@ -8,7 +8,7 @@ use Rattle.plane.specs.Plane.{offSegment}
 use native.Mathlib.Omega.{arith}
 use borrow.Author.Needs.{needs}
 use Rattle.trail.specs.Trail.{strays}
-use Rattle.trail.specs.View.{placeAt, places}
+use Rattle.trail.specs.View.{waitingAt, places}
 use Rattle.trail.proofs.Window.{strays-none, strays-next, strays-found}
 use Rattle.trail.proofs.strays.Statement.{statement}
 use Rattle.trail.proofs.strays.Tie as tie
@@ -31,7 +31,7 @@ off-segment-requires c κs = search needs
 returns : tie.Need-returns Inv-loop μ-loop
 returns c =
     let a = c .before .before .before .before .before .args in
-    let far : lt (a .tolerance) (offSegment (placeAt (now (a .window)) (c .before .before .before .before .loop .i)) (a .anchor) (a .p)) ≡ true =
+    let far : lt (a .tolerance) (offSegment (waitingAt (now (a .window)) (c .before .before .before .before .loop .i)) (a .anchor) (a .p)) ≡ true =
     simp (← c .before .before .waiting .ensures, ← c .before .off-segment .ensures) (c .if1 .taken) in
     sym (strays-found (a .tolerance) (a .anchor) (a .p) (now (a .window)) (a .window-len) (c .before .before .before .before .loop .i) (c .before .before .before .loop-test .taken) far)
 
@@ -44,7 +44,7 @@ loop-less c = search needs
 loop-again : tie.Need-loop-again Inv-loop μ-loop
 loop-again c =
     let a = c .before .before .before .before .before .args in
-    let near : lt (a .tolerance) (offSegment (placeAt (now (a .window)) (c .before .before .before .before .loop .i)) (a .anchor) (a .p)) ≡ false =
+    let near : lt (a .tolerance) (offSegment (waitingAt (now (a .window)) (c .before .before .before .before .loop .i)) (a .anchor) (a .p)) ≡ false =
     simp (← c .before .before .waiting .ensures, ← c .before .off-segment .ensures) (c .if1 .left) in
     (omega arith, strays-next (a .tolerance) (a .anchor) (a .p) (now (a .window)) (c .before .before .before .before .loop .i) (c .before .before .before .before .loop .inv .1) near)
 

@@ -1,6 +1,6 @@
 -- `trail::waiting` reads the place's two numbers.
 use mathlib.Core.Path.{refl}
-use Rattle.trail.specs.View.{placeAt}
+use Rattle.trail.specs.View.{waitingAt}
 use borrow.Author.Needs.{needs}
 use Rattle.trail.proofs.waiting.Statement.{statement}
 use Rattle.trail.proofs.waiting.Tie as tie
@@ -24,7 +24,7 @@ element-copy-out-t12 : tie.Need-element-copy-out-t12
 element-copy-out-t12 c = search needs
 
 returns : tie.Need-returns
-unfolding placeAt
+unfolding waitingAt
 returns c = refl
 
 pub waiting-spec : {M : Type 1} → statement M

@@ -9,7 +9,7 @@ use Rattle.segments.specs.declared.Best.{Best}
 use Rattle.search.specs.declared.Range.{Range}
 use Rattle.state.specs.State.{stateOf}
 use Rattle.follow.specs.View.{courseOf}
-use Rattle.segments.specs.Segment.{InLine}
+use Rattle.segments.specs.Inner.{InLine}
 use Rattle.matching.specs.Followed.{nearest}
 use Rattle.matching.specs.Match.{aroundSegment}
 use Rattle.update.specs.Update.{matchFrom, followOn}

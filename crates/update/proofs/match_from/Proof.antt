@@ -9,7 +9,7 @@ use Rattle.state.specs.declared.Event.the-variants as event
 use Rattle.state.specs.State.{stateOf}
 use Rattle.state.specs.Rule.{done}
 use Rattle.follow.specs.View.{courseOf}
-use Rattle.segments.specs.Segment.{InLine}
+use Rattle.segments.specs.Inner.{InLine}
 use Rattle.matching.specs.Followed.{widened}
 use Rattle.update.specs.Update.{matchedTo, matchFrom}
 use Rattle.matching.specs.View.{followedLen, OnFollowed}

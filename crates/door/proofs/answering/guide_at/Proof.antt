@@ -3,7 +3,7 @@ use native.Mathlib.Omega.{arith}
 use mathlib.Core.Path.{_≡_, refl, sym, ap, ap₂}
 use denote.Ref.{now}
 use Rattle.stored.specs.Fields.{flagAt}
-use Rattle.door.specs.GuideWords.{guideAt}
+use Rattle.door.specs.GuideWords.{guideFrom}
 use Rattle.door.proofs.answering.GuideWords.{are-read}
 use borrow.Author.Needs.{needs}
 use Rattle.door.proofs.answering.guide_at.Statement.{statement}
@@ -52,7 +52,7 @@ cast-t10 : tie.Need-cast-t10
 cast-t10 c = record { fits = omega (arith, are-read (now (c .before .before .before .before .before .before .before .before .before .before .before .before .before .args .words)) (c .before .before .before .before .before .before .before .before .before .before .before .before .before .pre) .bearing) }
 
 returns : tie.Need-returns
-unfolding guideAt
+unfolding guideFrom
 returns c = simp (c .before .before .before .before .before .before .before .before .before .before .mode-of .ensures, c .before .before .before .before .before .before .before .heading-of .ensures)
 
 pub guide-at-spec : {M : Type 1} → statement M

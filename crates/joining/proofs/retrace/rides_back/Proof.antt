@@ -9,7 +9,7 @@ use Rattle.crumbs.specs.Crumb.{crumbs}
 use Rattle.segments.specs.declared.Best.{Best}
 use Rattle.search.specs.Along.{ends}
 use Rattle.joining.specs.Retrace.{retraceSkipM, nearestBefore, againstNear}
-use Rattle.segments.specs.Segment.{InLine}
+use Rattle.segments.specs.Inner.{InLine}
 use Rattle.joining.proofs.retrace.Turning.{before-in-line, no-heading, too-short, long-enough, ends-few}
 use borrow.Author.Needs.{needs}
 use Rattle.joining.proofs.retrace.rides_back.Statement.{statement}

@@ -51,7 +51,7 @@ use Rattle.lap.specs.declared.StartPass.{StartPass}
 use Rattle.lap.specs.declared.Lap.{Lap}
 use Rattle.lap.specs.declared.LapStepped.{LapStepped}
 use Rattle.lap.specs.Pass.{stepOf}
-use Rattle.lap.specs.Lap.{withPass, lapStepOf}
+use Rattle.lap.specs.Inner.{withPass, lapStepOf}
 use Rattle.lap.proofs.StartPass as P
 use Rattle.lap.proofs.StartPass.Laws as P′
 use Rattle.lap.proofs.Lap as T

@@ -7,7 +7,7 @@ use Rattle.segments.specs.declared.Best.{Best}
 use Rattle.segments.specs.declared.Best.the-variants.{Found}
 use Rattle.state.specs.State.{stateOf}
 use Rattle.follow.specs.View.{courseOf}
-use Rattle.segments.specs.Segment.{InLine}
+use Rattle.segments.specs.Inner.{InLine}
 use Rattle.calls.specs.Follow.{wayHome, follow}
 use Rattle.steer.proofs.way_home.Fitting.{engaged-fits}
 use Rattle.steer.proofs.way_home.Deciding.{decides-as, goes-on-course}

@@ -7,7 +7,7 @@ use Rattle.segments.specs.declared.Best.{Best}
 use Rattle.state.specs.declared.Line.{Line}
 use Rattle.state.specs.State.{stateOf}
 use Rattle.follow.specs.View.{courseOf}
-use Rattle.segments.specs.Segment.{InLine}
+use Rattle.segments.specs.Inner.{InLine}
 use Rattle.calls.specs.Follow.{brought, follow, followFrom}
 use Rattle.steer.proofs.way_home.Fitting.{near-in}
 use Rattle.steer.proofs.way_home.Deciding.{decides-as}

@@ -1,5 +1,5 @@
 -- `stored::parts::guide_at` meets its contract. Assumes nothing.
-use Rattle.stored.specs.Parts.{guideAt}
+use Rattle.stored.specs.Parts.{guideRead}
 use borrow.Author.Needs.{needs}
 use Rattle.stored.proofs.parts.guide_at.Statement.{statement}
 use Rattle.stored.proofs.parts.guide_at.Tie as tie
@@ -35,7 +35,7 @@ heading-at-requires : tie.Need-heading-at-requires
 heading-at-requires c κs = search needs
 
 returns : tie.Need-returns
-unfolding guideAt
+unfolding guideRead
 returns c = simp (← c .before .before .before .before .before .before .before .before .mode-of .ensures, ← c .before .before .before .before .before .before .before .flag-at .ensures, ← c .before .before .before .before .before .before .flag-at2 .ensures, ← c .before .before .before .before .before .flag-at3 .ensures, ← c .before .before .before .before .u32-at .ensures, ← c .before .before .before .u32-at2 .ensures, ← c .before .before .u32-at3 .ensures, ← c .before .u16-at .ensures, ← c .heading-at .ensures)
 
 pub guide-at-spec : {M : Type 1} → statement M
