@@ -24,7 +24,7 @@ use Rattle.state.specs.declared.Shown.the-variants as shown
 use Rattle.state.specs.declared.Course.{Course}
 use Rattle.state.specs.State.{State, withTrack, withFrame, withFed, withHere, withHereMs, withMotion, withCourse, withLap, withGuide}
 use Rattle.state.specs.Rule.{Done, done, andThen}
-use Rattle.follow.specs.Record.{add}
+use Rattle.follow.specs.Record.{addIn}
 use Rattle.follow.specs.Engage.{cutTo, forgotten, engageAt, engage}
 use Rattle.joining.specs.Join.{joining, retracing}
 use Rattle.update.specs.Update.{update}
@@ -86,7 +86,7 @@ stillAt (spot.At p) C course now s =
 -- ---- a new fix
 -- p is added, and the guide brought up to date
 unfoldable pub addUpdate : ℕ → List Crumb → Point → ℕ → State → Done Event
-addUpdate C course p now s = andThen (add C p s) λ _ after. update C course p now after
+addUpdate C course p now s = andThen (addIn C p s) λ _ after. update C course p now after
 
 -- following began by itself: whatever the update says, that is told
 unfoldable pub tellFollowing : Done Event → Done Event
@@ -160,7 +160,7 @@ unfoldable pub replay : ℕ → Fix → ℕ → State → Done (Unit {0})
 replay C x now s =
     let f = located x (s .frame) in
     let p = framed f x in
-    andThen (add C p (headed p now (withFrame f s))) λ _ after. done tt (passOnly p after)
+    andThen (addIn C p (headed p now (withFrame f s))) λ _ after. done tt (passOnly p after)
 
 -- the heading starts again from the next fix
 unfoldable pub unheaded : Motion → Motion

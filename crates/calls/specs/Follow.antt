@@ -12,7 +12,7 @@ use Rattle.state.specs.declared.Line.{Line}
 use Rattle.state.specs.declared.Line.the-variants as line
 use Rattle.state.specs.State.{State, withAutoFollow}
 use Rattle.state.specs.Rule.{Done, done, andThen}
-use Rattle.follow.specs.Record.{flush}
+use Rattle.follow.specs.Record.{flushIn}
 use Rattle.follow.specs.Engage.{engageAt, engage, stop}
 use Rattle.update.specs.Update.{update}
 
@@ -31,7 +31,7 @@ engagedOr false C course now s = done false s
 -- "If `set_following` finds no way back it answers false, the window already flushed."
 unfoldable pub wayHome : ℕ → List Crumb → ℕ → State → Done Bool
 wayHome C course now s =
-    andThen (flush C s) λ _ flushed.
+    andThen (flushIn C s) λ _ flushed.
     andThen (engage course now flushed) λ b after.
     engagedOr b C course now after
 

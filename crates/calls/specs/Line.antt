@@ -84,7 +84,7 @@ reset s =
       answer = tt;
       state =
           record {
-            track = trail.reset (s .track) .track;
+            track = trail.resetTrack (s .track) .track;
             frame = record { origin = Missing; «east_per_e7» = s .frame .«east_per_e7» };
             fed = Missing;
             here = Nowhere;
@@ -98,7 +98,7 @@ reset s =
             updatedMs = s .updatedMs;
             guide = shown.Nothing;
           };
-      notes = trail.reset (s .track) .notes;
+      notes = trail.resetTrack (s .track) .notes;
     }
 
 -- a following of the course ends; one of the breadcrumb goes on

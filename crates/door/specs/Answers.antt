@@ -18,8 +18,10 @@ use Rattle.state.specs.declared.Shown.the-variants as shown
 use Rattle.state.specs.declared.Homing.{Homing}
 use Rattle.calls.specs.Ask as ask
 use Rattle.calls.specs.Promises.{Answer, refused, gives}
-use Rattle.door.specs.Through.{numberOf, flagOf}
-use Rattle.door.specs.GuideWords.{guideSize, guideWords}
+use Rattle.stored.specs.Fields.{flagOf}
+use Rattle.stored.specs.Parts.{guideWords}
+use Rattle.door.specs.Through.{numberOf}
+use Rattle.door.specs.GuideWords.{guideSize}
 
 -- ---- an answer as values
 -- The values behind an export's `&mut` parameters: `write a` makes those of the answer a from those that came in, and a refusal leaves these.
@@ -28,7 +30,7 @@ valuesOf write (refused number) was = was
 valuesOf write (gives a) was = write a was
 
 -- The call was asked: `answer` keeps the call's promise, and the export's number and values are those of `answer`.
-pub record Answered {R A W : Type 0} (promise : R → Type 0) (says : R → Answer A) (write : A → W → W) (number : ℕ) (was is : W) : Type 0 where
+pub record AnsweredBy {R A W : Type 0} (promise : R → Type 0) (says : R → Answer A) (write : A → W → W) (number : ℕ) (was is : W) : Type 0 where
   pub answer : R
   pub promised : promise answer
   pub told : number ≡ numberOf (says answer)
@@ -37,12 +39,12 @@ pub record Answered {R A W : Type 0} (promise : R → Type 0) (says : R → Answ
 -- An export that reads `held` from what it is lent: the call is asked about what is held. Where nothing is, the number is `unread`, and the values stay.
 pub record Answers {S R A W : Type 0} (held : Option S) (unread : ℕ) (promise : S → R → Type 0) (says : R → Answer A) (write : A → W → W) (number : ℕ) (was is : W) : Type 0 where
   pub nothing : held ≡ none → (number ≡ unread) × (is ≡ was)
-  pub asked : (h : S) → held ≡ some h → Answered (promise h) says write number was is
+  pub asked : (h : S) → held ≡ some h → AnsweredBy (promise h) says write number was is
 
 -- ---- what is written
 -- `len`, `arrow`
-abbrev pub one : {W : Type 0} → W → W → W
-one v was = v
+abbrev pub itself : {W : Type 0} → W → W → W
+itself v was = v
 
 -- `following`, `following_course`
 abbrev pub flagged : Bool → ℕ → ℕ
@@ -67,9 +69,9 @@ pub record AheadValues : Type 0 where
 abbrev pub aheadValues : ℕ → ℕ → ℕ → Float → Float → AheadValues
 aheadValues known count matched east north = record { known = known; count = count; point = record { matched = matched; east = east; north = north } }
 
-unfoldable pub ahead : Option ask.Ahead → AheadValues → AheadValues
-ahead (some a) was = record { known = 1; count = a .end; point = spotted (a .point) (was .point) }
-ahead none was = record { known = 0; count = was .count; point = was .point }
+unfoldable pub leading : Option ask.Ahead → AheadValues → AheadValues
+leading (some a) was = record { known = 1; count = a .end; point = spotted (a .point) (was .point) }
+leading none was = record { known = 0; count = was .count; point = was .point }
 
 -- `heading`
 pub record HeadingValues : Type 0 where
@@ -108,9 +110,9 @@ pub record BackValues : Type 0 where
 abbrev pub backValues : ℕ → ℕ → ℕ → BackValues
 backValues known direct track = record { known = known; direct = direct; track = track }
 
-unfoldable pub back : Option ask.Back → BackValues → BackValues
-back (some b) was = record { known = 1; direct = b .direct; track = b .track }
-back none was = record { known = 0; direct = was .direct; track = was .track }
+unfoldable pub returning : Option ask.Back → BackValues → BackValues
+returning (some b) was = record { known = 1; direct = b .direct; track = b .track }
+returning none was = record { known = 0; direct = was .direct; track = was .track }
 
 -- ---- a part of a lent buffer
 -- `crumbs`, `course`: the call returns `part`, the front part of the buffer b, and `count` is how many crumbs it has. "where a part is returned that part is

@@ -16,8 +16,9 @@ use Rattle.homing.specs.declared.Observed.{Observed}
 use Rattle.homing.specs.declared.Followed.{Followed}
 use Rattle.homing.specs.Answers.{saysReply, saysSight}
 use Rattle.homing.specs.Promises.{MakesNew, DoesReset, EndsReplay, SetsCourse, SetsAuto, Observes, Replays, SetsFollowing}
-use Rattle.stored.specs.Stored.{room}
-use Rattle.door.specs.Through.{numberOf, written, isSet, flagOf, noState, noStateWith, Leaves, ChangesStored}
+use Rattle.stored.specs.Stored.{roomFor}
+use Rattle.stored.specs.Fields.{flagOf}
+use Rattle.door.specs.Through.{numberOf, written, isSet, noState, noStateWith, Leaves, ChangesStored}
 
 -- ---- what a call gives, as numbers
 unfoldable pub numberOfEvent : Event → ℕ
@@ -55,7 +56,7 @@ pub record Steers (promise : Followed → Type 0) (was is : ℕ) (r : Homing) (n
 -- ---- the exports
 -- `cittumay_new`, on the crumb buffer b: question 1, then whether the slices have the room
 pub record New (b : List Float) (w : List ℕ) (n : List Float) (number : ℕ) (w′ : List ℕ) (n′ : List Float) : Type 0 where
-  pub asked : number ≡ (unless (question1 (length b)) 1 orElse unless (room w n) noState)
+  pub asked : number ≡ (unless (question1 (length b)) 1 orElse unless (roomFor w n) noState)
   pub call : Changed
   pub promised : MakesNew b call
   pub leaves : Leaves number (call .homing) w n w′ n′

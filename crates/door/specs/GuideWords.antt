@@ -1,4 +1,5 @@
--- A guide as ten words: mode, following, course, course_near, direct_m, track_m, off_m, bearing, whether a heading is known, and the heading.
+-- A guide as ten words: mode, following, course, course_near, direct_m, track_m, off_m, bearing, whether a heading is known, and the heading,
+-- 0 where it is not. They are written as in a stored state (`guideWords`).
 use Prim.Native.Nat.{ℕ, _≤_}
 use mathlib.Core.Path.{_≡_}
 use mathlib.Core.Bool.{Bool, _&&_, cond}
@@ -7,20 +8,12 @@ use mathlib.Core.Option.{Option, none, some}
 use lib.Dec.{leb}
 use lib.ListN.{length}
 use Rattle.state.specs.declared.Guide.{Guide}
-use Rattle.stored.specs.Fields.{most16, wordAt, flagAt, modeOf, headingOf, modeTag, headingFlag, headingIn}
-use Rattle.door.specs.Through.{flagOf}
+use Rattle.stored.specs.Fields.{most16, wordAt, flagAt, modeOfTag, headingOf, headingIn}
+use Rattle.stored.specs.Parts.{guideWords}
 
 -- how many words a guide takes
 abbrev pub guideSize : ℕ
 guideSize = 10
-
--- ---- written
--- a heading that is not known is written as 0
-unfoldable pub guideWords : Guide → List ℕ
-guideWords g =
-    modeTag (g .mode) ∷ flagOf (g .following) ∷ flagOf (g .course) ∷ flagOf (g .«course_near»)
-    ∷ g .«direct_m» ∷ g .«track_m» ∷ g .«off_m» ∷ g .bearing ∷ headingFlag (g .heading) ∷ headingIn (g .heading)
-    ∷ []
 
 -- ---- read
 -- whether words are a guide: the mode has a case, a flag is 0 or 1, and a bearing and a heading have 16 bits
@@ -34,7 +27,7 @@ areGuide w =
 unfoldable pub guideFrom : List ℕ → Guide
 guideFrom w =
     record {
-      mode = modeOf (wordAt w 0);
+      mode = modeOfTag (wordAt w 0);
       following = flagAt w 1;
       course = flagAt w 2;
       «course_near» = flagAt w 3;

@@ -13,13 +13,14 @@ use Rattle.answers.specs.Answers.{saysVerdict}
 use Rattle.homing.specs.Answers.{saysReply}
 use Rattle.log.specs.declared.Utc.{Utc}
 use Rattle.rebuild.specs.declared.Rebuild.{Rebuild}
-use Rattle.rebuild.specs.Rebuild.{new, caughtUp}
+use Rattle.rebuild.specs.Rebuild.{newRebuild, caughtUp}
 use Rattle.restart.specs.declared.Stepped.{Stepped}
 use Rattle.restart.specs.declared.Settled.{Settled}
 use Rattle.restart.specs.Promises.{Steps, SettlesBreadcrumb}
 use Rattle.stored.specs.Stored.{stored}
 use Rattle.stored.specs.Rebuilt.{rebuildCount, storedRebuild, StoresRebuild}
-use Rattle.door.specs.Through.{numberOf, flagOf, noState, noStateWith, Leaves}
+use Rattle.stored.specs.Fields.{flagOf}
+use Rattle.door.specs.Through.{numberOf, noState, noStateWith, Leaves}
 use Rattle.door.specs.Answers.{valuesOf, flagged}
 
 -- ---- a rebuild's words
@@ -32,7 +33,7 @@ pub record LeavesRebuild (number : ℕ) (r : Rebuild) (v v′ : List ℕ) : Type
 -- `cittumay_rebuild_new`: words without the room for a rebuild are refused
 pub record RebuildNew (recovered : ℕ) (v : List ℕ) (number : ℕ) (v′ : List ℕ) : Type 0 where
   pub asked : number ≡ unless (leb rebuildCount (length v)) noState
-  pub leaves : LeavesRebuild number (new recovered) v v′
+  pub leaves : LeavesRebuild number (newRebuild recovered) v v′
 
 -- `cittumay_rebuild_caught_up`: its flag becomes `is`, and was `was`
 pub record RebuildCaughtUp (upper : ℕ) (v : List ℕ) (number was is : ℕ) : Type 0 where

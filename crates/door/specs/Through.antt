@@ -2,7 +2,7 @@
 use Prim.Native.Nat.{ℕ}
 use mathlib.Core.Path.{_≡_}
 use mathlib.Core.Logic.{_≢_}
-use mathlib.Core.Bool.{Bool, true, false, not}
+use mathlib.Core.Bool.{Bool, not}
 use mathlib.Core.List.{List}
 use mathlib.Core.Option.{none, some}
 use lib.Dec.{eqb}
@@ -23,13 +23,9 @@ unfoldable pub written : {A : Type 0} → (A → ℕ) → Answer A → ℕ → �
 written f (gives a) was = f a
 written f (refused number) was = was
 
--- a flag that comes in, anything but 0 meaning yes, and one that goes out
+-- a flag that comes in: anything but 0 means yes
 unfoldable pub isSet : ℕ → Bool
 isSet flag = not (eqb flag 0)
-
-unfoldable pub flagOf : Bool → ℕ
-flagOf true = 1
-flagOf false = 0
 
 -- ---- slices that hold no state
 -- the number where nothing else is asked first

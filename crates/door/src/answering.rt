@@ -22,11 +22,12 @@ ghost use Prim.Native.Nat.{_≤_, _<_};
 ghost use lib.ListN.{length, drop};
 ghost use Rattle.answers.specs.Answers.{saysCount, saysVerdict, saysAhead, saysRiding, saysShowing, saysBack, saysAngle};
 ghost use Rattle.answers.specs.Promises.{AnswersLen, AnswersFollowing, AnswersFollowingCourse, AnswersCourseAhead, AnswersRouteHome, AnswersHeading, AnswersGuide, AnswersWayBack, ReturnsCrumbs, ReturnsCourse, AnswersArrow};
-ghost use Rattle.stored.specs.Fields.{modeOf, modeTag, headingOf, headingFlag, headingIn};
+ghost use Rattle.stored.specs.Fields.{modeOfTag, modeTag, headingOf, headingFlag, headingIn};
 ghost use Rattle.stored.specs.Stored.{stored};
 ghost use Rattle.door.specs.Through.{numberOf, noState, noStateWith};
-ghost use Rattle.door.specs.GuideWords.{guideSize, guideWords, areGuide, guideFrom, guideOf};
-ghost use Rattle.door.specs.Answers.{valuesOf, Answers, Parts, one, flagged, spotted, ahead, aheadValues, riding, headingValues, showing, guideValues, withRoom, back, backValues};
+ghost use Rattle.stored.specs.Parts.{guideWords};
+ghost use Rattle.door.specs.GuideWords.{guideSize, areGuide, guideFrom, guideOf};
+ghost use Rattle.door.specs.Answers.{valuesOf, Answers, Parts, itself, flagged, spotted, leading, aheadValues, riding, headingValues, showing, guideValues, withRoom, returning, backValues};
 
 // How many words a guide takes.
 const GUIDE: usize = 10;
@@ -40,7 +41,7 @@ const ANGLE_MOST: u32 = 0xFFFF;
 
 #[no_mangle]
 pub extern "C" fn cittumay_len(words: &[u64], numbers: &[f32], len: &mut usize) -> u8
-    ensures { λ r. ⌜ Answers (stored (now (words .entry)) (now (numbers .entry))) noState AnswersLen saysCount one r (now (len .entry)) (now (len .exit)) ⌝ }
+    ensures { λ r. ⌜ Answers (stored (now (words .entry)) (now (numbers .entry))) noState AnswersLen saysCount itself r (now (len .entry)) (now (len .exit)) ⌝ }
 {
     let there = stored::load(words, numbers);
     if !there.held {
@@ -117,7 +118,7 @@ fn put_ahead(
     north: &mut f32,
 ) -> u8
     ensures { λ r. ⌜ r ≡ numberOf (saysAhead answer) ⌝ }
-    ensures { λ r. ⌜ aheadValues (now (known .exit)) (now (count .exit)) (now (matched .exit)) (now (east .exit)) (now (north .exit)) ≡ valuesOf ahead (saysAhead answer) (aheadValues (now (known .entry)) (now (count .entry)) (now (matched .entry)) (now (east .entry)) (now (north .entry))) ⌝ }
+    ensures { λ r. ⌜ aheadValues (now (known .exit)) (now (count .exit)) (now (matched .exit)) (now (east .exit)) (now (north .exit)) ≡ valuesOf leading (saysAhead answer) (aheadValues (now (known .entry)) (now (count .entry)) (now (matched .entry)) (now (east .entry)) (now (north .entry))) ⌝ }
 {
     match answer {
         Ahead::Along(n, point) => {
@@ -147,7 +148,7 @@ pub extern "C" fn cittumay_course_ahead(
     east: &mut f32,
     north: &mut f32,
 ) -> u8
-    ensures { λ r. ⌜ Answers (stored (now (words .entry)) (now (numbers .entry))) noState AnswersCourseAhead saysAhead ahead r (aheadValues (now (known .entry)) (now (count .entry)) (now (matched .entry)) (now (east .entry)) (now (north .entry))) (aheadValues (now (known .exit)) (now (count .exit)) (now (matched .exit)) (now (east .exit)) (now (north .exit))) ⌝ }
+    ensures { λ r. ⌜ Answers (stored (now (words .entry)) (now (numbers .entry))) noState AnswersCourseAhead saysAhead leading r (aheadValues (now (known .entry)) (now (count .entry)) (now (matched .entry)) (now (east .entry)) (now (north .entry))) (aheadValues (now (known .exit)) (now (count .exit)) (now (matched .exit)) (now (east .exit)) (now (north .exit))) ⌝ }
 {
     let there = stored::load(words, numbers);
     if !there.held {
@@ -169,7 +170,7 @@ pub extern "C" fn cittumay_route_home(
     east: &mut f32,
     north: &mut f32,
 ) -> u8
-    ensures { λ r. ⌜ Answers (stored (now (words .entry)) (now (numbers .entry))) noState AnswersRouteHome saysAhead ahead r (aheadValues (now (known .entry)) (now (count .entry)) (now (matched .entry)) (now (east .entry)) (now (north .entry))) (aheadValues (now (known .exit)) (now (count .exit)) (now (matched .exit)) (now (east .exit)) (now (north .exit))) ⌝ }
+    ensures { λ r. ⌜ Answers (stored (now (words .entry)) (now (numbers .entry))) noState AnswersRouteHome saysAhead leading r (aheadValues (now (known .entry)) (now (count .entry)) (now (matched .entry)) (now (east .entry)) (now (north .entry))) (aheadValues (now (known .exit)) (now (count .exit)) (now (matched .exit)) (now (east .exit)) (now (north .exit))) ⌝ }
 {
     let there = stored::load(words, numbers);
     if !there.held {
@@ -313,7 +314,7 @@ pub extern "C" fn cittumay_way_back(
     direct: &mut u32,
     track: &mut u32,
 ) -> u8
-    ensures { λ r. ⌜ Answers (stored (now (words .entry)) (now (numbers .entry))) (noStateWith (length (now (crumbs .entry)))) (λ h. AnswersWayBack h (now (crumbs .entry))) saysBack back r (backValues (now (known .entry)) (now (direct .entry)) (now (track .entry))) (backValues (now (known .exit)) (now (direct .exit)) (now (track .exit))) ⌝ }
+    ensures { λ r. ⌜ Answers (stored (now (words .entry)) (now (numbers .entry))) (noStateWith (length (now (crumbs .entry)))) (λ h. AnswersWayBack h (now (crumbs .entry))) saysBack returning r (backValues (now (known .entry)) (now (direct .entry)) (now (track .entry))) (backValues (now (known .exit)) (now (direct .exit)) (now (track .exit))) ⌝ }
 {
     let there = stored::load(words, numbers);
     if !there.held {
@@ -400,7 +401,7 @@ fn are_guide(words: &[u32]) -> bool
 }
 
 fn mode_of(word: u32) -> Mode
-    ensures { λ r. ⌜ r ≡ modeOf word ⌝ }
+    ensures { λ r. ⌜ r ≡ modeOfTag word ⌝ }
 {
     match word {
         1 => Mode::Track,
@@ -441,7 +442,7 @@ fn guide_at(words: &[u32]) -> Guide
 // `guide` is a guide's words as `guide` writes them; words that are no guide are refused with 10.
 #[no_mangle]
 pub extern "C" fn cittumay_arrow(guide: &[u32], arrow: &mut u16) -> u8
-    ensures { λ r. ⌜ Answers (guideOf (now (guide .entry))) noState AnswersArrow saysAngle one r (now (arrow .entry)) (now (arrow .exit)) ⌝ }
+    ensures { λ r. ⌜ Answers (guideOf (now (guide .entry))) noState AnswersArrow saysAngle itself r (now (arrow .entry)) (now (arrow .exit)) ⌝ }
 {
     if !are_guide(guide) {
         return NO_STATE;

@@ -16,7 +16,8 @@ ghost use Rattle.course.specs.Course.{fixes};
 ghost use Rattle.answers.specs.Answers.{saysVerdict};
 ghost use Rattle.homing.specs.Answers.{saysReply, saysSight};
 ghost use Rattle.stored.specs.Stored.{wordCount, numberCount};
-ghost use Rattle.door.specs.Through.{numberOf, written, flagOf, Leaves};
+ghost use Rattle.stored.specs.Fields.{flagOf};
+ghost use Rattle.door.specs.Through.{numberOf, written, Leaves};
 ghost use Rattle.door.specs.Calls.{numberOfEvent, New, Reset, EndReplay, SetCourse, SetAutoFollow, Observe, Replay, SetFollowing};
 
 // ---- answers as numbers

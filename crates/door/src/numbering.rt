@@ -4,7 +4,8 @@ use homing::Reply;
 use questions::counts;
 ghost use mathlib.Core.Path.{_≡_};
 ghost use Rattle.homing.specs.Answers.{saysReply};
-ghost use Rattle.door.specs.Through.{numberOf, flagOf, noStateWith};
+ghost use Rattle.stored.specs.Fields.{flagOf};
+ghost use Rattle.door.specs.Through.{numberOf, noStateWith};
 
 // Question 1.
 const NO_BUFFER: u8 = 1;

@@ -28,7 +28,7 @@ use Rattle.trail.specs.declared.Recorded.{Recorded}
 use Rattle.trail.specs.Trail as trails
 use Rattle.state.specs.declared.Follow.{Follow}
 use Rattle.state.specs.State.{withMotion, withTrack, withFollow, withLap}
-use Rattle.follow.specs.Record.{add, afterThinning, recordedIn}
+use Rattle.follow.specs.Record.{addIn, afterThinning, recordedIn}
 use Rattle.follow.specs.View.{TakesOver}
 use Rattle.follow.proofs.Recording.{taken-over}
 use Rattle.fix.specs.Pass.{passing}
@@ -62,18 +62,18 @@ handed-fix lat lon a b = ap (λ (c : ℤ). fixAt c (handed lon)) (toZ-ofZ w32 la
 module _ (h on grown r : Homing) (x : Fix) (now : ℕ) (f : Frame) (p : Point) (there : Homing) (entry exit : List Float) where
   pub replays : f ≡ located x (h .frame) → p ≡ framed f x
       → ((b : List Float) → stateOf there b ≡ withFrame f (stateOf h b)) → there .trail ≡ h .trail
-      → Changes (headed p now) there on → Follows (λ C. add C p) on entry grown exit → Changes (passOnly p) grown r
+      → Changes (headed p now) there on → Follows (λ C. addIn C p) on entry grown exit → Changes (passOnly p) grown r
       → Follows (λ C. replay C x now) h entry r exit
   unfolding replay
   replays ef ep same kept c d e =
       let C = capacity (length entry) in
-      let by : Frame → Point → State = λ g q. passOnly q (add C q (headed q now (withFrame g (stateOf h entry))) .state) in
+      let by : Frame → Point → State = λ g q. passOnly q (addIn C q (headed q now (withFrame g (stateOf h entry))) .state) in
       let ton : on .trail ≡ h .trail = c .trail ∙ kept in
       record {
         same =
             e .same exit
             ∙ ap (λ (s : State). passOnly p s) (d .same)
-            ∙ ap (λ (s : State). passOnly p (add C p s .state)) (c .same entry ∙ ap (λ (s : State). headed p now s) (same entry))
+            ∙ ap (λ (s : State). passOnly p (addIn C p s .state)) (c .same entry ∙ ap (λ (s : State). headed p now s) (same entry))
             ∙ ap (λ (q : Point). by f q) ep
             ∙ ap (λ (g : Frame). by g (framed g x)) ef;
         fit = subst (λ (t : Trail). trail.TrailFit t (length exit)) (sym (e .trail)) (d .fit);
@@ -105,8 +105,8 @@ module _ (h : Homing) (x : Fix) (now : ℕ) (f : Frame) (p : Point) (m : Motion)
   unfolding recordedIn
   takes e = record { same = λ b. ap (λ (n : Follow). withFollow n (withTrack (trail.track (k .trail) b) (stateOf on b))) e; trail = refl }
 
-  grows : Records (λ C. trails.add C p) (h .trail) entry k exit → w ≡ afterThinning (k .thinned) (h .follow) → Follows (λ C. add C p) on entry grown exit
-  unfolding add
+  grows : Records (λ C. trails.add C p) (h .trail) entry k exit → w ≡ afterThinning (k .thinned) (h .follow) → Follows (λ C. addIn C p) on entry grown exit
+  unfolding addIn
   grows did e = taken-over (λ C. trails.add C p) on grown k entry exit did (takes e)
 
   passes : l ≡ passing p (m .heading) (h .lap) → Changes (passOnly p) grown whole

@@ -23,7 +23,7 @@ use Rattle.state.specs.declared.Homing.{Homing}
 use Rattle.state.specs.declared.Line.{Line}
 use Rattle.state.specs.State.{State, stateOf, withTrack, withFollow}
 use Rattle.state.specs.Rule.{Done, done}
-use Rattle.follow.specs.Record.{recordedIn, recorded, keep}
+use Rattle.follow.specs.Record.{recordedIn, recorded, keepIn}
 use Rattle.follow.specs.Parts.{stopped}
 use Rattle.follow.specs.Engage.{cutTo, leaveAt, forgotten, stopBreadcrumb, stopOn, stop}
 use Rattle.follow.specs.View.{TakesOver, Follows, Changes}
@@ -48,11 +48,11 @@ max-le a b c h = omega arith
 
 -- a state whose breadcrumb is cut to its first crumbs, and then a crumb kept
 module _ (h cut r : Homing) (p : Point) (segment : ℕ) (entry exit : List Float) where
-  pub left-at : stateOf cut entry ≡ cutTo segment (stateOf h entry) → cut .trail .len ≤ h .trail .len → Follows (λ C. keep C p) cut entry r exit → Follows (λ C. leaveAt C (At p) segment) h entry r exit
+  pub left-at : stateOf cut entry ≡ cutTo segment (stateOf h entry) → cut .trail .len ≤ h .trail .len → Follows (λ C. keepIn C p) cut entry r exit → Follows (λ C. leaveAt C (At p) segment) h entry r exit
   unfolding leaveAt
   left-at e l f =
       record {
-        same = f .same ∙ ap (λ (s : State). keep (capacity (length entry)) p s .state) e;
+        same = f .same ∙ ap (λ (s : State). keepIn (capacity (length entry)) p s .state) e;
         fit = f .fit;
         size = f .size;
         beyond = behind-more (max (cut .trail .len) (r .trail .len)) (max (h .trail .len) (r .trail .len)) exit entry (max-le (cut .trail .len) (h .trail .len) (r .trail .len) l) (f .beyond);

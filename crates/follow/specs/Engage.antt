@@ -12,7 +12,7 @@ use Rattle.state.specs.declared.Line.the-variants as line
 use Rattle.state.specs.State.{State, withTrack, withFollow, withCourse}
 use Rattle.state.specs.Rule.{Done, done}
 use Rattle.follow.specs.Parts.{courseFrom, leads, stopped, heldOff}
-use Rattle.follow.specs.Record.{keep}
+use Rattle.follow.specs.Record.{keepIn}
 
 -- follow a line from its segment `end`
 unfoldable pub engageAt : List Crumb → Line → ℕ → ℕ → State → State
@@ -34,7 +34,7 @@ cutTo n s = withTrack (withCrumbs (take n (s .track .crumbs)) (s .track)) s
 -- "The matched point kept when following ends": the breadcrumb ends where the rider left it
 unfoldable pub leaveAt : ℕ → Spot → ℕ → State → Done (Unit {0})
 leaveAt C Nowhere segment s = done tt s
-leaveAt C (At p) segment s = keep C p (cutTo segment s)
+leaveAt C (At p) segment s = keepIn C p (cutTo segment s)
 
 -- nothing waits, and no turn-round is counted
 unfoldable pub forgotten : Track → Track

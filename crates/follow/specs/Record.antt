@@ -23,11 +23,11 @@ unfoldable pub recorded : trail.TrailDone → State → Done (Unit {0})
 recorded d s = record { answer = tt; state = recordedIn (thinnedIn (d .notes)) (d .track) s; notes = d .notes }
 
 -- a crumb is kept at p; p is added by way of the window; the window's last place is kept
-unfoldable pub keep : ℕ → Point → State → Done (Unit {0})
-keep C p s = recorded (trail.keep C p (s .track)) s
+unfoldable pub keepIn : ℕ → Point → State → Done (Unit {0})
+keepIn C p s = recorded (trail.keep C p (s .track)) s
 
-unfoldable pub add : ℕ → Point → State → Done (Unit {0})
-add C p s = recorded (trail.add C p (s .track)) s
+unfoldable pub addIn : ℕ → Point → State → Done (Unit {0})
+addIn C p s = recorded (trail.add C p (s .track)) s
 
-unfoldable pub flush : ℕ → State → Done (Unit {0})
-flush C s = recorded (trail.flush C (s .track)) s
+unfoldable pub flushIn : ℕ → State → Done (Unit {0})
+flushIn C s = recorded (trail.flush C (s .track)) s

@@ -14,7 +14,7 @@ ghost use lib.ListN.{length};
 ghost use Rattle.crumbs.specs.Crumb.{capacity};
 ghost use Rattle.trail.specs.View as trail;
 ghost use Rattle.state.specs.declared.Line.the-variants as line;
-ghost use Rattle.follow.specs.Record.{keep, add, flush};
+ghost use Rattle.follow.specs.Record.{keepIn, addIn, flushIn};
 ghost use Rattle.follow.specs.Engage.{engageAt, engage, leaveAt, stopNothing, stopCourse, stopBreadcrumb, stop};
 ghost use Rattle.follow.specs.View.{courseOf, TakesOver, Changes, Follows, Asks};
 
@@ -43,7 +43,7 @@ fn recorded(h: Homing, r: Recorded) -> Homing
 
 pub fn keep(h: Homing, crumbs: &mut [f32], p: Point) -> Homing
     requires { ⌜ trail.TrailFit (h .trail) (length (now crumbs)) ⌝ }
-    ensures { λ r. ⌜ Follows (λ C. keep C p) h (now (crumbs .entry)) r (now (crumbs .exit)) ⌝ }
+    ensures { λ r. ⌜ Follows (λ C. keepIn C p) h (now (crumbs .entry)) r (now (crumbs .exit)) ⌝ }
 {
     let t = h.trail;
     let r = trail::keep(t, crumbs, p);
@@ -52,7 +52,7 @@ pub fn keep(h: Homing, crumbs: &mut [f32], p: Point) -> Homing
 
 pub fn add(h: Homing, crumbs: &mut [f32], p: Point) -> Homing
     requires { ⌜ trail.TrailFit (h .trail) (length (now crumbs)) ⌝ }
-    ensures { λ r. ⌜ Follows (λ C. add C p) h (now (crumbs .entry)) r (now (crumbs .exit)) ⌝ }
+    ensures { λ r. ⌜ Follows (λ C. addIn C p) h (now (crumbs .entry)) r (now (crumbs .exit)) ⌝ }
 {
     let t = h.trail;
     let r = trail::add(t, crumbs, p);
@@ -61,7 +61,7 @@ pub fn add(h: Homing, crumbs: &mut [f32], p: Point) -> Homing
 
 pub fn flush(h: Homing, crumbs: &mut [f32]) -> Homing
     requires { ⌜ trail.TrailFit (h .trail) (length (now crumbs)) ⌝ }
-    ensures { λ r. ⌜ Follows flush h (now (crumbs .entry)) r (now (crumbs .exit)) ⌝ }
+    ensures { λ r. ⌜ Follows flushIn h (now (crumbs .entry)) r (now (crumbs .exit)) ⌝ }
 {
     let t = h.trail;
     let r = trail::flush(t, crumbs);

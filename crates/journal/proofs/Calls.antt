@@ -86,7 +86,7 @@ new-tolerance = refl
 
 module _ {C : ℕ} where
   reset-good : Good C reset
-  unfolding reset trail.reset
+  unfolding reset trail.resetTrack
   reset-good s h =
       record {
         trace = trace.reset trace.over;

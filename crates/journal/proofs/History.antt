@@ -8,7 +8,7 @@ use Rattle.trail.specs.Trail.{fresh}
 use Rattle.calls.specs.Line.{new}
 use Rattle.calls.specs.Calls.{Call}
 use Rattle.journal.specs.Claim.{Claim, EveryJournal}
-use Rattle.journal.specs.Journal.{run, journal, held}
+use Rattle.journal.specs.Journal.{run, journal, heldIn}
 use Rattle.journal.proofs.Trace.{claim}
 use Rattle.journal.proofs.Sound.{Holds, Good, still, then}
 use Rattle.journal.proofs.Following.{nothing-followed}
@@ -39,7 +39,7 @@ module _ (C : ℕ) (least : 3 ≤ C) where
   holds calls = run-good calls new (new-holds C) .sound
 
   -- of any capacity that leaves room behind a thinning
-  pub claimed : (calls : List Call) → Claim C (journal C calls .notes) (held (journal C calls .state))
+  pub claimed : (calls : List Call) → Claim C (journal C calls .notes) (heldIn (journal C calls .state))
   unfolding journal new fresh
   claimed calls = claim (run-good calls new (new-holds C) .trace)
 

@@ -11,11 +11,11 @@ use Rattle.state.specs.Rule.{Done}
 use Rattle.calls.specs.Line.{new}
 use Rattle.calls.specs.Calls.{Call, afterCall}
 use Rattle.journal.specs.Claim.{Claim}
-use Rattle.journal.specs.Journal.{run, journal, held}
+use Rattle.journal.specs.Journal.{run, journal, heldIn}
 use Rattle.journal.proofs.History.{history}
 
 module _ (C : ℕ) (least : 8 ≤ C) (most : C ≤ 4096) (calls : List Call) where
-  pub history-of : (s : State) → s ≡ journal C calls .state → Claim C (journal C calls .notes) (held s)
+  pub history-of : (s : State) → s ≡ journal C calls .state → Claim C (journal C calls .notes) (heldIn s)
   history-of s e = rw e (history C least most calls)
 
 -- ---- the calls one after the other

@@ -22,7 +22,7 @@ use Rattle.state.specs.declared.Line.the-variants.{Nothing, Breadcrumb, Course}
 use Rattle.state.specs.declared.Follow.{Follow}
 use Rattle.state.specs.State.{State}
 use Rattle.follow.specs.Parts.{endedByThinning}
-use Rattle.follow.specs.Record.{afterThinning, recordedIn, recorded, keep, add, flush}
+use Rattle.follow.specs.Record.{afterThinning, recordedIn, recorded, keepIn, addIn, flushIn}
 use Rattle.journal.proofs.Trace.{impossible, Trace, over, kept, thinned}
 use Rattle.journal.proofs.Sound.{Sound, Ran, Good}
 
@@ -98,20 +98,20 @@ module _ {C : ℕ} where
       }
 
 module _ (C : ℕ) (least : 3 ≤ C) where
-  pub keep-good : (p : Point) → Good C (keep C p)
-  unfolding keep
+  pub keep-good : (p : Point) → Good C (keepIn C p)
+  unfolding keepIn
   keep-good p s h =
       records (trail.keep C p (s .track)) s h (one p (track.keep-keeps C least p (s .track) (h .track)))
       (track.keep-sound C least p (s .track) (h .track)) (keep-back C p (s .track) (h .back))
 
-  pub add-good : (p : Point) → Good C (add C p)
-  unfolding add
+  pub add-good : (p : Point) → Good C (addIn C p)
+  unfolding addIn
   add-good p s h =
       records (trail.add C p (s .track)) s h (track.add-keeps C least p (s .track) (h .track))
       (track.add-sound C least p (s .track) (h .track)) (add-back C p (s .track) (h .back))
 
-  pub flush-good : Good C (flush C)
-  unfolding flush
+  pub flush-good : Good C (flushIn C)
+  unfolding flushIn
   flush-good s h =
       records (trail.flush C (s .track)) s h (track.flush-keeps C least (s .track) (h .track))
       (track.flush-sound C least (s .track) (h .track)) (flush-back C (s .track) (h .back))

@@ -14,7 +14,7 @@ use Rattle.thin.specs.Crumb.{target, thinning}
 use Rattle.trail.specs.Notes.{Note, Kept, Thinned}
 use Rattle.calls.specs.Calls.{Call}
 use Rattle.journal.specs.Kept.{keptSinceReset, keptIn, toleranceSinceReset}
-use Rattle.journal.specs.Journal.{journal, held}
+use Rattle.journal.specs.Journal.{journal, heldIn}
 
 -- places chosen from those kept
 pub record Chosen (places kept : List Point) : Type 0 where
@@ -57,4 +57,4 @@ pub record Claim (C : ℕ) (notes : List Note) (places : List Point) : Type 0 wh
 
 -- every list of calls, refused ones among them, whatever their arguments and lent lines, of every capacity a guide may have
 abbrev pub EveryJournal : Type 0
-EveryJournal = (C : ℕ) → 8 ≤ C → C ≤ 4096 → (calls : List Call) → Claim C (journal C calls .notes) (held (journal C calls .state))
+EveryJournal = (C : ℕ) → 8 ≤ C → C ≤ 4096 → (calls : List Call) → Claim C (journal C calls .notes) (heldIn (journal C calls .state))

@@ -19,5 +19,5 @@ unfoldable pub journal : ℕ → List Call → Done (Unit {0})
 journal C calls = run (stride * C) calls new
 
 -- "Places held are east and north of each crumb"; "the journal's are those of its own crumbs"
-abbrev pub held : State → List Point
-held s = map point (s .track .crumbs)
+abbrev pub heldIn : State → List Point
+heldIn s = map point (s .track .crumbs)

@@ -7,23 +7,23 @@ use lib.IntN.{ℤ}
 use Rattle.state.specs.declared.Place.the-variants as place
 use Rattle.log.specs.declared.Utc.the-variants as utc
 use Rattle.log.specs.declared.Sample.{Sample}
-use Rattle.log.specs.Entry.{byteAt, u64At, i32At, countOf, located, timed, placeAt, utcAt, sampleAt, noSample, sampleIf, sampleOf}
+use Rattle.log.specs.Entry.{byteAt, u64At, i32At, countOf, hasPlace, hasUtc, placeAt, utcAt, sampleAt, noSample, sampleIf, sampleOf}
 
 module _ (f : List ℕ) (at : ℕ) {n : ℕ} (flags : n ≡ byteAt f at) where
-  pub place-there : {lat lon : ℤ} → n % 2 ≡ 1 → lat ≡ i32At f (at + 4) → lon ≡ i32At f (at + 8) → place.At lat lon ≡ placeAt (located (byteAt f at)) f at
-  unfolding placeAt located
+  pub place-there : {lat lon : ℤ} → n % 2 ≡ 1 → lat ≡ i32At f (at + 4) → lon ≡ i32At f (at + 8) → place.At lat lon ≡ placeAt (hasPlace (byteAt f at)) f at
+  unfolding placeAt hasPlace
   place-there h x y = rw (← flags, eq-eqb (n % 2) 1 h, x, y)
 
-  pub place-missing : (n % 2 ≡ 1 → ⊥) → place.Missing ≡ placeAt (located (byteAt f at)) f at
-  unfolding placeAt located
+  pub place-missing : (n % 2 ≡ 1 → ⊥) → place.Missing ≡ placeAt (hasPlace (byteAt f at)) f at
+  unfolding placeAt hasPlace
   place-missing h = rw (← flags, ne-eqb (n % 2) 1 h)
 
-  pub utc-there : {ms : ℕ} → n / 2 % 2 ≡ 1 → ms ≡ u64At f (at + 12) → utc.At ms ≡ utcAt (timed (byteAt f at)) f at
-  unfolding utcAt timed
+  pub utc-there : {ms : ℕ} → n / 2 % 2 ≡ 1 → ms ≡ u64At f (at + 12) → utc.At ms ≡ utcAt (hasUtc (byteAt f at)) f at
+  unfolding utcAt hasUtc
   utc-there h x = rw (← flags, eq-eqb (n / 2 % 2) 1 h, x)
 
-  pub utc-unknown : (n / 2 % 2 ≡ 1 → ⊥) → utc.Unknown ≡ utcAt (timed (byteAt f at)) f at
-  unfolding utcAt timed
+  pub utc-unknown : (n / 2 % 2 ≡ 1 → ⊥) → utc.Unknown ≡ utcAt (hasUtc (byteAt f at)) f at
+  unfolding utcAt hasUtc
   utc-unknown h = rw (← flags, ne-eqb (n / 2 % 2) 1 h)
 
 module _ (f : List ℕ) (r k : ℕ) {n : ℕ} (count : n ≡ countOf f r) where

@@ -59,11 +59,11 @@ kindOf zero = Full
 kindOf (suc n) = getD (Start ∷ Samples ∷ Pause ∷ Resume ∷ Finish ∷ Recovered ∷ Full ∷ []) n Full
 
 -- ---- "flags (bit 0 located, bit 1 UTC, the rest unread), 3 unread, latitude i32, longitude i32, UTC u64"
-unfoldable pub located : ℕ → Bool
-located flags = eqb (flags % 2) 1
+unfoldable pub hasPlace : ℕ → Bool
+hasPlace flags = eqb (flags % 2) 1
 
-unfoldable pub timed : ℕ → Bool
-timed flags = eqb (flags / 2 % 2) 1
+unfoldable pub hasUtc : ℕ → Bool
+hasUtc flags = eqb (flags / 2 % 2) 1
 
 -- "nor the places or UTC a flag lacks"
 unfoldable pub placeAt : Bool → List ℕ → ℕ → Place
@@ -75,7 +75,7 @@ utcAt true f at = utc.At (u64At f (at + 12))
 utcAt false f at = utc.Unknown
 
 unfoldable pub sampleAt : List ℕ → ℕ → Sample
-sampleAt f at = record { place = placeAt (located (byteAt f at)) f at; utc = utcAt (timed (byteAt f at)) f at }
+sampleAt f at = record { place = placeAt (hasPlace (byteAt f at)) f at; utc = utcAt (hasUtc (byteAt f at)) f at }
 
 -- "Samples past count aren't read"
 unfoldable pub noSample : Sample
@@ -103,15 +103,15 @@ unfoldable pub recovered : List ℕ → ℕ
 recovered f = rideOf f 0
 
 -- "Next 0 ends the chain": the records reached from a next of r on, the first n of them
-unfoldable pub walk : ℕ → List ℕ → ℕ → List ℕ
-walk zero f r = []
-walk (suc n) f zero = []
-walk (suc n) f (suc r) = suc r ∷ walk n f (nextOf f (suc r))
+unfoldable pub recordsFrom : ℕ → List ℕ → ℕ → List ℕ
+recordsFrom zero f r = []
+recordsFrom (suc n) f zero = []
+recordsFrom (suc n) f (suc r) = suc r ∷ recordsFrom n f (nextOf f (suc r))
 
 -- The chain: the records reached from record 0 on. As many as the file has are enough, for a longer chain has reached one of
 -- them twice, which question 7 refuses.
 unfoldable pub chain : List ℕ → List ℕ
-chain f = walk (recordCount f) f (nextOf f 0)
+chain f = recordsFrom (recordCount f) f (nextOf f 0)
 
 unfoldable pub entries : List ℕ → List Entry
 entries f = map (entryAt f) (chain f)

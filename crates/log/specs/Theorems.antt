@@ -9,7 +9,7 @@ use Rattle.state.specs.declared.Place.the-variants as place
 use Rattle.log.specs.declared.Kind.the-variants.{Samples}
 use Rattle.log.specs.declared.Utc.the-variants as utc
 use Rattle.log.specs.declared.Sample.{Sample}
-use Rattle.log.specs.Entry.{byteAt, recordCount, nextOf, countOf, sampleStart, located, timed, noSample, recovered, chain, entries}
+use Rattle.log.specs.Entry.{byteAt, recordCount, nextOf, countOf, sampleStart, hasPlace, hasUtc, noSample, recovered, chain, entries}
 use Rattle.log.specs.Questions.{below, stands, twice, asksRecord, asksFile}
 
 -- ---- what a file that no question refuses gives
@@ -37,10 +37,10 @@ Same f g at n = (i : ℕ) → i < n → byteAt f (at + i) ≡ byteAt g (at + i)
 
 -- "flags (bit 0 located, bit 1 UTC, the rest unread), 3 unread", and what they say is there
 pub record SameSample (f g : List ℕ) (at : ℕ) : Type 0 where
-  pub bit0 : located (byteAt f at) ≡ located (byteAt g at)
-  pub bit1 : timed (byteAt f at) ≡ timed (byteAt g at)
-  pub place : located (byteAt f at) ≡ true → Same f g (at + 4) 8
-  pub utc : timed (byteAt f at) ≡ true → Same f g (at + 12) 8
+  pub bit0 : hasPlace (byteAt f at) ≡ hasPlace (byteAt g at)
+  pub bit1 : hasUtc (byteAt f at) ≡ hasUtc (byteAt g at)
+  pub place : hasPlace (byteAt f at) ≡ true → Same f g (at + 4) 8
+  pub utc : hasUtc (byteAt f at) ≡ true → Same f g (at + 12) 8
 
 -- next, ride, kind and count, and the samples up to count
 pub record SameRecord (f g : List ℕ) (r : ℕ) : Type 0 where

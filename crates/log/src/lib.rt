@@ -6,7 +6,7 @@ pub mod file_questions;
 use state::Place;
 ghost use mathlib.Core.Path.{_≡_};
 ghost use Prim.Native.Nat.{_*_, _^_, _<_};
-ghost use Rattle.log.specs.Entry.{byteAt, u32At, u64At, signed as signedOf, i32At, nextOf, rideOf, kindNumber, countOf, kindOf, located, timed, placeAt, utcAt, sampleAt, sampleOf, samplesOf, entryAt, recovered as recoveredOf};
+ghost use Rattle.log.specs.Entry.{byteAt, u32At, u64At, signed as signedOf, i32At, nextOf, rideOf, kindNumber, countOf, kindOf, hasPlace, hasUtc, placeAt, utcAt, sampleAt, sampleOf, samplesOf, entryAt, recovered as recoveredOf};
 
 // What an entry is, 1 to 7.
 pub enum Kind {
@@ -144,7 +144,7 @@ fn kind_of(number: u8) -> Kind
 
 fn place_at(file: &[u8], at: usize) -> Place
     requires { ⌜ at < 2 ^ 40 ⌝ }
-    ensures { λ r. ⌜ r ≡ placeAt (located (byteAt (now (file .entry)) at)) (now (file .entry)) at ⌝ }
+    ensures { λ r. ⌜ r ≡ placeAt (hasPlace (byteAt (now (file .entry)) at)) (now (file .entry)) at ⌝ }
 {
     if byte_at(file, at) % 2 == 1 {
         return Place::At(i32_at(file, at + 4), i32_at(file, at + 8));
@@ -154,7 +154,7 @@ fn place_at(file: &[u8], at: usize) -> Place
 
 fn utc_at(file: &[u8], at: usize) -> Utc
     requires { ⌜ at < 2 ^ 40 ⌝ }
-    ensures { λ r. ⌜ r ≡ utcAt (timed (byteAt (now (file .entry)) at)) (now (file .entry)) at ⌝ }
+    ensures { λ r. ⌜ r ≡ utcAt (hasUtc (byteAt (now (file .entry)) at)) (now (file .entry)) at ⌝ }
 {
     if byte_at(file, at) / 2 % 2 == 1 {
         return Utc::At(u64_at(file, at + 12));

@@ -2,5 +2,5 @@
 use lib.Ieee.{Float}
 use Rattle.plane.specs.declared.Point.{Point}
 
-abbrev pub at : Float → Float → Point
-at east north = record { east = east; north = north }
+abbrev pub pointOf : Float → Float → Point
+pointOf east north = record { east = east; north = north }

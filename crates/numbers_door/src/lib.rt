@@ -9,7 +9,7 @@ ghost use Rattle.binary32.specs.Limits.{clamp, maxZero};
 ghost use Rattle.trig.specs.Fix.{cos, angle};
 ghost use Rattle.plane.specs.Plane.{distance, project, offSegment, bearing, metres};
 ghost use Rattle.plane.specs.Fix.{eastPerE7, frame};
-ghost use Rattle.numbers_door.specs.Points.{at};
+ghost use Rattle.numbers_door.specs.Points.{pointOf};
 use plane::Point;
 
 #[no_mangle]
@@ -63,7 +63,7 @@ pub extern "C" fn cittumay_atan2f(east: f32, north: f32) -> f32
 
 #[no_mangle]
 pub extern "C" fn cittumay_distance(a_east: f32, a_north: f32, b_east: f32, b_north: f32) -> f32
-    ensures { λ r. ⌜ r ≡ distance (at «a_east» «a_north») (at «b_east» «b_north») ⌝ }
+    ensures { λ r. ⌜ r ≡ distance (pointOf «a_east» «a_north») (pointOf «b_east» «b_north») ⌝ }
 {
     let a = Point {
         east: a_east,
@@ -88,8 +88,8 @@ pub extern "C" fn cittumay_project(
     east: &mut f32,
     north: &mut f32,
 ) -> f32
-    ensures { λ r. ⌜ r ≡ project (at «p_east» «p_north») (at «a_east» «a_north») (at «b_east» «b_north») .t ⌝ }
-    ensures { λ r. ⌜ at (now (east .exit)) (now (north .exit)) ≡ project (at «p_east» «p_north») (at «a_east» «a_north») (at «b_east» «b_north») .point ⌝ }
+    ensures { λ r. ⌜ r ≡ project (pointOf «p_east» «p_north») (pointOf «a_east» «a_north») (pointOf «b_east» «b_north») .t ⌝ }
+    ensures { λ r. ⌜ pointOf (now (east .exit)) (now (north .exit)) ≡ project (pointOf «p_east» «p_north») (pointOf «a_east» «a_north») (pointOf «b_east» «b_north») .point ⌝ }
 {
     let p = Point {
         east: p_east,
@@ -118,7 +118,7 @@ pub extern "C" fn cittumay_off_segment(
     b_east: f32,
     b_north: f32,
 ) -> f32
-    ensures { λ r. ⌜ r ≡ offSegment (at «p_east» «p_north») (at «a_east» «a_north») (at «b_east» «b_north») ⌝ }
+    ensures { λ r. ⌜ r ≡ offSegment (pointOf «p_east» «p_north») (pointOf «a_east» «a_north») (pointOf «b_east» «b_north») ⌝ }
 {
     let p = Point {
         east: p_east,
@@ -142,7 +142,7 @@ pub extern "C" fn cittumay_bearing(
     to_east: f32,
     to_north: f32,
 ) -> u16
-    ensures { λ r. ⌜ r ≡ bearing (at «from_east» «from_north») (at «to_east» «to_north») ⌝ }
+    ensures { λ r. ⌜ r ≡ bearing (pointOf «from_east» «from_north») (pointOf «to_east» «to_north») ⌝ }
 {
     let from = Point {
         east: from_east,
@@ -179,7 +179,7 @@ pub extern "C" fn cittumay_frame(
     east: &mut f32,
     north: &mut f32,
 )
-    ensures { λ _. ⌜ at (now (east .exit)) (now (north .exit)) ≡ frame lat0 lon0 «east_per_e7» lat lon ⌝ }
+    ensures { λ _. ⌜ pointOf (now (east .exit)) (now (north .exit)) ≡ frame lat0 lon0 «east_per_e7» lat lon ⌝ }
 {
     let place = plane::frame(lat0, lon0, east_per_e7, lat, lon);
     *east = place.east;

@@ -27,7 +27,7 @@ use Rattle.rebuild.specs.declared.Stage.the-variants as stage
 use Rattle.rebuild.specs.declared.Rebuild.{Rebuild}
 use Rattle.rebuild.specs.Made.{quiet, _then_, perform}
 use Rattle.log.specs.Entry.{used}
-use Rattle.rebuild.specs.Rebuild.{ticked, carriesOn, decide, skips, meets, replays, visitFix, visitPlace, visitSample, visitSamples, isLater, visitKind, visit, caughtUp, look, pastSlot, walk, settleFrom, settle}
+use Rattle.rebuild.specs.Rebuild.{ticked, carriesOn, decide, skips, beforeReplay, replays, visitFix, visitPlace, visitSample, visitSamples, isLater, visitKind, visit, caughtUp, look, pastSlot, walk, settleFrom, settle}
 use Rattle.rebuild.proofs.Keeping.{oneOf}
 use Rattle.rebuild.proofs.Theorems.{journal-same}
 
@@ -67,8 +67,8 @@ decide-makes last first r = by (carriesOn last first)
     by true = nothing
     by false = reset nothing
 
-meets-makes : (was : Stage) (later : Bool) (t : Utc) (r : Rebuild) → Rebuilding (meets was later t r .calls)
-unfolding meets
+meets-makes : (was : Stage) (later : Bool) (t : Utc) (r : Rebuild) → Rebuilding (beforeReplay was later t r .calls)
+unfolding beforeReplay
 meets-makes (stage.Pending last) true t r = decide-makes last t r
 meets-makes (stage.Pending last) false t r = nothing
 meets-makes stage.Decided later t r = nothing
@@ -77,7 +77,7 @@ fix-makes : (x : Fix) (later : Bool) (t : Utc) (r : Rebuild) → FixOnGlobe x �
 unfolding visitFix replays
 fix-makes x later t r on = by (skips (r .stage) later)
   where
-    by : (b : Bool) → Rebuilding (oneOf b (quiet r) (meets (r .stage) later t r then replays x) .calls)
+    by : (b : Bool) → Rebuilding (oneOf b (quiet r) (beforeReplay (r .stage) later t r then replays x) .calls)
     by true = nothing
     by false = both (meets-makes (r .stage) later t r) (replay x _ on nothing)
 

@@ -17,7 +17,7 @@ use Rattle.rebuild.specs.declared.Stage.the-variants as stage
 use Rattle.rebuild.specs.declared.Rebuild.{Rebuild}
 use Rattle.rebuild.specs.Made.{Made, quiet, _then_}
 use Rattle.log.specs.Entry.{used}
-use Rattle.rebuild.specs.Rebuild.{ticked, decide, skips, meets, replays, visitFix, visitPlace, visitSample, visitSamples, isLater, visitKind, visit, look}
+use Rattle.rebuild.specs.Rebuild.{ticked, decide, skips, beforeReplay, replays, visitFix, visitPlace, visitSample, visitSamples, isLater, visitKind, visit, look}
 
 pub record Keeps (r n : Rebuild) : Type 0 where
   pub walk : n .walk ≡ r .walk
@@ -37,8 +37,8 @@ ticked-keeps : (r : Rebuild) → Keeps r (ticked r)
 unfolding ticked
 ticked-keeps r = record { walk = refl; recovered = refl }
 
-meets-keeps : (was : Stage) (later : Bool) (t : Utc) (r : Rebuild) → Keeps r (meets was later t r .rebuild)
-unfolding meets decide
+meets-keeps : (was : Stage) (later : Bool) (t : Utc) (r : Rebuild) → Keeps r (beforeReplay was later t r .rebuild)
+unfolding beforeReplay decide
 meets-keeps (stage.Pending last) true t r = record { walk = refl; recovered = refl }
 meets-keeps (stage.Pending last) false t r = record { walk = refl; recovered = refl }
 meets-keeps stage.Decided later t r = kept r
@@ -47,7 +47,7 @@ fix-keeps : (x : Fix) (later : Bool) (t : Utc) (r : Rebuild) → Keeps r (visitF
 unfolding visitFix replays
 fix-keeps x later t r = by (skips (r .stage) later)
   where
-    by : (b : Bool) → Keeps r (oneOf b (quiet r) (meets (r .stage) later t r then replays x) .rebuild)
+    by : (b : Bool) → Keeps r (oneOf b (quiet r) (beforeReplay (r .stage) later t r then replays x) .rebuild)
     by true = kept r
     by false = meets-keeps (r .stage) later t r
 

@@ -22,7 +22,7 @@ use Rattle.rebuild.specs.declared.Stage.the-variants as stage
 use Rattle.rebuild.specs.declared.Walk.{Walk}
 use Rattle.rebuild.specs.declared.Rebuild.{Rebuild}
 use Rattle.rebuild.specs.Made.{Made, making, quiet, _then_, perform, effect}
-use Rattle.rebuild.specs.Rebuild.{new, withStage, carriesOn, decide, replays, caughtUp, look, pastSlot, walk}
+use Rattle.rebuild.specs.Rebuild.{newRebuild, withStage, carriesOn, decide, replays, caughtUp, look, pastSlot, walk}
 use Rattle.rebuild.proofs.Performing.{performed-both}
 use Rattle.rebuild.proofs.Keeping.{oneOf, look-keeps}
 
@@ -108,13 +108,13 @@ walk-slot (suc budget) upper slots r few = by (caughtUp upper r) refl (walk-slot
         rest on ∙ omega (arith, next)
 
 -- no rebuild is caught up before its first slot, and every one is once the budget reached upper
-pub not-caught-up : (recovered upper : ℕ) → 0 < upper → caughtUp upper (new recovered) ≡ false
-unfolding caughtUp new
+pub not-caught-up : (recovered upper : ℕ) → 0 < upper → caughtUp upper (newRebuild recovered) ≡ false
+unfolding caughtUp newRebuild
 not-caught-up recovered upper some = lt-leb upper 0 some
 
-pub caught-up : (budget upper : ℕ) (slots : ℕ → Option Entry) (recovered : ℕ) → upper ≤ budget → caughtUp upper (walk budget upper slots (new recovered) .rebuild) ≡ true
-unfolding caughtUp new
+pub caught-up : (budget upper : ℕ) (slots : ℕ → Option Entry) (recovered : ℕ) → upper ≤ budget → caughtUp upper (walk budget upper slots (newRebuild recovered) .rebuild) ≡ true
+unfolding caughtUp newRebuild
 caught-up budget upper slots recovered enough =
-    let first : new recovered .walk .slot ≤ upper = omega arith in
-    let far = walk-slot budget upper slots (new recovered) first in
+    let first : newRebuild recovered .walk .slot ≤ upper = omega arith in
+    let far = walk-slot budget upper slots (newRebuild recovered) first in
     le-leb upper _ (omega (arith, far))

@@ -25,7 +25,7 @@ use Rattle.log.specs.declared.Sample.{Sample}
 use Rattle.rebuild.specs.declared.Rebuild.{Rebuild}
 use Rattle.rebuild.specs.declared.Visited.{Visited}
 use Rattle.rebuild.specs.Made.{Made, making, quiet, _then_}
-use Rattle.rebuild.specs.Rebuild.{sampleMs, clockMost, ticked, skips, meets, replays, visitFix, visitPlace, visitSample, visitSamples}
+use Rattle.rebuild.specs.Rebuild.{sampleMs, clockMost, ticked, skips, beforeReplay, replays, visitFix, visitPlace, visitSample, visitSamples}
 use Rattle.rebuild.specs.View.{Makes, Settles}
 use Rattle.rebuild.proofs.Making.{visited, settled, makes-quiet, replayed, one-then}
 
@@ -44,7 +44,7 @@ module _ (later : Bool) (x : Sample) (r on : Rebuild) (ticks : on ≡ ticked r) 
 
   module _ (f : Fix) (e : x .place ≡ place.At (f .lat) (f .lon)) where
     abbrev taken : Made
-    taken = meets (on .stage) later (x .utc) on then replays f
+    taken = beforeReplay (on .stage) later (x .utc) on then replays f
 
     located : visitSample later x r ≡ visitFix f later (x .utc) on
     unfolding from visitPlace
@@ -54,12 +54,12 @@ module _ (later : Bool) (x : Sample) (r on : Rebuild) (ticks : on ≡ ticked r) 
     unfolding visitFix
     skipped s = subst (λ (rule : Made). Makes rule h entry (visited on h) entry) (sym (located ∙ picked (quiet on) taken _ s)) (makes-quiet on h entry fit)
 
-    pub not-skipped : (met : Visited) (n : Homing) (exit : List Float) → skips (on .stage) later ≡ false → Settles (meets (on .stage) later (x .utc) on) h met
+    pub not-skipped : (met : Visited) (n : Homing) (exit : List Float) → skips (on .stage) later ≡ false → Settles (beforeReplay (on .stage) later (x .utc) on) h met
         → Follows (λ C. replay C f (met .rebuild .«clock_ms»)) (met .homing) entry n exit → Makes (visitSample later x r) h entry (visited (met .rebuild) n) exit
     unfolding visitFix
     not-skipped met n exit s m k =
         subst (λ (rule : Made). Makes rule h entry (visited (met .rebuild) n) exit) (sym (located ∙ passed-by (quiet on) taken _ s))
-        (one-then (meets (on .stage) later (x .utc) on) (λ next. replays f next) h entry entry exit met (visited (met .rebuild) n)
+        (one-then (beforeReplay (on .stage) later (x .utc) on) (λ next. replays f next) h entry entry exit met (visited (met .rebuild) n)
         (settled _ h entry met fit m)
         (replayed f (met .rebuild) (met .homing) n entry exit k))
 

@@ -35,8 +35,8 @@ clockMost = 2 ^ 64 - 1
 
 -- ---- the rebuild
 -- `new`: "slot k is the k-th record after record 0 along the chain below, from 0". No fix of the recovered ride is read yet.
-unfoldable pub new : ℕ → Rebuild
-new recovered = record { recovered = recovered; walk = record { slot = 0 }; stage = stage.Pending utc.Unknown; «clock_ms» = 0 }
+unfoldable pub newRebuild : ℕ → Rebuild
+newRebuild recovered = record { recovered = recovered; walk = record { slot = 0 }; stage = stage.Pending utc.Unknown; «clock_ms» = 0 }
 
 abbrev pub withStage : Stage → Rebuild → Rebuild
 withStage x r = record { recovered = r .recovered; walk = r .walk; stage = x; «clock_ms» = r .«clock_ms» }
@@ -66,9 +66,9 @@ decide last first r = making (cond (carriesOn last first) [] (Reset ∷ [])) (wi
 
 -- ---- a sample
 -- a time, or the one before it where it is not known
-unfoldable pub orElse : Utc → Utc → Utc
-orElse (utc.At t) before = utc.At t
-orElse utc.Unknown before = before
+unfoldable pub knownOr : Utc → Utc → Utc
+knownOr (utc.At t) before = utc.At t
+knownOr utc.Unknown before = before
 
 -- once the later ride's first fix came, the recovered ride's fixes are read no more
 unfoldable pub skips : Stage → Bool → Bool
@@ -76,17 +76,17 @@ skips (stage.Pending last) later = false
 skips stage.Decided later = not later
 
 -- what a fix decides before it is replayed: the later ride's first whether that ride carries on, one of the recovered ride when it was last fixed
-unfoldable pub meets : Stage → Bool → Utc → Rebuild → Made
-meets (stage.Pending last) true t r = decide last t r
-meets (stage.Pending last) false t r = quiet (withStage (stage.Pending (orElse t last)) r)
-meets stage.Decided later t r = quiet r
+unfoldable pub beforeReplay : Stage → Bool → Utc → Rebuild → Made
+beforeReplay (stage.Pending last) true t r = decide last t r
+beforeReplay (stage.Pending last) false t r = quiet (withStage (stage.Pending (knownOr t last)) r)
+beforeReplay stage.Decided later t r = quiet r
 
 -- the guide's `replay`, at the clock
 unfoldable pub replays : Fix → Rebuild → Made
 replays x r = making (Replay x (r .«clock_ms») ∷ []) r
 
 unfoldable pub visitFix : Fix → Bool → Utc → Rebuild → Made
-visitFix x later t r = elim (skips (r .stage) later) [ true ↦ quiet r | false ↦ meets (r .stage) later t r then replays x ]
+visitFix x later t r = elim (skips (r .stage) later) [ true ↦ quiet r | false ↦ beforeReplay (r .stage) later t r then replays x ]
 
 unfoldable pub visitPlace : Place → Bool → Utc → Rebuild → Made
 visitPlace (place.At lat lon) later t r = visitFix (record { lat = lat; lon = lon }) later t r
@@ -143,8 +143,8 @@ isDecided (stage.Pending last) = false
 isDecided stage.Decided = true
 
 -- every slot is read, and the breadcrumb is settled
-unfoldable pub finished : ℕ → Rebuild → Bool
-finished upper r = isDecided (r .stage) && caughtUp upper r
+unfoldable pub takesOver : ℕ → Rebuild → Bool
+takesOver upper r = isDecided (r .stage) && caughtUp upper r
 
 -- `step`: the walk, and whether live fixes take over
 pub record Step : Type 0 where
@@ -152,7 +152,7 @@ pub record Step : Type 0 where
   pub answer : Bool
 
 unfoldable pub step : ℕ → ℕ → (ℕ → Option Entry) → Rebuild → Step
-step budget upper slots r = let m = walk budget upper slots r in record { made = m; answer = finished upper (m .rebuild) }
+step budget upper slots r = let m = walk budget upper slots r in record { made = m; answer = takesOver upper (m .rebuild) }
 
 -- ---- a live fix
 -- `settle`: it decides as well, where none of the log did

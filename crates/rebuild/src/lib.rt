@@ -16,7 +16,7 @@ ghost use Prim.Native.Nat.{_≤_};
 ghost use lib.ListN.{length};
 ghost use Rattle.trail.specs.View as trail;
 ghost use Rattle.log.specs.Entry.{used};
-ghost use Rattle.rebuild.specs.Rebuild.{new, ticked, apart, carriesOn, decide, orElse, skips, meets, visitSample, isLater, visitSamples, visit, caughtUp, settle};
+ghost use Rattle.rebuild.specs.Rebuild.{newRebuild, ticked, apart, carriesOn, decide, knownOr, skips, beforeReplay, visitSample, isLater, visitSamples, visit, caughtUp, settle};
 ghost use Rattle.rebuild.specs.View.{Makes, Settles};
 
 // The later ride carries on if its first fix is this soon after the recovered ride's last.
@@ -54,7 +54,7 @@ pub struct Visited {
 // Read ride `recovered` and the ride after it back from a log whose slots below `_upper` are written. The
 // walk begins at slot 0, however many are.
 pub fn new(recovered: u32, _upper: usize) -> Rebuild
-    ensures { λ r. ⌜ r ≡ new recovered ⌝ }
+    ensures { λ r. ⌜ r ≡ newRebuild recovered ⌝ }
 {
     Rebuild {
         recovered,
@@ -134,7 +134,7 @@ fn ticked(r: Rebuild) -> Rebuild
 }
 
 fn or_else(utc: Utc, before: Utc) -> Utc
-    ensures { λ t. ⌜ t ≡ orElse utc before ⌝ }
+    ensures { λ t. ⌜ t ≡ knownOr utc before ⌝ }
 {
     match utc {
         Utc::At(_) => utc,
@@ -154,7 +154,7 @@ fn skips(stage: Stage, later: bool) -> bool
 
 // What a fix decides before it is replayed.
 fn meets(r: Rebuild, h: Homing, later: bool, utc: Utc) -> Visited
-    ensures { λ v. ⌜ Settles (meets (r .stage) later utc r) h v ⌝ }
+    ensures { λ v. ⌜ Settles (beforeReplay (r .stage) later utc r) h v ⌝ }
 {
     let was = r.stage;
     let Stage::Pending(last) = was else {

@@ -21,7 +21,7 @@ use Rattle.log.specs.Questions.{asksFile}
 use Rattle.log.proofs.file_questions.Theorems.{first-yes, then-yes}
 use Rattle.rebuild.specs.declared.Rebuild.{Rebuild}
 use Rattle.rebuild.specs.declared.Visited.{Visited}
-use Rattle.rebuild.specs.Rebuild.{finished, walk, step, settle}
+use Rattle.rebuild.specs.Rebuild.{takesOver, walk, step, settle}
 use Rattle.rebuild.specs.View.{Makes, Settles}
 use Rattle.restart.specs.Promises.{asksStep, Steps, SettlesBreadcrumb}
 
@@ -48,12 +48,12 @@ module _ (budget upper : ℕ) (file : List ℕ) (r : Rebuild) (h : Homing) (b : 
   step-refused ne =
       record { answered = no asked _ ne; taken = λ z. absurd (ne (asked ∙ z)); refused = λ _. (refl, refl, refl); size = refl }
 
-  pub step-taken : {v : Visited} {exit : List Float} {done : Bool} → n ≡ 0 → Makes (walk budget upper (slot file) r) h b v exit → done ≡ finished upper (v .rebuild)
+  pub step-taken : {v : Visited} {exit : List Float} {done : Bool} → n ≡ 0 → Makes (walk budget upper (slot file) r) h b v exit → done ≡ takesOver upper (v .rebuild)
       → Steps budget upper file r h b (record { rebuild = v .rebuild; homing = v .homing; answer = verdict.Is done }) exit
   unfolding saysVerdict step
   step-taken z m e =
       record {
-        answered = yes asked z (e ∙ ap (λ (x : Rebuild). finished upper x) (m .rebuilt));
+        answered = yes asked z (e ∙ ap (λ (x : Rebuild). takesOver upper x) (m .rebuilt));
         taken = λ _. m;
         refused = λ ne. absurd (ne (sym asked ∙ z));
         size = m .size;

@@ -38,7 +38,7 @@ pub struct Settled {
 
 // Read ride `recovered` and the ride after it back from a log whose slots below `upper` are written.
 pub fn new(recovered: u32, upper: usize) -> Rebuild
-    ensures { λ r. ⌜ r ≡ rule.new recovered ⌝ }
+    ensures { λ r. ⌜ r ≡ rule.newRebuild recovered ⌝ }
 {
     rebuild::new(recovered, upper)
 }
@@ -155,7 +155,7 @@ fn is_decided(stage: Stage) -> bool
 
 // Every slot is read, and the breadcrumb is settled.
 fn finished(r: Rebuild, upper: usize) -> bool
-    ensures { λ b. ⌜ b ≡ rule.finished upper r ⌝ }
+    ensures { λ b. ⌜ b ≡ rule.takesOver upper r ⌝ }
 {
     let stage = r.stage;
     is_decided(stage) & caught_up(r, upper)

@@ -31,12 +31,12 @@ use Rattle.log.specs.Questions.{asksFile}
 use Rattle.rebuild.specs.declared.Rebuild.{Rebuild}
 use Rattle.rebuild.specs.declared.Visited.{Visited}
 use Rattle.rebuild.specs.Made.{effect}
-use Rattle.rebuild.specs.Rebuild.{new, step, isDecided}
+use Rattle.rebuild.specs.Rebuild.{newRebuild, step, isDecided}
 use Rattle.rebuild.specs.View.{Makes}
 use Rattle.restart.specs.declared.Stepped.{Stepped}
 use Rattle.restart.specs.Promises.{asksStep, Steps}
 use Rattle.retelling.specs.Text.{rebuiltText, refusedText}
-use Rattle.retelling.specs.Writing.{Tells}
+use Rattle.retelling.specs.Writing.{WritesWhole}
 use Rattle.retelling.proofs.lines.Numbers.{picked}
 use Rattle.retelling.specs.Retold.{slots, rebuilt, heldAfter, retold, Retells}
 use Rattle.retelling.specs.Told.{told, Rebuilds}
@@ -54,13 +54,13 @@ new-len h b e = sym (length-crumbs (h .trail .len) b) ∙ ap (λ (s : State). le
 
 -- ---- "rebuilds the whole chain"
 module _ (file : List ℕ) {h : Homing} {b exit : List Float} {v : Visited} (size : length b ≡ 1536) (fresh : stateOf h b ≡ guide.new)
-    (asked : asksFile file ≡ 0) (made : Makes (step slots slots (slot file) (new (recovered file)) .made) h b v exit) where
+    (asked : asksFile file ≡ 0) (made : Makes (step slots slots (slot file) (newRebuild (recovered file)) .made) h b v exit) where
   held : crumbs (v .homing .trail .len) exit ≡ heldAfter file
   unfolding heldAfter rebuilt track
   held =
       ap (λ (s : State). s .track .crumbs) (made .same)
-      ∙ ap (λ (n : ℕ). effect (step slots slots (slot file) (new (recovered file)) .made) (capacity n) (stateOf h b) .state .track .crumbs) size
-      ∙ ap (λ (s : State). effect (step slots slots (slot file) (new (recovered file)) .made) 512 s .state .track .crumbs) fresh
+      ∙ ap (λ (n : ℕ). effect (step slots slots (slot file) (newRebuild (recovered file)) .made) (capacity n) (stateOf h b) .state .track .crumbs) size
+      ∙ ap (λ (s : State). effect (step slots slots (slot file) (newRebuild (recovered file)) .made) 512 s .state .track .crumbs) fresh
 
   pub retold-rebuilt : rebuiltText (crumbs (v .homing .trail .len) exit) (v .rebuild .«clock_ms») (isDecided (v .rebuild .stage)) ≡ retold file
   unfolding retold rebuilt
@@ -89,7 +89,7 @@ module _ {A : Type 0} (n : ℕ) (x : A) where
 
 -- ---- the step of a new guide
 module _ (file : List ℕ) {h : Homing} {r : Rebuild} {b exit : List Float} {v : Stepped} (size : length b ≡ 1536) (fresh : stateOf h b ≡ guide.new)
-    (begun : r ≡ new (recovered file)) (done : Steps slots slots file r h b v exit) where
+    (begun : r ≡ newRebuild (recovered file)) (done : Steps slots slots file r h b v exit) where
   asked : asksStep (length b) file (stateOf h b) ≡ asksFile file
   unfolding asksStep
   asked = rw (size, fresh, new-taken)
@@ -97,7 +97,7 @@ module _ (file : List ℕ) {h : Homing} {r : Rebuild} {b exit : List Float} {v :
   answered : saysVerdict (v .answer) ≡ answer (asksFile file) (step slots slots (slot file) r .answer)
   answered = done .answered ∙ ap (λ (n : ℕ). answer n (step slots slots (slot file) r .answer)) asked
 
-  made : asksFile file ≡ 0 → Makes (step slots slots (slot file) (new (recovered file)) .made) h b (record { rebuild = v .rebuild; homing = v .homing }) exit
+  made : asksFile file ≡ 0 → Makes (step slots slots (slot file) (newRebuild (recovered file)) .made) h b (record { rebuild = v .rebuild; homing = v .homing }) exit
   made e = rw begun at (done .taken (asked ∙ e))
 
   tells : told (v .answer) (v .rebuild) (crumbs (v .homing .trail .len) exit) ≡ retold file
@@ -127,20 +127,20 @@ module _ (file : List ℕ) {h : Homing} {r : Rebuild} {b exit : List Float} {v :
 
 -- ---- what is told
 pub tells-rebuilt : {a : Verdict} {d is : Bool} (r : Rebuild) (l : List Crumb) {e f : List ℕ} {k : ℕ} → a ≡ verdict.Is d → is ≡ isDecided (r .stage)
-    → Tells (rebuiltText l (r .«clock_ms») is) e f k → Tells (told a r l) e f k
+    → WritesWhole (rebuiltText l (r .«clock_ms») is) e f k → WritesWhole (told a r l) e f k
 unfolding told
 tells-rebuilt r l h decided t = rw (h, ← decided) t
 
 pub tells-refused : {a : Verdict} {number : ℕ} (r : Rebuild) (l : List Crumb) {e f : List ℕ} {k : ℕ} → a ≡ verdict.Refused number
-    → Tells (refusedText number) e f k → Tells (told a r l) e f k
+    → WritesWhole (refusedText number) e f k → WritesWhole (told a r l) e f k
 unfolding told
 tells-refused r l h t = rw h t
 
 pub retells : {file : List ℕ} {v : Stepped} {b : List Float} {e f : List ℕ} {k : ℕ} → Rebuilds file v b
-    → Tells (told (v .answer) (v .rebuild) (crumbs (v .homing .trail .len) b)) e f k → Retells file e f k
+    → WritesWhole (told (v .answer) (v .rebuild) (crumbs (v .homing .trail .len) b)) e f k → Retells file e f k
 retells {file} {v} {b} {e} {f} {k} m t = from (rw (m .tells) at t)
   where
-    from : Tells (retold file) e f k → Retells file e f k
+    from : WritesWhole (retold file) e f k → Retells file e f k
     from t =
         record {
           whole = λ room. t .writes .text ∙ take-all (length e) (retold file) (omega (arith, t .short));

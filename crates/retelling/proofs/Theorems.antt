@@ -11,7 +11,7 @@ use borrow.Author.Tests.{eq-eqb, ne-eqb, lt-leb, leb-true, leb-false}
 use lib.Dec.{eqb, leb}
 use lib.ListN.{length, take, getElem?, length-take}
 use lib.Seq.{take-all}
-use Rattle.log.specs.Entry.{nextOf, recordCount, walk, chain, entryAt, entries, slot}
+use Rattle.log.specs.Entry.{nextOf, recordCount, recordsFrom, chain, entryAt, entries, slot}
 use Rattle.log.specs.Questions.{question6, asksChain, asksRecords, asksFile}
 use Rattle.log.specs.Theorems.{Accepted}
 use Rattle.log.proofs.file_questions.Theorems.{accepted}
@@ -56,11 +56,11 @@ cut file = by (leb (length file) readMost) refl
         six (take readMost file) (simp length-take (omega arith)) ∙ sym (six file (omega arith))
 
 -- ---- "the whole chain"
-walk-within : (n : ℕ) (f : List ℕ) (r : ℕ) → length (walk n f r) ≤ n
-unfolding walk
+walk-within : (n : ℕ) (f : List ℕ) (r : ℕ) → length (recordsFrom n f r) ≤ n
+unfolding recordsFrom
 walk-within zero f r = le-refl 0
 walk-within (suc n) f zero = omega arith
-walk-within (suc n) f (suc r) = let again : length (walk n f (nextOf f (suc r))) ≤ n = walk-within n f (nextOf f (suc r)) in omega arith
+walk-within (suc n) f (suc r) = let again : length (recordsFrom n f (nextOf f (suc r))) ≤ n = walk-within n f (nextOf f (suc r)) in omega arith
 
 past : {A : Type 0} (g : ℕ → A) (l : List ℕ) (k : ℕ) → length l ≤ k → getElem? (map g l) k ≡ none
 past g [] k h = refl
@@ -71,5 +71,5 @@ pub whole : EveryWhole
 unfolding rebuilt step slot entries chain
 whole file a =
     let most : recordCount file ≤ 682 = accepted file a .most in
-    let within : length (walk (recordCount file) file (nextOf file 0)) ≤ recordCount file = walk-within (recordCount file) file (nextOf file 0) in
-    record { looked = caught-up slots slots _ _ (le-refl slots); beyond = λ k h. past (entryAt file) (walk (recordCount file) file (nextOf file 0)) k (omega arith) }
+    let within : length (recordsFrom (recordCount file) file (nextOf file 0)) ≤ recordCount file = walk-within (recordCount file) file (nextOf file 0) in
+    record { looked = caught-up slots slots _ _ (le-refl slots); beyond = λ k h. past (entryAt file) (recordsFrom (recordCount file) file (nextOf file 0)) k (omega arith) }

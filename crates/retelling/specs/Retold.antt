@@ -12,7 +12,7 @@ use Rattle.calls.specs.Line as guide
 use Rattle.log.specs.Entry.{recovered, slot}
 use Rattle.log.specs.Questions.{asksFile}
 use Rattle.rebuild.specs.Made.{Made, effect}
-use Rattle.rebuild.specs.Rebuild.{new, step, isDecided, caughtUp}
+use Rattle.rebuild.specs.Rebuild.{newRebuild, step, isDecided, caughtUp}
 use Rattle.retelling.specs.Text.{rebuiltText, refusedText}
 use Rattle.retelling.specs.Writing.{textMost}
 
@@ -26,7 +26,7 @@ slots = 682
 
 -- the rebuild of the whole chain, and the calls that it makes of a guide
 unfoldable pub rebuilt : List ℕ → Made
-rebuilt file = step slots slots (slot file) (new (recovered file)) .made
+rebuilt file = step slots slots (slot file) (newRebuild (recovered file)) .made
 
 -- the crumbs that a new guide holds after those calls
 unfoldable pub heldAfter : List ℕ → List Crumb

@@ -17,20 +17,20 @@ abbrev pub end : List ℕ
 end = 10 ∷ []
 
 -- the digit `0` is byte 48, and `A` is byte 65
-abbrev pub digit : ℕ → ℕ
-digit d = 48 + d
+abbrev pub numeral : ℕ → ℕ
+numeral d = 48 + d
 
 unfoldable pub capital : ℕ → ℕ
 capital d = cond (ltb d 10) (48 + d) (55 + d)
 
 -- ---- "decimal"
 -- a number below ten is its digit, any other its tenth part and then its last digit; it has fewer than 1 + `most` digits
-unfoldable pub digits : ℕ → ℕ → List ℕ
-digits zero n = digit n ∷ []
-digits (suc most) n = elim (ltb n 10) [ true ↦ digit n ∷ [] | false ↦ digits most (n / 10) ++ digit (n % 10) ∷ [] ]
+unfoldable pub numerals : ℕ → ℕ → List ℕ
+numerals zero n = numeral n ∷ []
+numerals (suc most) n = elim (ltb n 10) [ true ↦ numeral n ∷ [] | false ↦ numerals most (n / 10) ++ numeral (n % 10) ∷ [] ]
 
 unfoldable pub decimal : ℕ → List ℕ
-decimal n = digits n n
+decimal n = numerals n n
 
 -- ---- "three f32 patterns of eight hexadecimal capitals"
 -- the last k digits of a number

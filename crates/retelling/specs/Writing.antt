@@ -18,6 +18,6 @@ abbrev pub textMost : ℕ
 textMost = 16384
 
 -- The bytes `l` are written to the front of a text, and `textMost` have room for them.
-pub record Tells (l entry exit : List ℕ) (r : ℕ) : Type 0 where
+pub record WritesWhole (l entry exit : List ℕ) (r : ℕ) : Type 0 where
   pub writes : Writes l entry 0 exit r
   pub short : length l ≤ textMost

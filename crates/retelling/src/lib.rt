@@ -11,7 +11,7 @@ ghost use Prim.Native.Nat.{_≤_};
 ghost use lib.ListN.{length};
 ghost use Rattle.crumbs.specs.Crumb.{crumbs};
 ghost use Rattle.rebuild.specs.Rebuild.{isDecided};
-ghost use Rattle.retelling.specs.Writing.{Tells};
+ghost use Rattle.retelling.specs.Writing.{WritesWhole};
 ghost use Rattle.retelling.specs.Retold.{Retells};
 ghost use Rattle.retelling.specs.Told.{told, Rebuilds};
 
@@ -34,7 +34,7 @@ fn is_decided(stage: Stage) -> bool
 // buffer.
 fn put_told(text: &mut [u8], answer: Verdict, r: Rebuild, len: usize, buf: &[f32]) -> usize
     requires { ⌜ (length (now buf) ≡ 1536) × (len ≤ 512) ⌝ }
-    ensures { λ n. ⌜ Tells (told answer r (crumbs len (now (buf .entry)))) (now (text .entry)) (now (text .exit)) n ⌝ }
+    ensures { λ n. ⌜ WritesWhole (told answer r (crumbs len (now (buf .entry)))) (now (text .entry)) (now (text .exit)) n ⌝ }
 {
     match answer {
         Verdict::Is(_) => {

@@ -15,7 +15,7 @@ use Rattle.state.specs.declared.Place.the-variants.{At, Missing}
 use Rattle.course.specs.Fix.{Fix}
 use Rattle.course.specs.Course.{fixes}
 use Rattle.calls.specs.Calls.{Call, Reset, Len, Following, FollowingCourse, CourseAhead, Crumbs, WayBack, Heading, RouteHome, Guide, EndReplay, Course, SetCourse, SetAutoFollow, Observe, Replay, SetFollowing}
-use Rattle.ride.specs.Script.{Entry, entries, placeIn, fixIn, numbered, callOf, readable, decode}
+use Rattle.ride.specs.Script.{CallEntry, callEntries, placeIn, fixIn, numbered, callOf, readable, decode}
 use Rattle.ride.specs.Theorems.{arguments, linesOf, pointsOf, Each, SliceOf, CallSlices, EveryListWritten}
 
 -- ---- how a call is written
@@ -74,12 +74,12 @@ again Heading = refl
 again RouteHome = refl
 again Guide = refl
 
-abbrev written : Call → Entry
+abbrev written : Call → CallEntry
 written c = record { op = opOf c; clock = clockOf c; size = sizeOf c; count = countOf c }
 
 -- one number a call
-side-by-side : (cs : List Call) → entries (map opOf cs) (map clockOf cs) (map sizeOf cs) (map countOf cs) ≡ map written cs
-unfolding entries
+side-by-side : (cs : List Call) → callEntries (map opOf cs) (map clockOf cs) (map sizeOf cs) (map countOf cs) ≡ map written cs
+unfolding callEntries
 side-by-side [] = refl
 side-by-side (c ∷ cs) = ap (λ es. written c ∷ es) (side-by-side cs)
 

@@ -20,7 +20,7 @@ use Rattle.calls.specs.Calls.{Call, afterCall}
 use Rattle.calls.specs.Promises.{Called}
 use Rattle.journal.specs.Journal.{run}
 use Rattle.journal.proofs.Programs.{run-first}
-use Rattle.ride.specs.Script.{Entry, entries, callOf, readable, decode}
+use Rattle.ride.specs.Script.{CallEntry, callEntries, callOf, readable, decode}
 use Rattle.ride.specs.Inner.{Performs}
 use Rattle.ride.proofs.Tests.{both}
 use Rattle.ride.proofs.Entries.{entryAt, length-entries, getD-entries}
@@ -37,8 +37,8 @@ pub record Script : Type 0 where
   pub lats : List ℤ
   pub lons : List ℤ
 
-abbrev pub entriesOf : Script → List Entry
-entriesOf s = entries (s .ops) (s .clocks) (s .sizes) (s .counts)
+abbrev pub entriesOf : Script → List CallEntry
+entriesOf s = callEntries (s .ops) (s .clocks) (s .sizes) (s .counts)
 
 abbrev pub pointsOf : Script → List Fix
 pointsOf s = fixes (s .lats) (s .lons)

@@ -14,20 +14,20 @@ use Rattle.course.specs.Course.{fixes}
 use Rattle.calls.specs.Calls.{Call, Reset, Len, Following, FollowingCourse, CourseAhead, Crumbs, WayBack, Heading, RouteHome, Guide, EndReplay, Course, SetCourse, SetAutoFollow, Observe, Replay, SetFollowing}
 
 -- what is written of a call: which it is, its clock, how many numbers the line has that it is lent, and how many points it is given
-pub record Entry : Type 0 where
+pub record CallEntry : Type 0 where
   pub op : ℕ
   pub clock : ℕ
   pub size : ℕ
   pub count : ℕ
 
 -- side by side, as many as there are of all four
-unfoldable pub entries : List ℕ → List ℕ → List ℕ → List ℕ → List Entry
-entries [] clocks sizes counts = []
-entries (op ∷ ops) [] sizes counts = []
-entries (op ∷ ops) (clock ∷ clocks) [] counts = []
-entries (op ∷ ops) (clock ∷ clocks) (size ∷ sizes) [] = []
-entries (op ∷ ops) (clock ∷ clocks) (size ∷ sizes) (count ∷ counts) =
-    record { op = op; clock = clock; size = size; count = count } ∷ entries ops clocks sizes counts
+unfoldable pub callEntries : List ℕ → List ℕ → List ℕ → List ℕ → List CallEntry
+callEntries [] clocks sizes counts = []
+callEntries (op ∷ ops) [] sizes counts = []
+callEntries (op ∷ ops) (clock ∷ clocks) [] counts = []
+callEntries (op ∷ ops) (clock ∷ clocks) (size ∷ sizes) [] = []
+callEntries (op ∷ ops) (clock ∷ clocks) (size ∷ sizes) (count ∷ counts) =
+    record { op = op; clock = clock; size = size; count = count } ∷ callEntries ops clocks sizes counts
 
 -- the place of `observe` is the first point, and missing where there is none
 unfoldable pub placeIn : List Fix → Place
@@ -72,7 +72,7 @@ unfoldable pub readable : ℕ → ℕ → ℕ → ℕ → ℕ → Bool
 readable size count room numbers points = leb size room && leb size numbers && leb count points
 
 -- the calls; the list ends at the first that can't be read
-unfoldable pub decode : ℕ → List Entry → List Float → List Fix → List Call
+unfoldable pub decode : ℕ → List CallEntry → List Float → List Fix → List Call
 decode room [] lines points = []
 decode room (e ∷ es) lines points =
     cond (readable (e .size) (e .count) room (length lines) (length points))
@@ -81,5 +81,5 @@ decode room (e ∷ es) lines points =
     []
 
 -- the calls that are written in seven slices, performed with room for lines of `room` numbers
-abbrev pub written : ℕ → List ℕ → List ℕ → List ℕ → List ℕ → List Float → List ℤ → List ℤ → List Call
-written room ops clocks sizes counts lines lats lons = decode room (entries ops clocks sizes counts) lines (fixes lats lons)
+abbrev pub writtenCalls : ℕ → List ℕ → List ℕ → List ℕ → List ℕ → List Float → List ℤ → List ℤ → List Call
+writtenCalls room ops clocks sizes counts lines lats lons = decode room (callEntries ops clocks sizes counts) lines (fixes lats lons)

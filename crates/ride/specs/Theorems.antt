@@ -12,7 +12,7 @@ use Rattle.state.specs.declared.Place.{Place}
 use Rattle.state.specs.declared.Place.the-variants.{At, Missing}
 use Rattle.course.specs.Fix.{Fix}
 use Rattle.calls.specs.Calls.{Call, Reset, Len, Following, FollowingCourse, CourseAhead, Crumbs, WayBack, Heading, RouteHome, Guide, EndReplay, Course, SetCourse, SetAutoFollow, Observe, Replay, SetFollowing}
-use Rattle.ride.specs.Script.{written}
+use Rattle.ride.specs.Script.{writtenCalls}
 
 -- ---- what the calls are given
 pub record Arguments : Type 0 where
@@ -87,7 +87,7 @@ pub record CallSlices : Type 0 where
 
 -- slices that say the calls cs
 pub record Says (s : CallSlices) (cs : List Call) : Type 0 where
-  pub says : written (s .room) (s .ops) (s .clocks) (s .sizes) (s .counts) (s .lines) (s .lats) (s .lons) ≡ cs
+  pub says : writtenCalls (s .room) (s .ops) (s .clocks) (s .sizes) (s .counts) (s .lines) (s .lats) (s .lons) ≡ cs
   pub room : s .room * 4 < 2 ^ 63
   pub ops : SliceOf (Fits w8) 1 (s .ops)
   pub clocks : SliceOf (Fits w64) 8 (s .clocks)

@@ -10,7 +10,7 @@ ghost use lib.ListN.{length};
 ghost use Rattle.course.specs.Course.{fixes};
 ghost use Rattle.calls.specs.Calls.{Replay};
 ghost use Rattle.calls.specs.Promises.{Called};
-ghost use Rattle.ride.specs.Script.{entries, placeIn, fixIn, callOf, readable, written};
+ghost use Rattle.ride.specs.Script.{callEntries, placeIn, fixIn, callOf, readable, writtenCalls};
 ghost use Rattle.ride.specs.Promises.{Rides};
 ghost use Rattle.ride.specs.Inner.{Performs};
 
@@ -64,7 +64,7 @@ fn smaller(a: usize, b: usize) -> usize
 
 // How many calls are written: those of which all is there.
 fn count(ops: &[u8], clocks: &[u64], sizes: &[usize], counts: &[usize]) -> usize
-    ensures { λ r. ⌜ r ≡ length (entries (now (ops .entry)) (now (clocks .entry)) (now (sizes .entry)) (now (counts .entry))) ⌝ }
+    ensures { λ r. ⌜ r ≡ length (callEntries (now (ops .entry)) (now (clocks .entry)) (now (sizes .entry)) (now (counts .entry))) ⌝ }
 {
     smaller(
         smaller(ops.len(), clocks.len()),
@@ -247,7 +247,7 @@ fn perform(
     lats: &[i32],
     lons: &[i32],
 ) -> Homing
-    ensures { λ r. ⌜ Performs (written (length (now (line .entry))) (now (ops .entry)) (now (clocks .entry)) (now (sizes .entry)) (now (counts .entry)) (now (lines .entry)) (now (lats .entry)) (now (lons .entry))) h0 (now (crumbs .entry)) r (now (crumbs .exit)) ⌝ }
+    ensures { λ r. ⌜ Performs (writtenCalls (length (now (line .entry))) (now (ops .entry)) (now (clocks .entry)) (now (sizes .entry)) (now (counts .entry)) (now (lines .entry)) (now (lats .entry)) (now (lons .entry))) h0 (now (crumbs .entry)) r (now (crumbs .exit)) ⌝ }
 {
     let room = line.len();
     let numbers = lines.len();
@@ -297,7 +297,7 @@ pub fn ride(
     lats: &[i32],
     lons: &[i32],
 ) -> Changed
-    ensures { λ r. ⌜ Rides (written (length (now (line .entry))) (now (ops .entry)) (now (clocks .entry)) (now (sizes .entry)) (now (counts .entry)) (now (lines .entry)) (now (lats .entry)) (now (lons .entry))) (now (crumbs .entry)) (now (line .entry)) r (now (crumbs .exit)) (now (line .exit)) ⌝ }
+    ensures { λ r. ⌜ Rides (writtenCalls (length (now (line .entry))) (now (ops .entry)) (now (clocks .entry)) (now (sizes .entry)) (now (counts .entry)) (now (lines .entry)) (now (lats .entry)) (now (lons .entry))) (now (crumbs .entry)) (now (line .entry)) r (now (crumbs .exit)) (now (line .exit)) ⌝ }
 {
     let made = homing::new(crumbs);
     let answer = made.answer;

@@ -11,7 +11,7 @@ use lib.Ieee.{Float, lt, le}
 use Rattle.plane.specs.declared.Point.{Point}
 use Rattle.crumbs.specs.declared.Crumb.{Crumb}
 use Rattle.search.specs.declared.Join.the-variants.{Segment, NoSegment}
-use Rattle.segments.specs.Line.{missing, at}
+use Rattle.segments.specs.Line.{noCrumb, at}
 use Rattle.search.specs.Course.{joins, joinedFrom}
 use Rattle.search.specs.Along.{placeBefore, pointAlong, atAlong, ends}
 
@@ -83,7 +83,7 @@ module _ (line : List Crumb) (limit : Float) (n : ℕ) where
   module _ (more : n < length line) {c : Crumb} (C : c ≡ at line n) where
     split : drop n line ≡ at line n ∷ drop (n + 1) line
     unfolding at
-    split = rw (add-one n, drop-cons line n missing more)
+    split = rw (add-one n, drop-cons line n noCrumb more)
 
     pub ends-here : le (c .along) limit ≡ false → n + ends (drop n line) limit ≡ n
     unfolding ends

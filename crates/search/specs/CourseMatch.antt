@@ -43,15 +43,15 @@ slidesBack line was near =
     lt (was .reached ⊕ slipM) (near .along) && against (was .heading) (at line (near .end - 1)) (at line (near .end))
 
 -- the first where it is found, else the other
-unfoldable pub orElse : Best → Best → Best
-orElse (Found near) other = Found near
-orElse Nothing other = other
+unfoldable pub firstFound : Best → Best → Best
+firstFound (Found near) other = Found near
+firstFound Nothing other = other
 
 -- a match on the near stretch; where it slides back, a segment in reach that runs the rider's way comes first
 unfoldable pub settled : List Crumb → Point → Range → Progress → Nearest → Best
 settled line p ends was near =
     elim (slidesBack line was near) [
-      | true ↦ orElse (inReach line p ends (was .along) (Ahead (was .heading))) (Found near)
+      | true ↦ firstFound (inReach line p ends (was .along) (Ahead (was .heading))) (Found near)
       | false ↦ Found near
     ]
 

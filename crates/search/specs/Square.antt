@@ -21,5 +21,5 @@ overtakes end s lead =
     cond (eqb (lead .best) 0) (record { best = end; least = s; before = lead .before })
     (cond (lt s (lead .least)) (record { best = end; least = s; before = lead .least }) lead)
 
-unfoldable pub leads : List Crumb → Point → Stretch → ℕ → Lead → Lead
-leads line p within end lead = cond (reaches line within end) (overtakes end (squareOn line p end) lead) lead
+unfoldable pub takesLead : List Crumb → Point → Stretch → ℕ → Lead → Lead
+takesLead line p within end lead = cond (reaches line within end) (overtakes end (squareOn line p end) lead) lead

@@ -16,7 +16,7 @@ ghost use Prim.Native.Nat.{_≤_, _<_};
 ghost use lib.ListN.{length};
 ghost use Rattle.crumbs.specs.Crumb.{capacity, crumbs};
 ghost use Rattle.segments.specs.Cost.{on};
-ghost use Rattle.search.specs.CourseMatch.{afterGap, around, inReach, onNear, slidesBack, orElse, settled, nearestOnCourse};
+ghost use Rattle.search.specs.CourseMatch.{afterGap, around, inReach, onNear, slidesBack, firstFound, settled, nearestOnCourse};
 ghost use Rattle.search.specs.Along.{ends};
 
 // How far the rider has come on the course, in metres to its end where last matched and at the
@@ -87,7 +87,7 @@ fn slides_back(line: &[f32], len: usize, was: Progress, near: Nearest) -> bool
 }
 
 fn or_else(first: Best, other: Best) -> Best
-    ensures { λ r. ⌜ r ≡ orElse first other ⌝ }
+    ensures { λ r. ⌜ r ≡ firstFound first other ⌝ }
 {
     let Best::Found(_) = first else {
         return other;

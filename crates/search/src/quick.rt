@@ -11,7 +11,7 @@ ghost use lib.ListN.{length};
 ghost use Rattle.crumbs.specs.Crumb.{capacity, crumbs};
 ghost use Rattle.search.specs.Search.{nearestOnBreadcrumb, nearestWithin};
 ghost use Rattle.segments.specs.declared.costs.Ranking.the-variants.{Plain};
-ghost use Rattle.search.specs.Square.{reaches, overtakes, leads};
+ghost use Rattle.search.specs.Square.{reaches, overtakes, takesLead};
 
 // The segment with the least square so far, 0 where there is none, that square, and the least of those tried before it.
 struct Lead {
@@ -53,7 +53,7 @@ fn overtake(lead: Lead, end: usize, square: f32) -> Lead
 
 fn consider(line: &[f32], len: usize, p: Point, within: Stretch, end: usize, lead: Lead) -> Lead
     requires { ⌜ (1 ≤ end) × (end < len) × (len ≤ capacity (length (now line))) ⌝ }
-    ensures { λ r. ⌜ r ≡ leads (crumbs len (now (line .entry))) p within end lead ⌝ }
+    ensures { λ r. ⌜ r ≡ takesLead (crumbs len (now (line .entry))) p within end lead ⌝ }
 {
     if reaches(line, len, within, end) {
         return overtake(lead, end, segments::square_on(line, len, p, end));

@@ -5,8 +5,8 @@ use mathlib.Core.List.{List}
 use lib.Ieee.{Float}
 use Rattle.crumbs.specs.Crumb.{crumbAt, crumbs}
 use Rattle.crumbs.proofs.Crumbs.{getD-crumbs}
-use Rattle.segments.specs.Line.{missing, at}
+use Rattle.segments.specs.Line.{noCrumb, at}
 
 pub at-held : (n : ℕ) (buf : List Float) (i : ℕ) → i < n → at (crumbs n buf) i ≡ crumbAt buf i
 unfolding at
-at-held n buf i h = getD-crumbs n buf i missing h
+at-held n buf i h = getD-crumbs n buf i noCrumb h

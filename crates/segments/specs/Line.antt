@@ -6,9 +6,9 @@ use lib.Ieee.{nan}
 use Rattle.crumbs.specs.declared.Crumb.{Crumb}
 
 -- a crumb that a line lacks
-abbrev pub missing : Crumb
-missing = record { east = nan; north = nan; along = nan }
+abbrev pub noCrumb : Crumb
+noCrumb = record { east = nan; north = nan; along = nan }
 
 -- the crumb at place i
 unfoldable pub at : List Crumb → ℕ → Crumb
-at line i = getD line i missing
+at line i = getD line i noCrumb

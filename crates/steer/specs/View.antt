@@ -20,7 +20,7 @@ pub record MadeNew (r : Homing) : Type 0 where
 -- A guide reset, whatever the crumb buffer holds. The window's numbers are free: none belongs to a waiting place.
 pub record Resets (h r : Homing) : Type 0 where
   pub same : (b : List Float) → stateOf r b ≡ reset (stateOf h b) .state
-  pub trail : TrailChanges trail.reset (h .trail) (r .trail)
+  pub trail : TrailChanges trail.resetTrack (h .trail) (r .trail)
 
 -- A course of the points xs set, whatever the crumb buffer holds, and placed in a line buffer. The numbers behind the placed line are unchanged.
 pub record SetsLine (xs : List Fix) (h : Homing) (entry : List Float) (r : Homing) (exit : List Float) : Type 0 where

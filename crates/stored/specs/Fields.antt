@@ -1,4 +1,4 @@
--- How one field lies in words and numbers, and how it is read back. A flag is 0 or 1, a case that may be missing is a flag with its
+-- How one field lies in words and numbers, and how it is read back. A flagOf is 0 or 1, a case that may be missing is a flagOf with its
 -- parts behind it, which are 0 where it is missing and are then not read.
 use Prim.Native.Nat.{ℕ, zero, suc, _-_, _+_, _^_}
 use mathlib.Core.Bool.{Bool, true, false, cond, _&&_}
@@ -85,19 +85,19 @@ placeOf false lat lon = place.Missing
 unfoldable pub placeRead : List ℕ → ℕ → Place
 placeRead w i = placeOf (flagAt w i) (signedAt w (i + 1)) (signedAt w (i + 2))
 
-abbrev pub lineOf : ℕ → Line
-lineOf n = getD (line.Nothing ∷ line.Breadcrumb ∷ line.Course ∷ []) n line.Nothing
+abbrev pub lineOfTag : ℕ → Line
+lineOfTag n = getD (line.Nothing ∷ line.Breadcrumb ∷ line.Course ∷ []) n line.Nothing
 
-abbrev pub stageOf : ℕ → Stage
-stageOf n = getD (stage.Spent ∷ stage.Armed ∷ stage.Inside ∷ []) n stage.Spent
+abbrev pub stageOfTag : ℕ → Stage
+stageOfTag n = getD (stage.Spent ∷ stage.Armed ∷ stage.Inside ∷ []) n stage.Spent
 
-abbrev pub modeOf : ℕ → Mode
-modeOf n = getD (mode.Direct ∷ mode.Track ∷ mode.OffTrack ∷ mode.Arrived ∷ []) n mode.Direct
+abbrev pub modeOfTag : ℕ → Mode
+modeOfTag n = getD (mode.Direct ∷ mode.Track ∷ mode.OffTrack ∷ mode.Arrived ∷ []) n mode.Direct
 
 -- ---- written
-abbrev pub flag : Bool → ℕ
-flag true = 1
-flag false = 0
+abbrev pub flagOf : Bool → ℕ
+flagOf true = 1
+flagOf false = 0
 
 abbrev pub unsigned : ℤ → ℕ
 unsigned (pos n) = n

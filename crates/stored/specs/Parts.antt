@@ -20,7 +20,7 @@ use Rattle.state.specs.declared.Course.{Course}
 use Rattle.state.specs.declared.Guide.{Guide}
 use Rattle.state.specs.declared.Shown.{Shown}
 use Rattle.state.specs.declared.Shown.the-variants as shown
-use Rattle.stored.specs.Fields.{most64, most32, most16, most8, wordAt, numberAt, narrowAt, flagAt, spotAt, headingAt, placeRead, lineOf, stageOf, modeOf, flag, unsigned, spotFlag, headingFlag, headingIn, placeFlag, latIn, lonIn, lineTag, stageTag, modeTag}
+use Rattle.stored.specs.Fields.{most64, most32, most16, most8, wordAt, numberAt, narrowAt, flagAt, spotAt, headingAt, placeRead, lineOfTag, stageOfTag, modeOfTag, flagOf, unsigned, spotFlag, headingFlag, headingIn, placeFlag, latIn, lonIn, lineTag, stageTag, modeTag}
 
 abbrev pub wordCount : ℕ
 wordCount = 45
@@ -78,7 +78,7 @@ motionAt w n = record { from = spotAt w 13 n 4; heading = headingAt w 14; «head
 unfoldable pub followAt : List ℕ → List Float → Follow
 followAt w n =
     record {
-      line = lineOf (wordAt w 17);
+      line = lineOfTag (wordAt w 17);
       segment = wordAt w 18;
       matched = spotAt w 19 n 6;
       off = flagAt w 20;
@@ -99,12 +99,12 @@ courseAt w n =
     }
 
 unfoldable pub lapAt : List ℕ → List Float → Lap
-lapAt w n = record { pass = record { stage = stageOf (wordAt w 30) }; start = spotAt w 31 n 12; passed = flagAt w 32 }
+lapAt w n = record { pass = record { stage = stageOfTag (wordAt w 30) }; start = spotAt w 31 n 12; passed = flagAt w 32 }
 
 unfoldable pub guideRead : List ℕ → Guide
 guideRead w =
     record {
-      mode = modeOf (wordAt w 35);
+      mode = modeOfTag (wordAt w 35);
       following = flagAt w 36;
       course = flagAt w 37;
       «course_near» = flagAt w 38;
@@ -156,17 +156,17 @@ abbrev pub motionWords : Motion → List ℕ
 motionWords m = spotFlag (m .from) ∷ headingWords (m .heading) ++ m .«heading_ms» ∷ []
 
 abbrev pub followWords : Follow → List ℕ
-followWords f = lineTag (f .line) ∷ f .segment ∷ spotFlag (f .matched) ∷ flag (f .off) ∷ f .«reminded_ms» ∷ []
+followWords f = lineTag (f .line) ∷ f .segment ∷ spotFlag (f .matched) ∷ flagOf (f .off) ∷ f .«reminded_ms» ∷ []
 
 abbrev pub courseWords : Course → List ℕ
-courseWords c = c .«line_len» ∷ flag (c .unplaced) ∷ flag (c .held) ∷ c .«join_fixes» ∷ c .«join_end» ∷ spotFlag (c .fix) ∷ []
+courseWords c = c .«line_len» ∷ flagOf (c .unplaced) ∷ flagOf (c .held) ∷ c .«join_fixes» ∷ c .«join_end» ∷ spotFlag (c .fix) ∷ []
 
 abbrev pub lapWords : Lap → List ℕ
-lapWords l = stageTag (l .pass .stage) ∷ spotFlag (l .start) ∷ flag (l .passed) ∷ []
+lapWords l = stageTag (l .pass .stage) ∷ spotFlag (l .start) ∷ flagOf (l .passed) ∷ []
 
 abbrev pub guideWords : Guide → List ℕ
 guideWords g =
-    modeTag (g .mode) ∷ flag (g .following) ∷ flag (g .course) ∷ flag (g .«course_near»)
+    modeTag (g .mode) ∷ flagOf (g .following) ∷ flagOf (g .course) ∷ flagOf (g .«course_near»)
     ∷ g .«direct_m» ∷ g .«track_m» ∷ g .«off_m» ∷ g .bearing ∷ headingWords (g .heading)
 
 -- ---- what is promised

@@ -53,8 +53,8 @@ homingAt w n =
     }
 
 -- whether there is room for a state
-abbrev pub room : List ℕ → List Float → Bool
-room w n = leb wordCount (length w) && leb numberCount (length n)
+abbrev pub roomFor : List ℕ → List Float → Bool
+roomFor w n = leb wordCount (length w) && leb numberCount (length n)
 
 -- whether two slices hold a state: the mark, each field within its type, and the numbers
 unfoldable pub holds : List ℕ → List Float → Bool

@@ -2,7 +2,7 @@
 use Prim.Native.Nat.{ℕ}
 use mathlib.Core.List.{List, [], _∷_, _++_}
 use Rattle.state.specs.declared.Homing.{Homing}
-use Rattle.stored.specs.Fields.{most64, flag, spotFlag}
+use Rattle.stored.specs.Fields.{most64, flagOf, spotFlag}
 use Rattle.stored.specs.Parts.{placeMosts, trailMosts, motionMosts, followMosts, courseMosts, lapMosts, guideMosts, guideIn, shownFlag, placeWords, trailWords, motionWords, followWords, courseWords, lapWords, guideWords}
 
 -- the letters CITTUMA1
@@ -28,5 +28,5 @@ wordsOf h =
     ++ spotFlag (h .here) ∷ h .«here_ms» ∷ motionWords (h .motion)
     ++ followWords (h .follow)
     ++ courseWords (h .course)
-    ++ flag (h .«auto_follow») ∷ flag (h .arrived) ∷ lapWords (h .lap)
+    ++ flagOf (h .«auto_follow») ∷ flagOf (h .arrived) ∷ lapWords (h .lap)
     ++ h .«updated_ms» ∷ shownFlag (h .guide) ∷ guideWords (guideIn (h .guide))

@@ -13,7 +13,7 @@ ghost use Prim.Native.Nat.{_+_, _<_, _≤_};
 ghost use lib.ListN.{length};
 ghost use lib.Seq.{paste};
 ghost use Rattle.log.specs.Entry.{signed as signedOf};
-ghost use Rattle.stored.specs.Fields.{most32, most16, most8, wordAt, narrowAt, flagAt, signedAt, pointAt, spotAt, headingAt, placeRead, lineOf, stageOf, modeOf, flag as flagOf, unsigned as unsignedOf, spotFlag, pointIn, headingFlag, headingIn, placeFlag, latIn, lonIn, lineTag, stageTag, modeTag};
+ghost use Rattle.stored.specs.Fields.{most32, most16, most8, wordAt, narrowAt, flagAt, signedAt, pointAt, spotAt, headingAt, placeRead, lineOfTag, stageOfTag, modeOfTag, flagOf, unsigned as unsignedOf, spotFlag, pointIn, headingFlag, headingIn, placeFlag, latIn, lonIn, lineTag, stageTag, modeTag};
 
 // The most that a word may be, by its field's type.
 pub const U64: u64 = 0xFFFF_FFFF_FFFF_FFFF;
@@ -153,7 +153,7 @@ pub fn place_at(words: &[u64], i: usize) -> Place
 }
 
 pub fn line_of(tag: u64) -> Line
-    ensures { λ r. ⌜ r ≡ lineOf tag ⌝ }
+    ensures { λ r. ⌜ r ≡ lineOfTag tag ⌝ }
 {
     match tag {
         1 => Line::Breadcrumb,
@@ -163,7 +163,7 @@ pub fn line_of(tag: u64) -> Line
 }
 
 pub fn pass_of(tag: u64) -> Pass
-    ensures { λ r. ⌜ r ≡ stageOf tag ⌝ }
+    ensures { λ r. ⌜ r ≡ stageOfTag tag ⌝ }
 {
     match tag {
         1 => Pass::Armed,
@@ -173,7 +173,7 @@ pub fn pass_of(tag: u64) -> Pass
 }
 
 pub fn mode_of(tag: u64) -> Mode
-    ensures { λ r. ⌜ r ≡ modeOf tag ⌝ }
+    ensures { λ r. ⌜ r ≡ modeOfTag tag ⌝ }
 {
     match tag {
         1 => Mode::Track,

@@ -14,7 +14,7 @@ ghost use Prim.Native.Nat.{_<_, _≤_};
 ghost use lib.ListN.{length, drop};
 ghost use Rattle.stored.specs.Fields.{within};
 ghost use Rattle.stored.specs.Parts.{wordCount, numberCount};
-ghost use Rattle.stored.specs.Stored.{mosts, homingAt, room, holds as holdsState, StateFits, wordsOf, headOf, numbersOf, Stores};
+ghost use Rattle.stored.specs.Stored.{mosts, homingAt, roomFor, holds as holdsState, StateFits, wordsOf, headOf, numbersOf, Stores};
 ghost use Rattle.stored.specs.Inner.{Loads};
 pub use stored_rebuild::HeldRebuild;
 pub use stored_rebuild::REBUILD_WORDS;
@@ -123,7 +123,7 @@ fn within(words: &[u64]) -> bool
 
 // Whether there is room for a state.
 pub fn has_room(words: &[u64], numbers: &[f32]) -> bool
-    ensures { λ r. ⌜ r ≡ room (now (words .entry)) (now (numbers .entry)) ⌝ }
+    ensures { λ r. ⌜ r ≡ roomFor (now (words .entry)) (now (numbers .entry)) ⌝ }
 {
     (WORDS <= words.len()) & (NUMBERS <= numbers.len())
 }

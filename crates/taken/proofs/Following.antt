@@ -30,7 +30,7 @@ use Rattle.state.specs.declared.Course.{Course}
 use Rattle.state.specs.State.{State, withTrack, withFollow}
 use Rattle.state.specs.Rule.{Done}
 use Rattle.follow.specs.Parts.{endedByThinning}
-use Rattle.follow.specs.Record.{afterThinning, recordedIn, recorded, keep, add, flush}
+use Rattle.follow.specs.Record.{afterThinning, recordedIn, recorded, keepIn, addIn, flushIn}
 use Rattle.follow.specs.Parts.{alongAt, courseFrom, leads, stopped, heldOff}
 use Rattle.follow.specs.Engage.{engageAt, engage, cutTo, leaveAt, forgotten, stopNothing, stopCourse, stopBreadcrumb, stopOn, stop}
 use Rattle.joining.specs.Join.{joinedTo, joinOn, mayJoin, joinWith, joining}
@@ -83,22 +83,22 @@ recorded-kept {C} {points} {s} d k sound o g =
     }
 
 module _ (C : ℕ) (least : 3 ≤ C) (room : C ≤ most) (points : ℕ) where
-  keep-kept : (p : Point) (s : State) → Kept C points s → Place p → Kept C points (keep C p s .state)
-  unfolding keep
+  keep-kept : (p : Point) (s : State) → Kept C points s → Place p → Kept C points (keepIn C p s .state)
+  unfolding keepIn
   keep-kept p s k P =
       let t = s .track in
       recorded-kept (trail.keep C p t) k (keep-sound C least p t (k .track .sound)) (keep-onward C least room p t (k .track) P)
       (grows C _ _ _ (one p (keep-keeps C least p t (k .track .sound))))
 
-  pub add-kept : (p : Point) (s : State) → Kept C points s → Place p → Kept C points (add C p s .state)
-  unfolding add
+  pub add-kept : (p : Point) (s : State) → Kept C points s → Place p → Kept C points (addIn C p s .state)
+  unfolding addIn
   add-kept p s k P =
       let t = s .track in
       recorded-kept (trail.add C p t) k (add-sound C least p t (k .track .sound)) (add-onward C least room p t (k .track) P)
       (grows C _ _ _ (add-keeps C least p t (k .track .sound)))
 
-  pub flush-kept : (s : State) → Kept C points s → Kept C points (flush C s .state)
-  unfolding flush
+  pub flush-kept : (s : State) → Kept C points s → Kept C points (flushIn C s .state)
+  unfolding flushIn
   flush-kept s k =
       let t = s .track in
       recorded-kept (trail.flush C t) k (flush-sound C least t (k .track .sound)) (flush-onward C least room t (k .track))

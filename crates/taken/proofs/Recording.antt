@@ -18,7 +18,7 @@ use Rattle.crumbs.specs.declared.Crumb.{Crumb}
 use Rattle.crumbs.specs.Crumb.{point}
 use Rattle.crumbs.specs.Choice.{last}
 use Rattle.trail.specs.Notes.{Note, thinnedIn}
-use Rattle.trail.specs.Trail.{Track, withCrumbs, fresh, toleranceM, thin, put, keep, flush, wait, simplify, add, reset}
+use Rattle.trail.specs.Trail.{Track, withCrumbs, fresh, toleranceM, thin, put, keep, flush, wait, simplify, add, resetTrack}
 use Rattle.trail.proofs.Rules.{keep-full, keep-room, flush-none, flush-some, bends, simplify-bends, simplify-straight, add-first, near, add-near, add-far}
 use Rattle.trail.proofs.Theorems.{Sound, thin-sound, flush-sound, Holding, MayKeep, nothing, one, Keeps, full}
 use Rattle.trail.proofs.Theorems as trail
@@ -155,8 +155,8 @@ module _ (C : ℕ) where
   unfolding fresh
   fresh-recorded = record { sound = record { held = omega arith; waiting = omega arith; tolerance = tolerance-least }; laid = tt; waiting = tt }
 
-  pub reset-recorded : (t : Track) → Recorded C (reset t .track)
-  unfolding reset
+  pub reset-recorded : (t : Track) → Recorded C (resetTrack t .track)
+  unfolding resetTrack
   reset-recorded t = record { sound = record { held = omega arith; waiting = omega arith; tolerance = tolerance-least }; laid = tt; waiting = tt }
 
   -- the first n crumbs, with nothing that waits and no turn-round
@@ -183,8 +183,8 @@ pub fresh-counted : Counted fresh
 unfolding fresh
 fresh-counted = uncounted _ refl
 
-pub reset-counted : (t : Track) → Counted (reset t .track)
-unfolding reset
+pub reset-counted : (t : Track) → Counted (resetTrack t .track)
+unfolding resetTrack
 reset-counted t = uncounted _ refl
 
 pub forgotten-none : (t : Track) → forgotten t .retrace ≡ 0

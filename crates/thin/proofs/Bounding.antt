@@ -3,15 +3,14 @@ use mathlib.Core.Path.{_≡_, refl, sym, ap, _∙_, subst}
 use mathlib.Core.Bool.{Bool, true, false, not}
 use lib.Dec.{T}
 use lib.Ieee.{Float, nan, inf, fin, binary32, ofBits, div, lt, eq, le, fits}
-use lib.Ieee.Fits.{add-fits}
-use Rattle.binary32.specs.Arithmetic.{_⊕_, _⊖_, _⊗_}
 use Rattle.binary32.specs.Root.{root}
 use Rattle.plane.specs.declared.Point.{Point}
-use Rattle.plane.specs.declared.Projection.{Projection}
-use Rattle.plane.specs.Plane.{distance, project, offSegment}
-use Rattle.binary32.proofs.roots.Monotone.{clear, square-clear, sum-clear}
+use Rattle.plane.specs.Plane.{offSegment}
+use Rattle.plane.specs.Square.{offSquare}
+use Rattle.binary32.proofs.roots.Monotone.{clear}
 use Rattle.binary32.proofs.roots.Bounds.{root-accept, root-reject}
-use Rattle.thin.specs.Bounds.{square, Under, Over}
+use Rattle.plane.proofs.squares.Far.{off-fits, off-not-below, off-is}
+use Rattle.thin.specs.Bounds.{Under, Over}
 
 never : {A : Type 0} → false ≡ true → A
 never e = absurd (subst (λ (b : Bool). T (not b)) e tt)
@@ -46,45 +45,30 @@ module _ {most x : Float} (e : x ≡ nan) where
   unfolding fits
   over-none = subst (Over most) (sym e) (record { held = tt; at = λ s k. absurd (no-least s k) })
 
-square-fits : (a b : Point) → T (fits binary32 (square a b))
-unfolding square
-square-fits a b = let east = b .east ⊖ a .east in let north = b .north ⊖ a .north in add-fits binary32 (east ⊗ east) (north ⊗ north)
-
-square-not-below : (a b : Point) → T (clear (square a b))
-unfolding square
-square-not-below a b =
-    let east = b .east ⊖ a .east in
-    let north = b .north ⊖ a .north in
-    sum-clear binary32 (east ⊗ east) (north ⊗ north) (square-clear binary32 east) (square-clear binary32 north)
-
 -- how far p is off the segment is the root of that square
-module _ (p a b : Point) {s : Float} {q : Projection} (Q : q ≡ project p a b) (S : s ≡ square p (q .point)) where
-  square-is : s ≡ square p (project p a b .point)
-  square-is = S ∙ ap (λ (z : Projection). square p (z .point)) Q
-
-  off-is : root binary32 s ≡ offSegment p a b
-  unfolding offSegment distance square
-  off-is = ap (root binary32) square-is
+module _ (p a b : Point) {s : Float} (S : s ≡ offSquare p a b) where
+  root-is : root binary32 s ≡ offSegment p a b
+  root-is = ap (root binary32) S ∙ sym (off-is p a b)
 
   s-fits : T (fits binary32 s)
-  s-fits = subst (λ (z : Float). T (fits binary32 z)) (sym S) (square-fits p (q .point))
+  s-fits = subst (λ (z : Float). T (fits binary32 z)) (sym S) (off-fits p a b)
 
   s-clear : T (clear s)
-  s-clear = subst (λ (z : Float). T (clear z)) (sym S) (square-not-below p (q .point))
+  s-clear = subst (λ (z : Float). T (clear z)) (sym S) (off-not-below p a b)
 
   module _ (most : Float) where
     pub surely-in : {lo : Float} → Under most lo → le s lo ≡ true → false ≡ not (le (offSegment p a b) most)
     surely-in {lo} u h =
         let k = root-accept binary32 s lo most s-fits (u .held) s-clear h (u .at s h) in
-        sym (ap (λ (z : Float). not (le z most)) (sym off-is) ∙ ap not k)
+        sym (ap (λ (z : Float). not (le z most)) (sym root-is) ∙ ap not k)
 
     pub surely-out : {hi : Float} → Over most hi → le hi s ≡ true → true ≡ not (le (offSegment p a b) most)
     surely-out {hi} u h =
         let k = root-reject binary32 s hi most s-fits (u .held) h (u .at s h) in
-        sym (ap (λ (z : Float). not (le z most)) (sym off-is) ∙ ap not k)
+        sym (ap (λ (z : Float). not (le z most)) (sym root-is) ∙ ap not k)
 
     pub by-root : {r : Float} {t : Bool} → r ≡ root binary32 s → t ≡ not (le r most) → t ≡ not (le (offSegment p a b) most)
-    by-root R e = e ∙ ap (λ (z : Float). not (le z most)) (R ∙ off-is)
+    by-root R e = e ∙ ap (λ (z : Float). not (le z most)) (R ∙ root-is)
 
 -- what the test of a place that was read says of the rule's
 module _ (most : Float) {t : Bool} {p a b x y z : Point} (e : t ≡ not (le (offSegment p a b) most)) (f : p ≡ x) (g : a ≡ y) (h : b ≡ z) where

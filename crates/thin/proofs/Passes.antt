@@ -9,7 +9,7 @@ use lib.Ieee.{Float}
 use Rattle.crumbs.specs.declared.Crumb.{Crumb}
 use Rattle.crumbs.specs.Choice.{Choice, end, leave, strike, first, last}
 use Rattle.thin.specs.Crumb.{clear, farther, reach, twoOn, passBy, halvingPass}
-use Rattle.thin.specs.Inner.{step}
+use Rattle.thin.specs.Inner.{stepBy}
 
 -- ---- a step goes on, and stays within the line
 pub record Within (step : Crumb → List Crumb → ℕ) : Type 0 where
@@ -46,8 +46,8 @@ pub twoOn-within : Within twoOn
 unfolding twoOn
 twoOn-within = record { low = λ a l h. omega arith; high = λ a l h. omega arith }
 
-pub step-within : (halve : Bool) (t : Float) → Within (step halve t)
-unfolding step
+pub step-within : (halve : Bool) (t : Float) → Within (stepBy halve t)
+unfolding stepBy
 step-within true t = twoOn-within
 step-within false t = reach-within t
 

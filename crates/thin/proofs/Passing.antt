@@ -16,19 +16,19 @@ use Rattle.crumbs.proofs.Crumbs.{length-crumbs, drop-crumbs, take-crumbs}
 use Rattle.crumbs.proofs.Crumbs.{crumbs-put, behind-put, length-put, put-same, put-other, put-copied}
 use Rattle.thin.specs.Crumb.{twoOn, passBy}
 use Rattle.thin.specs.Promises.{Stood}
-use Rattle.thin.specs.Inner.{step, Passed}
+use Rattle.thin.specs.Inner.{stepBy, Passed}
 use Rattle.thin.proofs.Passes.{step-within, pass-drop, pass-none, pass-keep, pass-few}
 use Rattle.thin.proofs.Reaching.{after, length-after}
 
 -- a halving pass goes two on where two follow
-pub step-halving : (t : Float) (buf : List Float) (len anchor : ℕ) → anchor + 2 < len → step true t (crumbAt buf anchor) (after buf len anchor) ≡ 2
-unfolding step twoOn
+pub step-halving : (t : Float) (buf : List Float) (len anchor : ℕ) → anchor + 2 < len → stepBy true t (crumbAt buf anchor) (after buf len anchor) ≡ 2
+unfolding stepBy twoOn
 step-halving t buf len anchor h = omega (arith, length-after buf len anchor)
 
 -- what is still to come of a pass, behind the crumb that it stands at
 abbrev toCome : Bool → Float → ℕ → List Float → ℕ → List Crumb
 toCome halve t len buf anchor =
-    passBy (step halve t) (step halve t (crumbAt buf anchor) (after buf len anchor) - 1) (after buf len anchor)
+    passBy (stepBy halve t) (stepBy halve t (crumbAt buf anchor) (after buf len anchor) - 1) (after buf len anchor)
 
 -- ---- where each crumb stood before
 pub stood-here : (n : ℕ) (buf : List Float) → Stood n buf buf
@@ -48,7 +48,7 @@ stood-put n buf to from fits inside = record { among = λ i h. at i h (ℕ-discr
 
 -- What the loop carries on: the crumbs kept so far, and what is still to come, are what the pass leaves.
 pub record Kept (halve : Bool) (t : Float) (len : ℕ) (buf₀ buf : List Float) (kept anchor : ℕ) : Type 0 where
-  pub done : take kept (crumbs len buf) ++ toCome halve t len buf anchor ≡ passBy (step halve t) 0 (crumbs len buf₀)
+  pub done : take kept (crumbs len buf) ++ toCome halve t len buf anchor ≡ passBy (stepBy halve t) 0 (crumbs len buf₀)
   pub beyond : behind len buf ≡ behind len buf₀
   pub stood : Stood len buf₀ buf
   pub size : length buf ≡ length buf₀
@@ -73,7 +73,7 @@ module _ {halve : Bool} {t : Float} {len : ℕ} where
       record {
         done =
             ap (λ l. take 1 l ++ toCome halve t len buf 0) e
-            ∙ sym (ap (passBy (step halve t) 0) e ∙ pass-keep (step halve t) (crumbAt buf 0) (after buf len 0));
+            ∙ sym (ap (passBy (stepBy halve t) 0) e ∙ pass-keep (stepBy halve t) (crumbAt buf 0) (after buf len 0));
         beyond = refl;
         stood = stood-here len buf;
         size = refl;
@@ -89,8 +89,8 @@ module _ {halve : Bool} {t : Float} {len : ℕ} where
         let none : after buf len anchor ≡ [] =
         drop-of-length-le (crumbs len buf) {i = suc anchor} (omega (arith, length-crumbs len buf)) in
         let no-more : toCome halve t len buf anchor ≡ [] =
-        ap (passBy (step halve t) (step halve t (crumbAt buf anchor) (after buf len anchor) - 1)) none
-        ∙ pass-none (step halve t) (step halve t (crumbAt buf anchor) (after buf len anchor) - 1) in
+        ap (passBy (stepBy halve t) (stepBy halve t (crumbAt buf anchor) (after buf len anchor) - 1)) none
+        ∙ pass-none (stepBy halve t) (stepBy halve t (crumbAt buf anchor) (after buf len anchor) - 1) in
         record {
           kept =
               sym (take-crumbs kept len buf (omega (arith, k)))
@@ -101,30 +101,30 @@ module _ {halve : Bool} {t : Float} {len : ℕ} where
         }
 
     -- where a crumb follows, the next is past the anchor and within the line
-    pub next-on : anchor + 1 < len → 1 ≤ step halve t (crumbAt buf anchor) (after buf len anchor)
+    pub next-on : anchor + 1 < len → 1 ≤ stepBy halve t (crumbAt buf anchor) (after buf len anchor)
     next-on more = step-within halve t .low (crumbAt buf anchor) (after buf len anchor) (omega (arith, length-after buf len anchor))
 
-    next-high : anchor + 1 < len → step halve t (crumbAt buf anchor) (after buf len anchor) ≤ len - suc anchor
+    next-high : anchor + 1 < len → stepBy halve t (crumbAt buf anchor) (after buf len anchor) ≤ len - suc anchor
     next-high more =
         omega (arith, step-within halve t .high (crumbAt buf anchor) (after buf len anchor) (omega (arith, length-after buf len anchor)), length-after buf len anchor)
 
     -- where one crumb follows, the next is that one
-    pub next-last : anchor + 2 ≡ len → len - 1 ≡ anchor + step halve t (crumbAt buf anchor) (after buf len anchor)
+    pub next-last : anchor + 2 ≡ len → len - 1 ≡ anchor + stepBy halve t (crumbAt buf anchor) (after buf len anchor)
     next-last e = omega (arith, next-on (omega arith), next-high (omega arith))
 
-    module _ {next : ℕ} (more : anchor + 1 < len) (is : next ≡ anchor + step halve t (crumbAt buf anchor) (after buf len anchor)) where
+    module _ {next : ℕ} (more : anchor + 1 < len) (is : next ≡ anchor + stepBy halve t (crumbAt buf anchor) (after buf len anchor)) where
       pub next-inside : next < len
       next-inside = omega (arith, next-high more)
 
       -- the rule goes on at the next
       come : toCome halve t len buf anchor ≡ crumbAt buf next ∷ toCome halve t len buf next
       come =
-          let n = step halve t (crumbAt buf anchor) (after buf len anchor) - 1 in
-          let at : suc anchor + (step halve t (crumbAt buf anchor) (after buf len anchor) - 1) ≡ next = omega (arith, next-on more) in
-          pass-drop (step halve t) n (after buf len anchor)
-          ∙ (ap (passBy (step halve t) 0)
+          let n = stepBy halve t (crumbAt buf anchor) (after buf len anchor) - 1 in
+          let at : suc anchor + (stepBy halve t (crumbAt buf anchor) (after buf len anchor) - 1) ≡ next = omega (arith, next-on more) in
+          pass-drop (stepBy halve t) n (after buf len anchor)
+          ∙ (ap (passBy (stepBy halve t) 0)
           (drop-drop n (suc anchor) (crumbs len buf) ∙ (ap (λ i. drop i (crumbs len buf)) at ∙ drop-crumbs len buf next next-inside))
-          ∙ pass-keep (step halve t) (crumbAt buf next) (after buf len next))
+          ∙ pass-keep (stepBy halve t) (crumbAt buf next) (after buf len next))
 
       -- the next is put behind those kept, at or before where it was
       before : kept ≤ next

@@ -18,7 +18,7 @@ use Rattle.thin.specs.declared.Thinned.the-variants.{Left, Refused}
 use Rattle.thin.specs.Crumb.{measuringPass, halvingPass, doubled, target, Thinning, passesFrom, thinning}
 use Rattle.thin.specs.Questions.{question9}
 use Rattle.thin.specs.Promises.{Stood, left, refused, thinAnswer, thinned, ThinDone}
-use Rattle.thin.specs.Inner.{step, Passed}
+use Rattle.thin.specs.Inner.{stepBy, Passed}
 use Rattle.thin.proofs.Passes.{pass-choice}
 use Rattle.thin.proofs.Passing.{stood-here, stood-then}
 use Rattle.thin.proofs.Asked.{true-false, asked}
@@ -56,12 +56,12 @@ answer-refused size t l h = rw (h, thinAnswer)
 -- ---- the code, a pass at a time
 module _ {p n r : ℕ} {t : Float} {entry exit : List Float} (d : Passed (ltb 17 p) t n entry exit r) where
   was-measured : p ≤ 17 → crumbs r exit ≡ measuringPass t (crumbs n entry)
-  unfolding step measuringPass
-  was-measured h = d .kept ∙ rw (le-ltb 17 p h, step)
+  unfolding stepBy measuringPass
+  was-measured h = d .kept ∙ rw (le-ltb 17 p h, stepBy)
 
   was-halved : 17 < p → crumbs r exit ≡ halvingPass (crumbs n entry)
-  unfolding step halvingPass
-  was-halved h = d .kept ∙ rw (lt-ltb 17 p h, step)
+  unfolding stepBy halvingPass
+  was-halved h = d .kept ∙ rw (lt-ltb 17 p h, stepBy)
 
 -- what the loop carries on: the passes from here on are the thinning
 pub record Going (len : ℕ) (t : Float) (most : ℕ) (buf₀ buf : List Float) (kept : ℕ) (d : Float) (passes : ℕ) : Type 0 where
@@ -113,7 +113,7 @@ module _ {len : ℕ} {t : Float} {most : ℕ} {buf₀ buf : List Float} {kept : 
 
     fewer-left : r ≤ kept
     fewer-left =
-        omega (arith, choice-length (pass-choice (step (ltb 17 p) d) 0 (crumbs kept buf)), count (q .kept), length-crumbs kept buf)
+        omega (arith, choice-length (pass-choice (stepBy (ltb 17 p) d) 0 (crumbs kept buf)), count (q .kept), length-crumbs kept buf)
 
     -- the halving pass leaves no more than T, so a pass that leaves more is not the last
     pub not-last : most < r → p ≤ 17

@@ -3,16 +3,7 @@ use mathlib.Core.Path.{_≡_}
 use mathlib.Core.Bool.{true}
 use lib.Dec.{T}
 use lib.Ieee.{Float, binary32, lt, le, fits}
-use Rattle.binary32.specs.Arithmetic.{_⊕_, _⊖_, _⊗_}
 use Rattle.binary32.specs.Root.{root}
-use Rattle.plane.specs.declared.Point.{Point}
-
--- what stands under the root of `distance`
-unfoldable pub square : Point → Point → Float
-square a b =
-    let east = b .east ⊖ a .east in
-    let north = b .north ⊖ a .north in
-    east ⊗ east ⊕ north ⊗ north
 
 -- where anything is at most lo, its root is at most `most`; a NaN, which nothing is at most, will do
 pub record Under (most lo : Float) : Type 0 where

@@ -10,12 +10,13 @@ ghost use Rattle.crumbs.specs.Crumb.{capacity, crumbAt, crumbs};
 ghost use Rattle.thin.specs.Crumb.{reach};
 ghost use Rattle.thin.specs.Questions.{question9};
 ghost use Rattle.thin.specs.Promises.{ThinDone};
-ghost use Rattle.thin.specs.Inner.{step, Passed};
+ghost use Rattle.thin.specs.Inner.{stepBy, Passed};
 ghost use mathlib.Core.Bool.{not};
 ghost use lib.Ieee.{le};
 ghost use Rattle.plane.specs.Plane.{offSegment};
-ghost use Rattle.thin.specs.Bounds.{square, Under, Over};
+ghost use Rattle.thin.specs.Bounds.{Under, Over};
 use plane::Point;
+use plane::squares;
 
 // A kept crumb replaces at most this many before the next.
 const SPAN: usize = 256;
@@ -56,21 +57,12 @@ fn found(tolerance: f32) -> Bounds
     Bounds { lo, hi }
 }
 
-// The square of the distance from `a` to `b`.
-fn square(a: Point, b: Point) -> f32
-    ensures { λ r. ⌜ r ≡ square a b ⌝ }
-{
-    let east = b.east - a.east;
-    let north = b.north - a.north;
-    east * east + north * north
-}
-
 // Whether `p` strays from the segment a-b; a NaN does. A root is taken only where the bounds do not say.
 fn strays(p: Point, a: Point, b: Point, tolerance: f32, lo: f32, hi: f32) -> bool
     requires { ⌜ (Under tolerance lo) × (Over tolerance hi) ⌝ }
     ensures { λ r. ⌜ r ≡ not (le (offSegment p a b) tolerance) ⌝ }
 {
-    let s = square(p, plane::project(p, a, b).point);
+    let s = squares::off_square(p, a, b);
     if s <= lo {
         return false;
     }
@@ -114,7 +106,7 @@ fn next(
 ) -> usize
     requires { ⌜ (anchor + 2 < len) × (len ≤ capacity (length (now buf))) ⌝ }
     requires { ⌜ (Under tolerance lo) × (Over tolerance hi) ⌝ }
-    ensures { λ r. ⌜ r ≡ anchor + step halve tolerance (crumbAt (now (buf .entry)) anchor) (drop (suc anchor) (crumbs len (now (buf .entry)))) ⌝ }
+    ensures { λ r. ⌜ r ≡ anchor + stepBy halve tolerance (crumbAt (now (buf .entry)) anchor) (drop (suc anchor) (crumbs len (now (buf .entry)))) ⌝ }
 {
     if halve {
         return anchor + 2;

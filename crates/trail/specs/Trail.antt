@@ -128,8 +128,8 @@ unfoldable pub add : ℕ → Point → Rule
 add C p t = addBehind (last (t .crumbs)) C p t
 
 -- "Reset: the guide is reset": nothing is held, nothing waits, and no turn-round is under way. `retrace_len` stays, as in the Rust.
-unfoldable pub reset : Rule
-reset t =
+unfoldable pub resetTrack : Rule
+resetTrack t =
     record {
       track = record { crumbs = []; tolerance = toleranceM; window = []; retrace = 0; retraceLen = t .retraceLen };
       notes = Reset ∷ [];

@@ -12,7 +12,7 @@ ghost use Prim.Native.Nat.{_<_, _≤_};
 ghost use lib.ListN.{length};
 ghost use Rattle.crumbs.specs.Crumb.{capacity};
 ghost use Rattle.crumbs.specs.Choice.{last};
-ghost use Rattle.trail.specs.Trail.{windowPlaces, strays, thin, put, keep, flush, wait, simplify, add, reset};
+ghost use Rattle.trail.specs.Trail.{windowPlaces, strays, thin, put, keep, flush, wait, simplify, add, resetTrack};
 ghost use Rattle.trail.specs.View.{waitingAt, places, TrailFit};
 ghost use Rattle.trail.specs.Inner.{Emptied, TrailChanges, TrailFollows, Records};
 
@@ -60,7 +60,7 @@ pub fn new() -> Trail
 
 // Forget the breadcrumb.
 pub fn reset(t: Trail) -> Trail
-    ensures { λ r. ⌜ TrailChanges reset t r ⌝ }
+    ensures { λ r. ⌜ TrailChanges resetTrack t r ⌝ }
 {
     Trail {
         len: 0,

@@ -18,7 +18,7 @@ use Rattle.state.specs.declared.Line.the-variants as line
 use Rattle.state.specs.declared.Event.{Event}
 use Rattle.state.specs.declared.Homing.{Homing}
 use Rattle.state.specs.State.{State, stateOf}
-use Rattle.follow.specs.Record.{recordedIn, recorded, keep}
+use Rattle.follow.specs.Record.{recordedIn, recorded, keepIn}
 use Rattle.follow.specs.Parts.{heldOff}
 use Rattle.follow.specs.Engage.{cutTo, leaveAt, stopNothing, stopCourse, stopBreadcrumb, stopOn, stop}
 use Rattle.follow.specs.View.{HomingFit, courseOf, Changes, Follows}
@@ -32,7 +32,7 @@ use Rattle.update.specs.View.{Updates}
 
 -- ---- the placed line is as long as it was
 left-line : (C : ℕ) (matched : Spot) (segment : ℕ) (s : State) → leaveAt C matched segment s .state .course .«line_len» ≡ s .course .«line_len»
-unfolding leaveAt keep recorded recordedIn cutTo
+unfolding leaveAt keepIn recorded recordedIn cutTo
 left-line C Nowhere segment s = refl
 left-line C (At p) segment s = refl
 

@@ -14,9 +14,9 @@ use Rattle.plane.specs.declared.Heading.the-variants as heading
 use Rattle.state.specs.declared.Mode.{Mode}
 use Rattle.state.specs.declared.Mode.the-variants as mode
 use Rattle.state.specs.declared.Guide.{Guide}
-use Rattle.stored.specs.Fields.{most16, wordAt, flagAt, modeOf, headingOf, modeTag, headingFlag, headingIn}
-use Rattle.door.specs.Through.{flagOf}
-use Rattle.door.specs.GuideWords.{guideSize, guideWords, areGuide, guideFrom, guideOf, GuideReadBack}
+use Rattle.stored.specs.Fields.{most16, wordAt, flagAt, modeOfTag, headingOf, modeTag, headingFlag, headingIn, flagOf}
+use Rattle.stored.specs.Parts.{guideWords}
+use Rattle.door.specs.GuideWords.{guideSize, areGuide, guideFrom, guideOf, GuideReadBack}
 
 -- ---- written
 -- ten words written one by one to a list that has room for them
@@ -36,7 +36,7 @@ ten-written (_ ∷ _ ∷ _ ∷ _ ∷ _ ∷ _ ∷ _ ∷ _ ∷ _ ∷ []) a b c d e
 ten-written (_ ∷ _ ∷ _ ∷ _ ∷ _ ∷ _ ∷ _ ∷ _ ∷ _ ∷ _ ∷ w) a b c d e f g h i j long = refl
 
 -- ---- read
-pub mode-rest : (n : ℕ) → n ≢ 1 → n ≢ 2 → n ≢ 3 → mode.Direct ≡ modeOf n
+pub mode-rest : (n : ℕ) → n ≢ 1 → n ≢ 2 → n ≢ 3 → mode.Direct ≡ modeOfTag n
 mode-rest zero a b c = refl
 mode-rest (suc zero) a b c = absurd (a refl)
 mode-rest (suc (suc zero)) a b c = absurd (b refl)
@@ -85,7 +85,7 @@ unfolding guideOf
 no-guide w told e = let no : areGuide w ≡ false = sym told ∙ not-true _ e in simp no
 
 -- ---- read back
-mode-back : (m : Mode) → modeOf (modeTag m) ≡ m
+mode-back : (m : Mode) → modeOfTag (modeTag m) ≡ m
 mode-back mode.Direct = refl
 mode-back mode.Track = refl
 mode-back mode.OffTrack = refl
@@ -98,12 +98,10 @@ mode-most mode.OffTrack = refl
 mode-most mode.Arrived = refl
 
 flag-back : (b : Bool) → eqb (flagOf b) 1 ≡ b
-unfolding flagOf
 flag-back true = refl
 flag-back false = refl
 
 flag-most : (b : Bool) → leb (flagOf b) 1 ≡ true
-unfolding flagOf
 flag-most true = refl
 flag-most false = refl
 
@@ -119,7 +117,7 @@ long-enough : (n : ℕ) → guideSize ≤ suc (suc (suc (suc (suc (suc (suc (suc
 long-enough n = omega arith
 
 pub guide-read-back : GuideReadBack
-unfolding guideOf areGuide guideFrom guideWords
+unfolding guideOf areGuide guideFrom
 guide-read-back g bearing way ws =
     let long : leb guideSize (length (guideWords g ++ ws)) ≡ true = le-leb guideSize (length (guideWords g ++ ws)) (long-enough (length ws)) in
     simp (long, mode-most, flag-most, known-most, le-leb (g .bearing) most16 bearing, le-leb (headingIn (g .heading)) most16 way, mode-back, flag-back, heading-back)

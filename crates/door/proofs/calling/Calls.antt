@@ -21,7 +21,7 @@ use Rattle.questions.proofs.Counted.{split}
 use Rattle.homing.specs.declared.Changed.{Changed}
 use Rattle.homing.specs.Answers.{saysReply}
 use Rattle.homing.specs.Promises.{MakesNew, Replays}
-use Rattle.stored.specs.Stored.{room, wordCount, numberCount}
+use Rattle.stored.specs.Stored.{roomFor, wordCount, numberCount}
 use Rattle.door.specs.Through.{numberOf, noState, noStateWith, Leaves}
 use Rattle.door.specs.Calls.{New, Observe}
 use Rattle.door.proofs.numbering.Through.{was-false, was-true}
@@ -41,7 +41,7 @@ first-asked : (b : Bool) → unless b 1 ≡ (unless b 1 orElse 0)
 first-asked true = refl
 first-asked false = refl
 
-module _ {b : List Float} {w : List ℕ} {n : List Float} {made : Changed} {number : ℕ} {fits : Bool} (new : MakesNew b made) (is : fits ≡ room w n) where
+module _ {b : List Float} {w : List ℕ} {n : List Float} {made : Changed} {number : ℕ} {fits : Bool} (new : MakesNew b made) (is : fits ≡ roomFor w n) where
   pub no-room : not fits ≡ true → number ≡ noStateWith (length b) → New b w n number w n
   no-room e asked =
       record {
@@ -64,7 +64,7 @@ module _ {b : List Float} {w : List ℕ} {n : List Float} {made : Changed} {numb
         leaves = leaves;
       }
 
-pub room-found : (w : List ℕ) (n : List Float) {fits : Bool} → fits ≡ room w n → not fits ≡ false → (wordCount ≤ length w) × (numberCount ≤ length n)
+pub room-found : (w : List ℕ) (n : List Float) {fits : Bool} → fits ≡ roomFor w n → not fits ≡ false → (wordCount ≤ length w) × (numberCount ≤ length n)
 room-found w n is e =
     let two = split (leb wordCount (length w)) (leb numberCount (length n)) (sym is ∙ was-true e) in
     (leb-true wordCount (length w) (two .0), leb-true numberCount (length n) (two .1))

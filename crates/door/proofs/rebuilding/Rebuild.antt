@@ -12,13 +12,14 @@ use lib.Ieee.{Float}
 use Rattle.state.specs.declared.Homing.{Homing}
 use Rattle.log.specs.declared.Utc.{Utc}
 use Rattle.rebuild.specs.declared.Rebuild.{Rebuild}
-use Rattle.rebuild.specs.Rebuild.{new, caughtUp}
+use Rattle.rebuild.specs.Rebuild.{newRebuild, caughtUp}
 use Rattle.restart.specs.declared.Settled.{Settled}
 use Rattle.restart.specs.Promises.{SettlesBreadcrumb}
 use Rattle.stored.specs.Stored.{stored, Stores}
 use Rattle.stored.specs.Rebuilt.{rebuildCount, storedRebuild, StoresRebuild}
 use Rattle.stored.specs.Inner.{LoadsRebuild}
-use Rattle.door.specs.Through.{flagOf, noState, Leaves}
+use Rattle.stored.specs.Fields.{flagOf}
+use Rattle.door.specs.Through.{noState, Leaves}
 use Rattle.door.specs.Rebuild.{LeavesRebuild, RebuildNew, RebuildCaughtUp, OnBoth}
 use Rattle.door.proofs.answering.Answers.{held-same, held-none}
 
@@ -36,7 +37,7 @@ new-refused recovered v short =
       leaves = record { taken = λ e. absurd (omega (arith, e)); refused = λ _. refl };
     }
 
-pub new-stored : {r : Rebuild} {v v′ : List ℕ} (recovered : ℕ) → rebuildCount ≤ length v → r ≡ new recovered → StoresRebuild r v v′ → RebuildNew recovered v 0 v′
+pub new-stored : {r : Rebuild} {v v′ : List ℕ} (recovered : ℕ) → rebuildCount ≤ length v → r ≡ newRebuild recovered → StoresRebuild r v v′ → RebuildNew recovered v 0 v′
 new-stored {v = v} {v′ = v′} recovered long made s =
     record {
       asked = simp (le-leb rebuildCount (length v) long);

@@ -21,7 +21,7 @@ use Rattle.state.specs.declared.Homing.{Homing}
 use Rattle.state.specs.State.{State, stateOf}
 use Rattle.state.specs.Rule.{Done}
 use Rattle.follow.specs.Parts.{endedByThinning}
-use Rattle.follow.specs.Record.{afterThinning, recordedIn, recorded, add}
+use Rattle.follow.specs.Record.{afterThinning, recordedIn, recorded, addIn}
 use Rattle.follow.specs.View.{HomingFit, courseOf, Follows}
 use Rattle.guide.specs.declared.Told.{Told}
 use Rattle.update.specs.Update.{update}
@@ -42,15 +42,15 @@ unfolding afterThinning
 after-alone true f never = left-alone (f .line) f never
 after-alone false f never = refl
 
-add-follow : (C : ℕ) (p : Point) (s : State) → (s .follow .line ≡ lines.Breadcrumb → ⊥) → add C p s .state .follow ≡ s .follow
-unfolding add recorded recordedIn
+add-follow : (C : ℕ) (p : Point) (s : State) → (s .follow .line ≡ lines.Breadcrumb → ⊥) → addIn C p s .state .follow ≡ s .follow
+unfolding addIn recorded recordedIn
 add-follow C p s never = after-alone (thinnedIn (trailRules.add C p (s .track) .notes)) (s .follow) never
 
-pub add-course : (C : ℕ) (p : Point) (s : State) → add C p s .state .course ≡ s .course
-unfolding add recorded recordedIn
+pub add-course : (C : ℕ) (p : Point) (s : State) → addIn C p s .state .course ≡ s .course
+unfolding addIn recorded recordedIn
 add-course C p s = refl
 
-module _ (h r : Homing) (p : Point) (entry mid : List Float) (grows : Grows h) (f : Follows (λ C. add C p) h entry r mid) where
+module _ (h r : Homing) (p : Point) (entry mid : List Float) (grows : Grows h) (f : Follows (λ C. addIn C p) h entry r mid) where
   pub grown-follow : r .follow ≡ h .follow
   grown-follow = ap (λ (s : State). s .follow) (f .same) ∙ add-follow _ p (stateOf h entry) grows
 
@@ -87,7 +87,7 @@ module _ (h r : Homing) (p : Point) (entry mid : List Float) (grows : Grows h) (
       let room : capacity (length mid) ≡ C = ap (λ (n : ℕ). capacity n) (f .size) in
       let course : courseOf r line ≡ courseOf h line = ap (λ (c : Course). crumbs (c .«line_len») line) grown-course in
       let len = update-len (courseOf r line) p now r mid t exit (λ e. absurd (grown-off e)) u in
-      let whole : update (capacity (length mid)) (courseOf r line) p now (stateOf r mid) ≡ update C (courseOf h line) p now (add C p (stateOf h entry) .state) =
+      let whole : update (capacity (length mid)) (courseOf r line) p now (stateOf r mid) ≡ update C (courseOf h line) p now (addIn C p (stateOf h entry) .state) =
       ap (λ (n : ℕ). update n (courseOf r line) p now (stateOf r mid)) room
       ∙ ap (λ (l : List Crumb). update C l p now (stateOf r mid)) course
       ∙ ap (λ (s : State). update C (courseOf h line) p now s) (f .same) in

@@ -1,7 +1,7 @@
 -- `follow::add` meets its contract. Assumes nothing.
 use denote.Ref.{now}
 use Rattle.trail.specs.Trail as trail
-use Rattle.follow.specs.Record.{add}
+use Rattle.follow.specs.Record.{addIn}
 use Rattle.follow.proofs.Recording.{taken-over}
 use borrow.Author.Needs.{needs}
 use Rattle.follow.proofs.add.Statement.{statement}
@@ -17,7 +17,7 @@ same-length : tie.Need-same-length
 same-length c = search needs
 
 returns : tie.Need-returns
-unfolding add
+unfolding addIn
 returns c = let k = c .before .before .before in let g = k .before .before .before .before .args in taken-over (λ C. trail.add C (g .p)) (g .h) (c .recorded .result) (k .add .result) (now (g .crumbs)) (k .add .last .1 .0) (k .add .ensures) (c .recorded .ensures)
 
 pub add-spec : {M : Type 1} → statement M

@@ -1,7 +1,7 @@
 -- `follow::flush` meets its contract. Assumes nothing.
 use denote.Ref.{now}
 use Rattle.trail.specs.Trail as trail
-use Rattle.follow.specs.Record.{flush}
+use Rattle.follow.specs.Record.{flushIn}
 use Rattle.follow.proofs.Recording.{taken-over}
 use borrow.Author.Needs.{needs}
 use Rattle.follow.proofs.flush.Statement.{statement}
@@ -17,7 +17,7 @@ same-length : tie.Need-same-length
 same-length c = search needs
 
 returns : tie.Need-returns
-unfolding flush
+unfolding flushIn
 returns c = let k = c .before .before .before in let g = k .before .before .before .before .args in taken-over (trail.flush) (g .h) (c .recorded .result) (k .flush .result) (now (g .crumbs)) (k .flush .last .1 .0) (k .flush .ensures) (c .recorded .ensures)
 
 pub flush-spec : {M : Type 1} → statement M

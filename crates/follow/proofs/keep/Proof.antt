@@ -1,7 +1,7 @@
 -- `follow::keep` meets its contract. Assumes nothing.
 use denote.Ref.{now}
 use Rattle.trail.specs.Trail as trail
-use Rattle.follow.specs.Record.{keep}
+use Rattle.follow.specs.Record.{keepIn}
 use Rattle.follow.proofs.Recording.{taken-over}
 use borrow.Author.Needs.{needs}
 use Rattle.follow.proofs.keep.Statement.{statement}
@@ -17,7 +17,7 @@ same-length : tie.Need-same-length
 same-length c = search needs
 
 returns : tie.Need-returns
-unfolding keep
+unfolding keepIn
 returns c = let k = c .before .before .before in let g = k .before .before .before .before .args in taken-over (λ C. trail.keep C (g .p)) (g .h) (c .recorded .result) (k .keep .result) (now (g .crumbs)) (k .keep .last .1 .0) (k .keep .ensures) (c .recorded .ensures)
 
 pub keep-spec : {M : Type 1} → statement M

@@ -22,7 +22,7 @@ use Rattle.calls.specs.Questions.{asksFix, _orElse_}
 use Rattle.log.specs.declared.Utc.the-variants as utc
 use Rattle.log.specs.declared.Sample.{Sample}
 use Rattle.log.specs.declared.Entry.{Entry}
-use Rattle.log.specs.Entry.{nextOf, recordCount, walk, chain, used, kindNumber, entryAt}
+use Rattle.log.specs.Entry.{nextOf, recordCount, recordsFrom, chain, used, kindNumber, entryAt}
 use Rattle.calls.specs.Calls.{asksPlace}
 use Rattle.log.specs.Questions.{question6, question7, question8, asksSamples, asksEntry, asksRecord, asksRecords, asksChain, asksFile}
 use Rattle.log.proofs.file_questions.Chain.{and-left, and-right, ends, steps-are}
@@ -77,33 +77,33 @@ module _ {f : List ℕ} {count index left : ℕ} (before : Stepping f count inde
     stepping-none h = sym (ends-none left count f index h) ∙ is
 
 -- ---- the records along the chain
-walk-on : (n : ℕ) (f : List ℕ) (r : ℕ) → 0 < n → r ≢ 0 → walk n f r ≡ r ∷ walk (n - 1) f (nextOf f r)
-unfolding walk
+walk-on : (n : ℕ) (f : List ℕ) (r : ℕ) → 0 < n → r ≢ 0 → recordsFrom n f r ≡ r ∷ recordsFrom (n - 1) f (nextOf f r)
+unfolding recordsFrom
 walk-on zero f r p h = absurd (omega arith)
 walk-on (suc n) f zero p h = absurd (h refl)
 walk-on (suc n) f (suc r) p h =
     let e : suc n - 1 ≡ n = omega arith in
     rw e
 
-walk-over : (n : ℕ) (f : List ℕ) (r : ℕ) → r ≡ 0 → walk n f r ≡ []
-unfolding walk
+walk-over : (n : ℕ) (f : List ℕ) (r : ℕ) → r ≡ 0 → recordsFrom n f r ≡ []
+unfolding recordsFrom
 walk-over zero f r h = refl
 walk-over (suc n) f r h = rw h
 
-walk-none : (n : ℕ) (f : List ℕ) (r : ℕ) → n ≤ 0 → walk n f r ≡ []
-unfolding walk
+walk-none : (n : ℕ) (f : List ℕ) (r : ℕ) → n ≤ 0 → recordsFrom n f r ≡ []
+unfolding recordsFrom
 walk-none zero f r h = refl
 walk-none (suc n) f r h = absurd (omega arith)
 
 pub record Walking (f : List ℕ) (count index left : ℕ) : Type 0 where
-  pub rest : asksRecords f (walk left f index) ≡ asksRecords f (walk count f (nextOf f 0))
+  pub rest : asksRecords f (recordsFrom left f index) ≡ asksRecords f (recordsFrom count f (nextOf f 0))
 
 pub walking-start : (f : List ℕ) (count : ℕ) {index : ℕ} → index ≡ nextOf f 0 → Walking f count index count
-walking-start f count {index} e = record { rest = ap (λ r. asksRecords f (walk count f r)) e }
+walking-start f count {index} e = record { rest = ap (λ r. asksRecords f (recordsFrom count f r)) e }
 
 module _ {f : List ℕ} {count index left : ℕ} (before : Walking f count index left) where
   split : 0 < left → index ≢ 0
-      → (asksRecord f index orElse asksRecords f (walk (left - 1) f (nextOf f index))) ≡ asksRecords f (walk count f (nextOf f 0))
+      → (asksRecord f index orElse asksRecords f (recordsFrom (left - 1) f (nextOf f index))) ≡ asksRecords f (recordsFrom count f (nextOf f 0))
   unfolding asksRecords
   split p h = sym (ap (asksRecords f) (walk-on left f index p h)) ∙ before .rest
 
@@ -111,9 +111,9 @@ module _ {f : List ℕ} {count index left : ℕ} (before : Walking f count index
   walking-next p h e z to = record { rest = rw to (sym (rw (← e, z)) ∙ split p h) }
 
   module _ (counted : count ≡ recordCount f) where
-    all : asksRecords f (walk count f (nextOf f 0)) ≡ asksRecords f (chain f)
+    all : asksRecords f (recordsFrom count f (nextOf f 0)) ≡ asksRecords f (chain f)
     unfolding chain
-    all = ap (λ n. asksRecords f (walk n f (nextOf f 0))) counted
+    all = ap (λ n. asksRecords f (recordsFrom n f (nextOf f 0))) counted
 
     pub walking-no : {n : ℕ} → 0 < left → index ≢ 0 → n ≡ asksRecord f index → n ≢ 0 → n ≡ asksRecords f (chain f)
     walking-no {n} p h e ne = sym (rw (← e, ne-eqb n 0 ne)) ∙ split p h ∙ all

@@ -10,7 +10,7 @@ use native.Mathlib.Omega.{arith}
 use borrow.Author.Tests.{ltb-true, lt-ltb, eqb-true, eqb-false, ne-eqb}
 use lib.Dec.{ltb, eqb}
 use lib.ListN.{length}
-use Rattle.log.specs.Entry.{nextOf, walk, recordCount, chain}
+use Rattle.log.specs.Entry.{nextOf, recordsFrom, recordCount, chain}
 use Rattle.log.specs.Questions.{below, stands, twice, question7}
 use Rattle.log.specs.Theorems.{Ends, over, on}
 
@@ -37,8 +37,8 @@ or-right false b e = e
 
 -- ---- a chain that ends
 -- a walk with enough steps finds them
-pub walked : {f : List ℕ} {r : ℕ} {l : List ℕ} (n : ℕ) → Ends f r l → length l < n → walk n f r ≡ l
-unfolding walk
+pub walked : {f : List ℕ} {r : ℕ} {l : List ℕ} (n : ℕ) → Ends f r l → length l < n → recordsFrom n f r ≡ l
+unfolding recordsFrom
 walked zero e h = absurd (omega arith)
 walked (suc n) over h = refl
 walked (suc n) (on {r = r} e) h = ap (λ l. suc r ∷ l) (walked n e (le-of-suc-le-suc h))
@@ -153,11 +153,11 @@ ends (suc n) count f zero = true
 ends (suc n) count f (suc r) = ltb (suc r) count && ends n count f (nextOf f (suc r))
 
 pub record Ended (n count : ℕ) (f : List ℕ) (r : ℕ) : Type 0 where
-  pub whole : Ends f r (walk n f r)
-  pub inside : below count (walk n f r) ≡ true
+  pub whole : Ends f r (recordsFrom n f r)
+  pub inside : below count (recordsFrom n f r) ≡ true
 
 pub ended : (n count : ℕ) (f : List ℕ) (r : ℕ) → ends n count f r ≡ true → Ended n count f r
-unfolding ends walk below
+unfolding ends recordsFrom below
 ended zero count f r h = absurd (false≢true h)
 ended (suc n) count f zero h = record { whole = over; inside = refl }
 ended (suc n) count f (suc r) h =
@@ -167,26 +167,26 @@ ended (suc n) count f (suc r) h =
     record { whole = on (later .whole); inside = rw (and-left b next h) (later .inside) }
 
 -- a walk that does not end takes every step
-long : (n count : ℕ) (f : List ℕ) (r : ℕ) → ends n count f r ≡ false → below count (walk n f r) ≡ true → length (walk n f r) ≡ n
-unfolding ends walk below
+long : (n count : ℕ) (f : List ℕ) (r : ℕ) → ends n count f r ≡ false → below count (recordsFrom n f r) ≡ true → length (recordsFrom n f r) ≡ n
+unfolding ends recordsFrom below
 long zero count f r h b = refl
 long (suc n) count f zero h b = absurd (true≢false h)
 long (suc n) count f (suc r) h b =
-    let rest = below count (walk n f (nextOf f (suc r))) in
+    let rest = below count (recordsFrom n f (nextOf f (suc r))) in
     let under = and-left (ltb (suc r) count) rest b in
     ap suc (long n count f (nextOf f (suc r)) (rw under at h) (and-right (ltb (suc r) count) rest b))
 
-no-zero : (n : ℕ) (f : List ℕ) (r : ℕ) → stands zero (walk n f r) ≡ false
-unfolding stands walk
+no-zero : (n : ℕ) (f : List ℕ) (r : ℕ) → stands zero (recordsFrom n f r) ≡ false
+unfolding stands recordsFrom
 no-zero zero f r = refl
 no-zero (suc n) f zero = refl
 no-zero (suc n) f (suc r) = rw (ne-eqb zero (suc r) (λ e. omega arith)) (no-zero n f (nextOf f (suc r)))
 
 not-ended : (count : ℕ) (f : List ℕ) (r : ℕ) → 1 ≤ count → ends count count f r ≡ false
-    → (below count (walk count f r) && not (twice (walk count f r))) ≡ false
+    → (below count (recordsFrom count f r) && not (twice (recordsFrom count f r))) ≡ false
 unfolding twice below
 not-ended count f r some h =
-    let l = walk count f r in
+    let l = recordsFrom count f r in
     by (below count l)
     (λ b.
     by (twice l)
@@ -199,7 +199,7 @@ not-ended count f r some h =
     absurd (omega arith)))
     (λ b. rw b)
 
-pub steps-tell : (count : ℕ) (f : List ℕ) (r : ℕ) → 1 ≤ count → ends count count f r ≡ (below count (walk count f r) && not (twice (walk count f r)))
+pub steps-tell : (count : ℕ) (f : List ℕ) (r : ℕ) → 1 ≤ count → ends count count f r ≡ (below count (recordsFrom count f r) && not (twice (recordsFrom count f r)))
 steps-tell count f r some =
     by (ends count count f r)
     (λ t. let e = ended count count f r t in t ∙ sym (rw (e .inside, ends-once (e .whole))))

@@ -9,7 +9,7 @@ use borrow.Author.Tests.{eqb-true, eq-eqb, ltb-true, not-true}
 use lib.Dec.{leb, ltb, eqb, eqb·suc-zero}
 use lib.ListN.{length}
 use Rattle.calls.specs.Questions.{latitudeFits, longitudeFits, asksFix, _orElse_, unless}
-use Rattle.log.specs.Entry.{byteAt, u32At, u64At, i32At, signed, recordCount, nextOf, rideOf, kindNumber, countOf, sampleStart, kindOf, located, timed, placeAt, utcAt, sampleAt, sampleIf, sampleOf, samplesOf, entryAt, recovered, walk, chain, entries, used}
+use Rattle.log.specs.Entry.{byteAt, u32At, u64At, i32At, signed, recordCount, nextOf, rideOf, kindNumber, countOf, sampleStart, kindOf, hasPlace, hasUtc, placeAt, utcAt, sampleAt, sampleIf, sampleOf, samplesOf, entryAt, recovered, recordsFrom, chain, entries, used}
 use Rattle.calls.specs.Calls.{asksPlace}
 use Rattle.log.specs.Questions.{question6, question7, question8, below, stands, twice, asksSamples, asksEntry, asksRecord, asksRecords, asksChain, asksFile}
 use Rattle.log.specs.Theorems.{Accepted, EveryAccepted, Same, SameSample, SameRecord, SameRead, Alike, OnlyRead, example, Example}
@@ -116,8 +116,8 @@ module _ (f g : List ℕ) where
     unfolding sampleAt
     sample-same s =
         ap₂ (λ p u. record { place = p; utc = u })
-        (place-same (located (byteAt f at)) (s .place) ∙ ap (λ b. placeAt b g at) (s .bit0))
-        (utc-same (timed (byteAt f at)) (s .utc) ∙ ap (λ b. utcAt b g at) (s .bit1))
+        (place-same (hasPlace (byteAt f at)) (s .place) ∙ ap (λ b. placeAt b g at) (s .bit0))
+        (utc-same (hasUtc (byteAt f at)) (s .utc) ∙ ap (λ b. utcAt b g at) (s .bit1))
 
   -- ---- a record
   module _ (r : ℕ) (s : SameRecord f g r) where
@@ -159,14 +159,14 @@ module _ (f g : List ℕ) where
     record-same = rw (kind-same, entry-same)
 
   -- ---- the chain
-  walk-same : (n r : ℕ) → ((x : ℕ) → stands x (walk n f r) ≡ true → nextOf f x ≡ nextOf g x) → walk n f r ≡ walk n g r
-  unfolding walk stands
+  walk-same : (n r : ℕ) → ((x : ℕ) → stands x (recordsFrom n f r) ≡ true → nextOf f x ≡ nextOf g x) → recordsFrom n f r ≡ recordsFrom n g r
+  unfolding recordsFrom stands
   walk-same zero r same = refl
   walk-same (suc n) zero same = refl
   walk-same (suc n) (suc r) same =
       let next : nextOf f (suc r) ≡ nextOf g (suc r) = same (suc r) (rw (eq-eqb (suc r) (suc r) refl)) in
       let later = walk-same n (nextOf f (suc r)) (λ x h. same x (rw (h, or-true (eqb x (suc r))))) in
-      ap (λ l. suc r ∷ l) (later ∙ ap (walk n g) next)
+      ap (λ l. suc r ∷ l) (later ∙ ap (recordsFrom n g) next)
 
   -- what is the same of each record of a list
   module _ {A : Type 0} (rule : List ℕ → ℕ → A) where
@@ -196,7 +196,7 @@ module _ (f g : List ℕ) where
     unfolding chain
     chain-same =
         walk-same (recordCount f) (nextOf f 0) (λ x h. next-same x (s .records x h))
-        ∙ ap₂ (λ n r. walk n g r) count-files begin-same
+        ∙ ap₂ (λ n r. recordsFrom n g r) count-files begin-same
 
     judged-same : asksChain f ≡ asksChain g
     unfolding asksChain question7
@@ -218,5 +218,5 @@ only-read = alike
 
 -- ---- the worked file
 pub worked : Example
-unfolding example asksFile asksChain question6 question7 question8 below stands twice asksRecords asksRecord asksEntry chain walk recordCount nextOf rideOf kindNumber countOf kindOf located timed placeAt utcAt sampleAt sampleIf sampleOf samplesOf entryAt recovered entries u32At u64At i32At byteAt signed asksSamples used asksPlace asksFix latitudeFits longitudeFits
+unfolding example asksFile asksChain question6 question7 question8 below stands twice asksRecords asksRecord asksEntry chain recordsFrom recordCount nextOf rideOf kindNumber countOf kindOf hasPlace hasUtc placeAt utcAt sampleAt sampleIf sampleOf samplesOf entryAt recovered entries u32At u64At i32At byteAt signed asksSamples used asksPlace asksFix latitudeFits longitudeFits
 worked = record { accepted = refl; ride = refl; only = refl }

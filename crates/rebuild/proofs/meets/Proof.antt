@@ -5,7 +5,7 @@ use Rattle.log.specs.declared.Utc.{Utc}
 use Rattle.rebuild.specs.declared.Stage.{Stage}
 use Rattle.rebuild.specs.declared.Stage.the-variants as stage
 use Rattle.rebuild.specs.Made.{Made, quiet}
-use Rattle.rebuild.specs.Rebuild.{withStage, meets}
+use Rattle.rebuild.specs.Rebuild.{withStage, beforeReplay}
 use Rattle.rebuild.specs.View.{Settles}
 use Rattle.rebuild.proofs.Making.{visited, settles-quiet}
 use borrow.Author.Needs.{needs}
@@ -19,28 +19,28 @@ enum-told : tie.Need-enum-told
 enum-told c = search needs
 
 returns : tie.Need-returns
-unfolding meets
+unfolding beforeReplay
 returns c =
     let g = c .before .before .args in
-    subst (λ (s : Stage). Settles (meets s (g .later) (g .utc) (g .r)) (g .h) (visited (g .r) (g .h))) (sym (c .enum-told .given .1)) (settles-quiet (g .r) (g .h))
+    subst (λ (s : Stage). Settles (beforeReplay s (g .later) (g .utc) (g .r)) (g .h) (visited (g .r) (g .h))) (sym (c .enum-told .given .1)) (settles-quiet (g .r) (g .h))
 
 decide-requires : tie.Need-decide-requires
 decide-requires c κs = search needs
 
 returns-2 : tie.Need-returns-2
-unfolding meets
+unfolding beforeReplay
 returns-2 c =
     let g = c .before .before .before .before .before .args in
     let told = c .before .before .before .was .given in
     subst (λ (m : Made). Settles m (g .h) (c .decide .result))
-    (sym (ap (λ (s : Stage). meets s (g .later) (g .utc) (g .r)) (told .1) ∙ ap (λ (b : Bool). meets (stage.Pending (told .0 .0)) b (g .utc) (g .r)) (c .before .if1 .taken)))
+    (sym (ap (λ (s : Stage). beforeReplay s (g .later) (g .utc) (g .r)) (told .1) ∙ ap (λ (b : Bool). beforeReplay (stage.Pending (told .0 .0)) b (g .utc) (g .r)) (c .before .if1 .taken)))
     (c .decide .ensures)
 
 or-else-requires : tie.Need-or-else-requires
 or-else-requires c κs = search needs
 
 returns-3 : tie.Need-returns-3
-unfolding meets
+unfolding beforeReplay
 returns-3 c =
     let g = c .before .before .before .before .before .before .args in
     let told = c .before .before .before .before .was .given in
@@ -48,7 +48,7 @@ returns-3 c =
     let on = withStage (stage.Pending latest) (g .r) in
     subst (λ (m : Made). Settles m (g .h) (visited on (g .h)))
     (ap (λ (t : Utc). quiet (withStage (stage.Pending t) (g .r))) (c .before .or-else .ensures)
-    ∙ sym (ap (λ (s : Stage). meets s (g .later) (g .utc) (g .r)) (told .1) ∙ ap (λ (b : Bool). meets (stage.Pending (told .0 .0)) b (g .utc) (g .r)) (c .before .before .if1 .left)))
+    ∙ sym (ap (λ (s : Stage). beforeReplay s (g .later) (g .utc) (g .r)) (told .1) ∙ ap (λ (b : Bool). beforeReplay (stage.Pending (told .0 .0)) b (g .utc) (g .r)) (c .before .before .if1 .left)))
     (settles-quiet on (g .h))
 
 pub meets-spec : {M : Type 1} → statement M

@@ -1,5 +1,5 @@
 -- `rebuild::or_else` meets its contract. Assumes nothing.
-use Rattle.rebuild.specs.Rebuild.{orElse}
+use Rattle.rebuild.specs.Rebuild.{knownOr}
 use borrow.Author.Needs.{needs}
 use Rattle.rebuild.proofs.or_else.Statement.{statement}
 use Rattle.rebuild.proofs.or_else.Tie as tie
@@ -11,11 +11,11 @@ enum-told-2 : tie.Need-enum-told-2
 enum-told-2 c = search needs
 
 returns : tie.Need-returns
-unfolding orElse
+unfolding knownOr
 returns c = search needs
 
 returns-2 : tie.Need-returns-2
-unfolding orElse
+unfolding knownOr
 returns-2 c = search needs
 
 pub or-else-spec : {M : Type 1} → statement M

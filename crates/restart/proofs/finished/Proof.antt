@@ -1,5 +1,5 @@
 -- `restart::finished` meets its contract. Assumes nothing.
-use Rattle.rebuild.specs.Rebuild.{finished}
+use Rattle.rebuild.specs.Rebuild.{takesOver}
 use borrow.Author.Needs.{needs}
 use Rattle.restart.proofs.finished.Statement.{statement}
 use Rattle.restart.proofs.finished.Tie as tie
@@ -11,7 +11,7 @@ caught-up-requires : tie.Need-caught-up-requires
 caught-up-requires c κs = search needs
 
 returns : tie.Need-returns
-unfolding finished
+unfolding takesOver
 returns c = simp (← c .before .is-decided .ensures, ← c .caught-up .ensures)
 
 pub finished-spec : {M : Type 1} → statement M

@@ -14,7 +14,7 @@ use lib.Ieee.{Float}
 use Rattle.crumbs.specs.declared.Crumb.{Crumb}
 use Rattle.crumbs.specs.Crumb.{crumbAt, crumbs}
 use Rattle.crumbs.proofs.Crumbs.{length-crumbs, getD-crumbs, take-crumbs}
-use Rattle.retelling.specs.Text.{digit, capital, digits, decimal, capitals, crumbLine, crumbLines, firstLine, rebuiltText}
+use Rattle.retelling.specs.Text.{numeral, capital, numerals, decimal, capitals, crumbLine, crumbLines, firstLine, rebuiltText}
 use Rattle.retelling.specs.Writing.{Writes}
 use Rattle.retelling.proofs.lines.Writing.{writes-none, writes-then}
 
@@ -32,40 +32,40 @@ module _ {A : Type 0} (x y : A) where
 pub tenth : (n : ℕ) → 10 ≤ n → n / 10 < n
 tenth n h = omega arith
 
-digits-one : (most n : ℕ) → n < 10 → digits most n ≡ digit n ∷ []
-unfolding digits
+digits-one : (most n : ℕ) → n < 10 → numerals most n ≡ numeral n ∷ []
+unfolding numerals
 digits-one zero n h = refl
 digits-one (suc most) n h = picked _ _ (ltb n 10) (lt-ltb n 10 h)
 
-digits-more : (most n : ℕ) → 10 ≤ n → digits (suc most) n ≡ digits most (n / 10) ++ digit (n % 10) ∷ []
-unfolding digits
+digits-more : (most n : ℕ) → 10 ≤ n → numerals (suc most) n ≡ numerals most (n / 10) ++ numeral (n % 10) ∷ []
+unfolding numerals
 digits-more most n h = passed-by _ _ (ltb n 10) (le-ltb n 10 h)
 
 -- more places than a number has digits make no difference
-digits-same : (f g n : ℕ) → n ≤ f → n ≤ g → digits f n ≡ digits g n
+digits-same : (f g n : ℕ) → n ≤ f → n ≤ g → numerals f n ≡ numerals g n
 digits-same zero g n a b = digits-one zero n (omega arith) ∙ sym (digits-one g n (omega arith))
 digits-same (suc f) zero n a b = digits-one (suc f) n (omega arith) ∙ sym (digits-one zero n (omega arith))
 digits-same (suc f) (suc g) n a b = by (digits-same f g (n / 10)) (ltb n 10) refl
   where
-    by : (n / 10 ≤ f → n / 10 ≤ g → digits f (n / 10) ≡ digits g (n / 10)) → (t : Bool) → ltb n 10 ≡ t → digits (suc f) n ≡ digits (suc g) n
+    by : (n / 10 ≤ f → n / 10 ≤ g → numerals f (n / 10) ≡ numerals g (n / 10)) → (t : Bool) → ltb n 10 ≡ t → numerals (suc f) n ≡ numerals (suc g) n
     by again true e = digits-one (suc f) n (ltb-true n 10 e) ∙ sym (digits-one (suc g) n (ltb-true n 10 e))
     by again false e =
         let h : 10 ≤ n = ltb-false n 10 e in
         let less : n / 10 < n = tenth n h in
         digits-more f n h
-        ∙ ap (λ (l : List ℕ). l ++ digit (n % 10) ∷ []) (again (omega arith) (omega arith))
+        ∙ ap (λ (l : List ℕ). l ++ numeral (n % 10) ∷ []) (again (omega arith) (omega arith))
         ∙ sym (digits-more g n h)
 
-pub decimal-one : (n : ℕ) → n < 10 → decimal n ≡ digit n ∷ []
+pub decimal-one : (n : ℕ) → n < 10 → decimal n ≡ numeral n ∷ []
 unfolding decimal
 decimal-one n h = digits-one n n h
 
-pub decimal-more : (n : ℕ) → 10 ≤ n → decimal n ≡ decimal (n / 10) ++ digit (n % 10) ∷ []
+pub decimal-more : (n : ℕ) → 10 ≤ n → decimal n ≡ decimal (n / 10) ++ numeral (n % 10) ∷ []
 unfolding decimal
 decimal-more zero h = absurd (omega arith)
 decimal-more (suc n) h =
     let less : suc n / 10 < suc n = tenth (suc n) h in
-    digits-more n (suc n) h ∙ ap (λ (l : List ℕ). l ++ digit (suc n % 10) ∷ []) (digits-same n (suc n / 10) (suc n / 10) (omega arith) (omega arith))
+    digits-more n (suc n) h ∙ ap (λ (l : List ℕ). l ++ numeral (suc n % 10) ∷ []) (digits-same n (suc n / 10) (suc n / 10) (omega arith) (omega arith))
 
 -- ---- "hexadecimal capitals"
 pub capitals-none : (k n : ℕ) → k ≡ 0 → capitals k n ≡ []
@@ -98,14 +98,14 @@ pub lines-on : (i : ℕ) (b : List Float) → crumbLines (crumbs (i + 1) b) ≡ 
 lines-on i b = ap crumbLines (crumbs-on i b) ∙ lines-append (crumbs i b) (crumbAt b i)
 
 -- ---- written
-pub writes-digit : (n : ℕ) {e f : List ℕ} {at r : ℕ} → n < 10 → Writes (digit n ∷ []) e at f r → Writes (decimal n) e at f r
+pub writes-digit : (n : ℕ) {e f : List ℕ} {at r : ℕ} → n < 10 → Writes (numeral n ∷ []) e at f r → Writes (decimal n) e at f r
 writes-digit n h w = rw (decimal-one n h) w
 
 pub writes-no-capital : (k n : ℕ) {e f : List ℕ} {at r : ℕ} → k ≡ 0 → Writes [] e at f r → Writes (capitals k n) e at f r
 writes-no-capital k n h w = rw (capitals-none k n h) w
 
 module _ {e m f : List ℕ} {at x r : ℕ} where
-  pub writes-tenth : (n : ℕ) → 10 ≤ n → Writes (decimal (n / 10)) e at m x → Writes (digit (n % 10) ∷ []) m x f r → Writes (decimal n) e at f r
+  pub writes-tenth : (n : ℕ) → 10 ≤ n → Writes (decimal (n / 10)) e at m x → Writes (numeral (n % 10) ∷ []) m x f r → Writes (decimal n) e at f r
   writes-tenth n h w v = rw (decimal-more n h) (writes-then w v)
 
   pub writes-capital : (k n : ℕ) {d : ℕ} → k ≢ 0 → d ≡ capital (n % 16) → Writes (capitals (k - 1) (n / 16)) e at m x → Writes (d ∷ []) m x f r

@@ -1,6 +1,6 @@
 -- `retelling::rebuild_chain` meets its contract. Assumes nothing.
 use mathlib.Core.Path.{_∙_, ap}
-use Rattle.rebuild.specs.Rebuild.{new}
+use Rattle.rebuild.specs.Rebuild.{newRebuild}
 use Rattle.retelling.proofs.Retelling.{rebuilds}
 use borrow.Author.Needs.{needs}
 use Rattle.retelling.proofs.rebuild_chain.Statement.{statement}
@@ -23,7 +23,7 @@ same-length : tie.Need-same-length
 same-length c = search needs
 
 returns : tie.Need-returns
-returns c = rebuilds _ (c .before .before .before .before .before .before .before .before .before .before .before .pre) (c .before .before .before .before .before .before .before .new .ensures .fresh _) (c .before .before .before .before .new2 .ensures ∙ ap new (c .before .before .before .before .before .recovered .ensures)) (c .before .before .step .ensures)
+returns c = rebuilds _ (c .before .before .before .before .before .before .before .before .before .before .before .pre) (c .before .before .before .before .before .before .before .new .ensures .fresh _) (c .before .before .before .before .new2 .ensures ∙ ap newRebuild (c .before .before .before .before .before .recovered .ensures)) (c .before .before .step .ensures)
 
 pub rebuild-chain-spec : {M : Type 1} → statement M
 rebuild-chain-spec =

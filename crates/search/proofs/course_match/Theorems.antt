@@ -11,7 +11,7 @@ use Rattle.segments.specs.declared.Best.{Best}
 use Rattle.segments.specs.declared.Best.the-variants.{Nothing, Found}
 use Rattle.search.specs.declared.Range.{Range}
 use Rattle.search.specs.declared.course_match.Progress.{Progress}
-use Rattle.search.specs.CourseMatch.{inReach, afterGap, slidesBack, orElse, settled, onNear, matched, nearestOnCourse}
+use Rattle.search.specs.CourseMatch.{inReach, afterGap, slidesBack, firstFound, settled, onNear, matched, nearestOnCourse}
 use Rattle.search.proofs.Choosing.{OnlyMet}
 use Rattle.search.proofs.Theorems.{within-met}
 
@@ -24,8 +24,8 @@ module _ (line : List Crumb) (p : Point) (ends : Range) (first : 1 ≤ ends .fro
   unfolding onNear
   near-met = within-met line p ends first _ _
 
-  either-met : (best other : Best) → OnlyMet line p ends best → OnlyMet line p ends other → OnlyMet line p ends (orElse best other)
-  unfolding orElse
+  either-met : (best other : Best) → OnlyMet line p ends best → OnlyMet line p ends other → OnlyMet line p ends (firstFound best other)
+  unfolding firstFound
   either-met (Found near) other f o = f
   either-met Nothing other f o = o
 
@@ -33,7 +33,7 @@ module _ (line : List Crumb) (p : Point) (ends : Range) (first : 1 ≤ ends .fro
   unfolding settled
   settled-met near kept = by-test (slidesBack line was near)
     where
-      by-test : (b : Bool) → OnlyMet line p ends (elim b [ true ↦ orElse (inReach line p ends (was .along) (Ahead (was .heading))) (Found near) | false ↦ Found near ])
+      by-test : (b : Bool) → OnlyMet line p ends (elim b [ true ↦ firstFound (inReach line p ends (was .along) (Ahead (was .heading))) (Found near) | false ↦ Found near ])
       by-test true = either-met _ (Found near) (reach-met (Ahead (was .heading))) kept
       by-test false = kept
 

@@ -34,7 +34,7 @@ use Rattle.binary32.proofs.roots.Monotone.{root-less, root-tie}
 use Rattle.search.specs.declared.quick.Lead.{Lead}
 use Rattle.segments.specs.Square.{squareOn}
 use Rattle.segments.proofs.Ranging.{on-is, on-fits, on-not-below}
-use Rattle.search.specs.Square.{reaches, overtakes, leads}
+use Rattle.search.specs.Square.{reaches, overtakes, takesLead}
 
 never : {A : Type 0} → true ≡ false → A
 never e = absurd (subst T e tt)
@@ -82,8 +82,8 @@ module _ (line : List Crumb) (p : Point) where
 
   module _ (within : Stretch) where
     pub tracks-on : (sofar : SoFar) (end : ℕ) (lead : Lead) → 0 < end → Tracks sofar lead
-        → Tracks (considered line p (costWithin line p within Plain) end sofar) (leads line p within end lead)
-    unfolding considered costWithin leads reaches costOf plain cheaper
+        → Tracks (considered line p (costWithin line p within Plain) end sofar) (takesLead line p within end lead)
+    unfolding considered costWithin takesLead reaches costOf plain cheaper
     tracks-on sofar end lead E t = go (lt (at line end .along) (within .floor) || lt (within .ceiling) (at line (end - 1) .along))
       where
         go : (o : Bool)
@@ -133,12 +133,12 @@ module _ (end : ℕ) (s : Float) (lead : Lead) where
   overtakes-not z h = let e = nonnil (lead .best) z in rw (e, h)
 
 module _ (line : List Crumb) (p : Point) (within : Stretch) (end : ℕ) (lead : Lead) where
-  pub leads-in : {r : Bool} {s : Float} {next : Lead} → r ≡ reaches line within end → r ≡ true → s ≡ squareOn line p end → next ≡ overtakes end s lead → next ≡ leads line p within end lead
-  unfolding leads
+  pub leads-in : {r : Bool} {s : Float} {next : Lead} → r ≡ reaches line within end → r ≡ true → s ≡ squareOn line p end → next ≡ overtakes end s lead → next ≡ takesLead line p within end lead
+  unfolding takesLead
   leads-in {r} {s} {next} e t S N = let u = sym e ∙ t in N ∙ ap (λ (z : Float). overtakes end z lead) S ∙ sym (ap (λ (b : Bool). cond b (overtakes end (squareOn line p end) lead) lead) u)
 
-  pub leads-out : {r : Bool} → r ≡ reaches line within end → r ≡ false → lead ≡ leads line p within end lead
-  unfolding leads
+  pub leads-out : {r : Bool} → r ≡ reaches line within end → r ≡ false → lead ≡ takesLead line p within end lead
+  unfolding takesLead
   leads-out {r} e t = let u = sym e ∙ t in sym (ap (λ (b : Bool). cond b (overtakes end (squareOn line p end) lead) lead) u)
 
 pub reaches-is : (line : List Crumb) (within : Stretch) (end : ℕ) {a b : Crumb} {r : Bool} → b ≡ at line end → a ≡ at line (end - 1)
@@ -160,8 +160,8 @@ module _ (line : List Crumb) (p : Point) (within : Stretch) (ends : Range) where
   pub races-start : (least before : Float) → Races (record { best = 0; least = least; before = before }) (ends .from)
   races-start least before = record { sofar = Empty; rises = rises-start; tracks = refl; upto = omega arith }
 
-  upto-on : (end : ℕ) (lead : Lead) → lead .best ≤ ends .to → end ≤ ends .to → leads line p within end lead .best ≤ ends .to
-  unfolding leads overtakes
+  upto-on : (end : ℕ) (lead : Lead) → lead .best ≤ ends .to → end ≤ ends .to → takesLead line p within end lead .best ≤ ends .to
+  unfolding takesLead overtakes
   upto-on end lead h g = go (reaches line within end)
     where
       inner : (b : Bool) → cond b (record { best = end; least = squareOn line p end; before = lead .least }) lead .best ≤ ends .to
@@ -176,7 +176,7 @@ module _ (line : List Crumb) (p : Point) (within : Stretch) (ends : Range) where
       go true = outer (eqb (lead .best) 0)
       go false = h
 
-  pub races-on : {lead next : Lead} {end : ℕ} → Races lead end → 1 ≤ ends .from → end ≤ ends .to → next ≡ leads line p within end lead → Races next (end + 1)
+  pub races-on : {lead next : Lead} {end : ℕ} → Races lead end → 1 ≤ ends .from → end ≤ ends .to → next ≡ takesLead line p within end lead → Races next (end + 1)
   races-on {lead} {next} {end} v one more e =
       let f = v .rises .from in
       record {
@@ -208,7 +208,7 @@ module _ (line : List Crumb) (p : Point) (within : Stretch) (ends : Range) where
   pub chases-start : (least before : Float) → Chases (record { best = 0; least = least; before = before }) (ends .to)
   chases-start least before = record { sofar = Empty; falls = falls-start; tracks = refl; upto = omega arith }
 
-  pub chases-on : {lead next : Lead} {end : ℕ} → Chases lead end → 1 ≤ ends .from → ends .from ≤ end → next ≡ leads line p within end lead → Chases next (end - 1)
+  pub chases-on : {lead next : Lead} {end : ℕ} → Chases lead end → 1 ≤ ends .from → ends .from ≤ end → next ≡ takesLead line p within end lead → Chases next (end - 1)
   chases-on {lead} {next} {end} v one more e =
       let f = v .falls .upto in
       record {

@@ -21,7 +21,7 @@ use Rattle.state.specs.declared.Homing.{Homing}
 use Rattle.state.specs.State.{State, stateOf, withAutoFollow}
 use Rattle.state.specs.Rule.{Done, done, andThen}
 use Rattle.follow.specs.declared.Answered.{Answered}
-use Rattle.follow.specs.Record.{flush}
+use Rattle.follow.specs.Record.{flushIn}
 use Rattle.follow.specs.Engage.{engageAt, engage, stop}
 use Rattle.follow.specs.View.{HomingFit, courseOf, Changes, Follows, Asks}
 use Rattle.guide.specs.declared.Told.{Told}
@@ -146,7 +146,7 @@ module _ (h : Homing) (entry lent : List Float) (now : ℕ) where
 
 -- ---- the way home
 module _ (h f : Homing) (e r : Answered) (entry mid exit lent : List Float) (now : ℕ) where
-  pub goes-home : Follows flush h entry f mid → Asks (engage (courseOf f lent) now) f mid e
+  pub goes-home : Follows flushIn h entry f mid → Asks (engage (courseOf f lent) now) f mid e
       → Decides (λ C. engagedOr (e .yes) C (courseOf (e .homing) lent) now) (e .homing) mid r exit
       → Decides (λ C. wayHome C (courseOf h lent) now) h entry r exit
   unfolding wayHome
@@ -158,7 +158,7 @@ module _ (h f : Homing) (e r : Answered) (entry mid exit lent : List Float) (now
       let decided : Decides (λ C. engagedOr (e .yes) C course now) (e .homing) mid r exit
       = subst (λ (l : List Crumb). Decides (λ C. engagedOr (e .yes) C l now) (e .homing) mid r exit) still k
       in
-      decides-then flush (λ C s. andThen (engage course now s) λ b after. engagedOr b C course now after) h f entry mid r exit d
+      decides-then flushIn (λ C s. andThen (engage course now s) λ b after. engagedOr b C course now after) h f entry mid r exit d
       (decides-asked (engage course now) (λ b C. engagedOr b C course now) f e mid r exit asked decided)
       (λ C. home-keeps C course now (stateOf f mid))
 

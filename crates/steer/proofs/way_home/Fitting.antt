@@ -29,7 +29,7 @@ use Rattle.state.specs.State.{State, stateOf}
 use Rattle.state.specs.Rule.{Done}
 use Rattle.follow.specs.declared.Answered.{Answered}
 use Rattle.follow.specs.Parts.{endedByThinning}
-use Rattle.follow.specs.Record.{afterThinning, recordedIn, recorded, keep, flush}
+use Rattle.follow.specs.Record.{afterThinning, recordedIn, recorded, keepIn, flushIn}
 use Rattle.follow.specs.Parts.{courseFrom, leads, stopped, heldOff}
 use Rattle.follow.specs.Engage.{engageAt, engage, cutTo, leaveAt, stopNothing, stopCourse, stopBreadcrumb, stopOn, stop}
 use Rattle.follow.specs.View.{HomingFit, courseOf, Changes, Follows, SameHeld, Asks}
@@ -65,15 +65,15 @@ thinned-line true f n = ap (λ (l : Line). endedByThinning l f .line) n ∙ n
 thinned-line false f n = n
 
 -- ---- the window flushed
-flush-line : (C : ℕ) (s : State) → s .follow .line ≡ line.Nothing → flush C s .state .follow .line ≡ line.Nothing
-unfolding flush recorded recordedIn
+flush-line : (C : ℕ) (s : State) → s .follow .line ≡ line.Nothing → flushIn C s .state .follow .line ≡ line.Nothing
+unfolding flushIn recorded recordedIn
 flush-line C s n = thinned-line _ (s .follow) n
 
-flush-len : (C : ℕ) (s : State) → flush C s .state .course .«line_len» ≡ s .course .«line_len»
-unfolding flush recorded recordedIn
+flush-len : (C : ℕ) (s : State) → flushIn C s .state .course .«line_len» ≡ s .course .«line_len»
+unfolding flushIn recorded recordedIn
 flush-len C s = refl
 
-module _ (h f : Homing) (entry mid : List Float) (d : Follows flush h entry f mid) where
+module _ (h f : Homing) (entry mid : List Float) (d : Follows flushIn h entry f mid) where
   pub line-flushed : f .course .«line_len» ≡ h .course .«line_len»
   line-flushed = ap (λ (s : State). s .course .«line_len») (d .same) ∙ flush-len _ (stateOf h entry)
 
@@ -85,7 +85,7 @@ module _ (h f : Homing) (entry mid : List Float) (d : Follows flush h entry f mi
 
 -- ---- following ended
 left-idle : (C : ℕ) (matched : Spot) (segment : ℕ) (s : State) → s .follow .line ≡ line.Nothing → leaveAt C matched segment s .state .follow .line ≡ line.Nothing
-unfolding leaveAt keep recorded recordedIn cutTo
+unfolding leaveAt keepIn recorded recordedIn cutTo
 left-idle C Nowhere segment s n = n
 left-idle C (At p) segment s n = thinned-line _ (s .follow) n
 
@@ -100,7 +100,7 @@ unfolding stop
 stop-idle C s = stop-on-idle (s .follow .line) C s
 
 left-len : (C : ℕ) (matched : Spot) (segment : ℕ) (s : State) → leaveAt C matched segment s .state .course .«line_len» ≡ s .course .«line_len»
-unfolding leaveAt keep recorded recordedIn cutTo
+unfolding leaveAt keepIn recorded recordedIn cutTo
 left-len C Nowhere segment s = refl
 left-len C (At p) segment s = refl
 

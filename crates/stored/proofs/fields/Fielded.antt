@@ -12,7 +12,7 @@ use Rattle.lap.specs.declared.Stage.the-variants as stage
 use Rattle.state.specs.declared.Place.the-variants as place
 use Rattle.state.specs.declared.Line.the-variants as line
 use Rattle.state.specs.declared.Mode.the-variants as mode
-use Rattle.stored.specs.Fields.{most16, narrowAt, flagAt, signedAt, pointAt, spotOf, spotAt, headingOf, headingAt, placeOf, placeRead, lineOf, stageOf, modeOf}
+use Rattle.stored.specs.Fields.{most16, narrowAt, flagAt, signedAt, pointAt, spotOf, spotAt, headingOf, headingAt, placeOf, placeRead, lineOfTag, stageOfTag, modeOfTag}
 
 pub spot-there : (w : List ℕ) (i : ℕ) (n : List Float) (j : ℕ) {p : Point} → flagAt w i ≡ true → p ≡ pointAt n j → spot.At p ≡ spotAt w i n j
 unfolding spotAt
@@ -39,19 +39,19 @@ pub place-missing : (w : List ℕ) (i : ℕ) → flagAt w i ≡ false → place.
 unfolding placeRead
 place-missing w i t = sym (ap (λ f. placeOf f (signedAt w (i + 1)) (signedAt w (i + 2))) t)
 
-pub last-line : (n : ℕ) → (n ≡ 1 → ⊥) → (n ≡ 2 → ⊥) → line.Nothing ≡ lineOf n
+pub last-line : (n : ℕ) → (n ≡ 1 → ⊥) → (n ≡ 2 → ⊥) → line.Nothing ≡ lineOfTag n
 last-line zero a b = refl
 last-line (suc zero) a b = absurd (a refl)
 last-line (suc (suc zero)) a b = absurd (b refl)
 last-line (suc (suc (suc n))) a b = refl
 
-pub last-stage : (n : ℕ) → (n ≡ 1 → ⊥) → (n ≡ 2 → ⊥) → stage.Spent ≡ stageOf n
+pub last-stage : (n : ℕ) → (n ≡ 1 → ⊥) → (n ≡ 2 → ⊥) → stage.Spent ≡ stageOfTag n
 last-stage zero a b = refl
 last-stage (suc zero) a b = absurd (a refl)
 last-stage (suc (suc zero)) a b = absurd (b refl)
 last-stage (suc (suc (suc n))) a b = refl
 
-pub last-mode : (n : ℕ) → (n ≡ 1 → ⊥) → (n ≡ 2 → ⊥) → (n ≡ 3 → ⊥) → mode.Direct ≡ modeOf n
+pub last-mode : (n : ℕ) → (n ≡ 1 → ⊥) → (n ≡ 2 → ⊥) → (n ≡ 3 → ⊥) → mode.Direct ≡ modeOfTag n
 last-mode zero a b d = refl
 last-mode (suc zero) a b d = absurd (a refl)
 last-mode (suc (suc zero)) a b d = absurd (b refl)

@@ -19,7 +19,7 @@ use Rattle.state.specs.declared.Line.{Line}
 use Rattle.state.specs.declared.Line.the-variants as line
 use Rattle.state.specs.declared.Mode.{Mode}
 use Rattle.state.specs.declared.Mode.the-variants as mode
-use Rattle.stored.specs.Fields.{within, flag, spotFlag, headingFlag, placeFlag, lineTag, stageTag, modeTag}
+use Rattle.stored.specs.Fields.{within, flagOf, spotFlag, headingFlag, placeFlag, lineTag, stageTag, modeTag}
 
 -- words that are within
 pub record Inside (ms w : List ℕ) : Type 0 where
@@ -47,7 +47,7 @@ append-in (m ∷ ms) (x ∷ w) ns v e a b = both (leb x m) (within ms w) (within
 pub and-part : (ms w : List ℕ) {ns v : List ℕ} → length ms ≡ length w → within ms w ≡ true → Inside ns v → Inside (ms ++ ns) (w ++ v)
 and-part ms w {ns} {v} e a b = record { ok = append-in ms w ns v e a (b .ok) }
 
-pub flag-most : (b : Bool) → flag b ≤ 1
+pub flag-most : (b : Bool) → flagOf b ≤ 1
 flag-most true = omega arith
 flag-most false = omega arith
 

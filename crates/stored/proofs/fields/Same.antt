@@ -20,27 +20,27 @@ use Rattle.state.specs.declared.Mode.{Mode}
 use Rattle.state.specs.declared.Mode.the-variants as mode
 use Rattle.state.specs.declared.Course.{Course}
 use Rattle.log.specs.Entry.{signed}
-use Rattle.stored.specs.Fields.{most32, most16, spotOf, headingOf, placeOf, lineOf, stageOf, modeOf, flag, unsigned, spotFlag, pointIn, headingFlag, headingIn, placeFlag, latIn, lonIn, lineTag, stageTag, modeTag}
+use Rattle.stored.specs.Fields.{most32, most16, spotOf, headingOf, placeOf, lineOfTag, stageOfTag, modeOfTag, flagOf, unsigned, spotFlag, pointIn, headingFlag, headingIn, placeFlag, latIn, lonIn, lineTag, stageTag, modeTag}
 use Rattle.stored.proofs.fields.Signs.{signed-unsigned}
 
 pub narrow-same : (most x : ℕ) → leb x most ≡ true → cond (leb x most) x 0 ≡ x
 narrow-same most x h = ap (λ b. cond b x 0) h
 
-pub flag-same : (b : Bool) → eqb (flag b) 1 ≡ b
+pub flag-same : (b : Bool) → eqb (flagOf b) 1 ≡ b
 flag-same true = refl
 flag-same false = refl
 
-pub line-same : (l : Line) → lineOf (lineTag l) ≡ l
+pub line-same : (l : Line) → lineOfTag (lineTag l) ≡ l
 line-same line.Nothing = refl
 line-same line.Breadcrumb = refl
 line-same line.Course = refl
 
-pub stage-same : (s : Stage) → stageOf (stageTag s) ≡ s
+pub stage-same : (s : Stage) → stageOfTag (stageTag s) ≡ s
 stage-same stage.Spent = refl
 stage-same stage.Armed = refl
 stage-same stage.Inside = refl
 
-pub mode-same : (m : Mode) → modeOf (modeTag m) ≡ m
+pub mode-same : (m : Mode) → modeOfTag (modeTag m) ≡ m
 mode-same mode.Direct = refl
 mode-same mode.Track = refl
 mode-same mode.OffTrack = refl

@@ -42,7 +42,7 @@ use Rattle.state.specs.declared.Event.{Event}
 use Rattle.state.specs.declared.Event.the-variants as event
 use Rattle.state.specs.State.{State, withHereMs}
 use Rattle.state.specs.Rule.{Done}
-use Rattle.follow.specs.Record.{recorded, recordedIn, keep, add, flush}
+use Rattle.follow.specs.Record.{recorded, recordedIn, keepIn, addIn, flushIn}
 use Rattle.follow.specs.Parts.{leads}
 use Rattle.follow.specs.Engage.{engageAt, engage, cutTo, leaveAt, forgotten, stopNothing, stopCourse, stopBreadcrumb, stopOn, stop}
 use Rattle.joining.specs.Retrace.{ridesBack}
@@ -181,16 +181,16 @@ unfolding stopCourse
 stop-course s h = h
 
 module _ (C : ℕ) (least : 3 ≤ C) where
-  keep-measured : (p : Point) → Keeps (keep C p)
-  unfolding keep
+  keep-measured : (p : Point) → Keeps (keepIn C p)
+  unfolding keepIn
   keep-measured p s h = recorded-measured (trail.keep C p (s .track)) s h (keep-rounded C least p (s .track) (h .1))
 
-  add-measured : (p : Point) → Keeps (add C p)
-  unfolding add
+  add-measured : (p : Point) → Keeps (addIn C p)
+  unfolding addIn
   add-measured p s h = recorded-measured (trail.add C p (s .track)) s h (add-rounded C least p (s .track) (h .1))
 
-  flush-measured : Keeps (flush C)
-  unfolding flush
+  flush-measured : Keeps (flushIn C)
+  unfolding flushIn
   flush-measured s h = recorded-measured (trail.flush C (s .track)) s h (flush-rounded C least (s .track) (h .1))
 
   -- ---- following ends
@@ -366,7 +366,7 @@ module _ (C : ℕ) (least : 3 ≤ C) where
 
 -- ---- the guide made anew, and its course
 reset-measured : Keeps reset
-unfolding reset trail.reset
+unfolding reset trail.resetTrack
 reset-measured s h = (record { origin = tt; factor = h .0 .factor }, tt)
 
 off-course : (l : Line) (s : State) → Measured s → Measured (offCourse l s)

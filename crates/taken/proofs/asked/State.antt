@@ -30,7 +30,7 @@ use Rattle.state.specs.declared.Follow.{Follow}
 use Rattle.state.specs.declared.Course.{Course}
 use Rattle.state.specs.State.{State, withFrame}
 use Rattle.follow.specs.Parts.{endedByThinning}
-use Rattle.follow.specs.Record.{afterThinning, recordedIn, recorded, add}
+use Rattle.follow.specs.Record.{afterThinning, recordedIn, recorded, addIn}
 use Rattle.joining.specs.Join.{retraceFixes}
 use Rattle.course.specs.Fix.{Fix, located}
 use Rattle.calls.specs.Questions.{placesFit, spotFits, alongFits, headingFits, shownFits, factorFits, segmentFits, followFits, retraceFits, countsFit, spotsFit, numbersFit, stateFits, crumbsFit, heldFits, placeFits}
@@ -226,8 +226,8 @@ recorded-passing {C} {s} d k sound o g =
       factor = k .factor;
     }
 
-add-passing : (C : ℕ) (least : 3 ≤ C) (p : Point) (s : State) → Passing C s → placeFits p ≡ true → Passing C (add C p s .state)
-unfolding add
+add-passing : (C : ℕ) (least : 3 ≤ C) (p : Point) (s : State) → Passing C s → placeFits p ≡ true → Passing C (addIn C p s .state)
+unfolding addIn
 add-passing C least p s k P =
     let t = s .track in
     recorded-passing (trail.add C p t) k (add-sound C least p t (k .track .sound)) (add-onward C least p t (k .track) P) (grows C _ _ _ (add-keeps C least p t (k .track .sound)))
@@ -355,7 +355,7 @@ replay-passing C least x now s h g k =
 
 -- ---- `reset`
 pub reset-passing : (C : ℕ) (s : State) → stateFits s ≡ true → Passing C (reset s .state)
-unfolding reset noLap unheaded awaiting lined trail.reset
+unfolding reset noLap unheaded awaiting lined trail.resetTrack
 reset-passing C s e =
     record {
       track = record { sound = reset-recorded C (s .track) .sound; crumbs = tt; waiting = tt };

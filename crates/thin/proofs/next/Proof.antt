@@ -3,7 +3,7 @@ use mathlib.Core.Path.{ap, sym, _∙_}
 use native.Mathlib.Omega.{arith}
 use Prim.Native.Nat.{_+_}
 use denote.Ref.{now}
-use Rattle.thin.specs.Inner.{step}
+use Rattle.thin.specs.Inner.{stepBy}
 use Rattle.thin.proofs.Passing.{step-halving}
 use borrow.Author.Needs.{needs}
 use Rattle.thin.proofs.next.Statement.{statement}
@@ -21,8 +21,8 @@ reach-requires : tie.Need-reach-requires
 reach-requires c κs = search needs
 
 returns-2 : tie.Need-returns-2
-unfolding step
-returns-2 c = c .reach .ensures ∙ rw (c .before .if1 .left, step)
+unfolding stepBy
+returns-2 c = c .reach .ensures ∙ rw (c .before .if1 .left, stepBy)
 
 pub next-spec : {M : Type 1} → statement M
 next-spec = tie.close (tie.spec add-result returns reach-requires returns-2)

@@ -4,13 +4,13 @@ use native.Mathlib.Omega.{arith}
 use lib.Ieee.{round, ofBits, le, lt}
 use Rattle.binary32.specs.Arithmetic.{constant}
 use Rattle.crumbs.specs.Crumb.{crumbs}
-use Rattle.trail.specs.Trail.{toleranceM, reset}
+use Rattle.trail.specs.Trail.{toleranceM, resetTrack}
 use Rattle.trail.specs.View.{places, track}
 use Rattle.trail.proofs.reset.Statement.{statement}
 use Rattle.trail.proofs.reset.Tie as tie
 
 returns : tie.Need-returns
-unfolding toleranceM reset constant round ofBits le lt crumbs places track
+unfolding toleranceM resetTrack constant round ofBits le lt crumbs places track
 returns c =
     record {
       same = λ b. refl;

@@ -1,6 +1,6 @@
 -- `door::answering::cittumay_way_back` meets its contract. Assumes nothing.
 use Rattle.answers.specs.Answers.{saysBack}
-use Rattle.door.specs.Answers.{back}
+use Rattle.door.specs.Answers.{returning}
 use Rattle.door.proofs.answering.Answers.{loaded, unloaded, not-held, answered}
 use Rattle.door.specs.Through.{numberOf}
 use borrow.Author.Needs.{needs}
@@ -29,11 +29,11 @@ enum-known-answer-2 : tie.Need-enum-known-answer-2
 enum-known-answer-2 c = search needs
 
 returns-2 : tie.Need-returns-2
-unfolding saysBack back numberOf
+unfolding saysBack returning numberOf
 returns-2 c = answered (loaded (c .before .before .before .before .before .before .before .load .ensures) (c .before .before .before .before .before .if1 .left)) (c .before .before .before .way-back .ensures) (c .before .answer .given .1)
 
 returns-3 : tie.Need-returns-3
-unfolding saysBack back numberOf
+unfolding saysBack returning numberOf
 returns-3 c = answered (loaded (c .before .before .before .before .before .before .load .ensures) (c .before .before .before .before .if1 .left)) (c .before .before .way-back .ensures) (c .enum-told .given .1)
 
 returns-4 : tie.Need-returns-4

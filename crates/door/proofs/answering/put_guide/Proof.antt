@@ -4,7 +4,7 @@ use mathlib.Core.Path.{_≡_, refl, sym, ap, _∙_}
 use mathlib.Core.List.{_++_}
 use lib.ListN.{length-set}
 use denote.Ref.{now}
-use Rattle.door.specs.GuideWords.{guideWords}
+use Rattle.stored.specs.Parts.{guideWords}
 use Rattle.door.proofs.answering.GuideWords.{ten-written}
 use Rattle.door.specs.Through.{written}
 use borrow.Author.Needs.{needs}
@@ -75,7 +75,6 @@ same-length : tie.Need-same-length
 same-length c = simp length-set
 
 returns : tie.Need-returns
-unfolding guideWords
 returns c = ten-written (now (c .before .before .before .before .before .before .before .before .args .words)) _ _ _ _ _ _ _ _ _ _ (c .before .before .before .before .before .before .before .before .pre) ∙ simp (c .before .before .before .before .before .before .mode-word .ensures, c .before .before .before .before .before .flag-of .ensures, c .before .before .before .before .flag-of2 .ensures, c .before .before .before .flag-of3 .ensures, c .before .known-word .ensures, c .heading-word .ensures)
 
 pub put-guide-spec : {M : Type 1} → statement M

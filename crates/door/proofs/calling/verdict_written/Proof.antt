@@ -2,7 +2,8 @@
 use mathlib.Core.Path.{sym, ap, _∙_}
 use Rattle.answers.specs.declared.Verdict.{Verdict}
 use Rattle.answers.specs.Answers.{saysVerdict}
-use Rattle.door.specs.Through.{written, flagOf}
+use Rattle.stored.specs.Fields.{flagOf}
+use Rattle.door.specs.Through.{written}
 use borrow.Author.Needs.{needs}
 use Rattle.door.proofs.calling.verdict_written.Statement.{statement}
 use Rattle.door.proofs.calling.verdict_written.Tie as tie

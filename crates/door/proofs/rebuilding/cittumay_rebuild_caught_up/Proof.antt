@@ -1,7 +1,7 @@
 -- `door::rebuilding::cittumay_rebuild_caught_up` meets its contract. Assumes nothing.
 use mathlib.Core.Path.{ap, _∙_}
 use Rattle.door.proofs.rebuilding.Rebuild.{begun, not-begun, no-rebuild, caught}
-use Rattle.door.specs.Through.{flagOf}
+use Rattle.stored.specs.Fields.{flagOf}
 use borrow.Author.Needs.{needs}
 use Rattle.door.proofs.rebuilding.cittumay_rebuild_caught_up.Statement.{statement}
 use Rattle.door.proofs.rebuilding.cittumay_rebuild_caught_up.Tie as tie
