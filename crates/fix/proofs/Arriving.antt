@@ -27,9 +27,8 @@ use Rattle.lap.specs.declared.Lap.{Lap}
 use Rattle.trail.specs.declared.Recorded.{Recorded}
 use Rattle.trail.specs.Trail as trails
 use Rattle.state.specs.declared.Follow.{Follow}
-use Rattle.state.specs.State.{withMotion, withTrack, withFollow, withLap}
-use Rattle.follow.specs.Record.{addIn, afterThinning, recordedIn}
-use Rattle.follow.specs.View.{TakesOver}
+use Rattle.state.specs.State.{withMotion, withLap}
+use Rattle.follow.specs.Record.{addIn, afterThinning}
 use Rattle.follow.proofs.Recording.{taken-over}
 use Rattle.fix.specs.Pass.{passing}
 use Rattle.follow.specs.View.{HomingFit, Changes, Follows}
@@ -84,35 +83,32 @@ module _ (h on grown r : Homing) (x : Fix) (now : ℕ) (f : Frame) (p : Point) (
       }
 
 -- the same, each group of the state by itself
-module _ (h : Homing) (x : Fix) (now : ℕ) (f : Frame) (p : Point) (m : Motion) (k : Recorded) (w : Follow) (l : Lap) (entry exit : List Float) where
+module _ (h : Homing) (x : Fix) (now : ℕ) (f : Frame) (p : Point) (m : Motion) (k : Recorded) (w : List Float) (n : Follow) (l : Lap) (entry exit : List Float) where
   abbrev there : Homing
-  there = record { trail = h .trail; frame = f; fed = h .fed; here = h .here; «here_ms» = h .«here_ms»; motion = h .motion; follow = h .follow; course = h .course; «auto_follow» = h .«auto_follow»; arrived = h .arrived; lap = h .lap; «updated_ms» = h .«updated_ms»; guide = h .guide }
+  there = record { trail = h .trail; window = h .window; frame = f; fed = h .fed; here = h .here; «here_ms» = h .«here_ms»; motion = h .motion; follow = h .follow; course = h .course; «auto_follow» = h .«auto_follow»; arrived = h .arrived; lap = h .lap; «updated_ms» = h .«updated_ms»; guide = h .guide }
 
   abbrev on : Homing
-  on = record { trail = h .trail; frame = f; fed = h .fed; here = h .here; «here_ms» = h .«here_ms»; motion = m; follow = h .follow; course = h .course; «auto_follow» = h .«auto_follow»; arrived = h .arrived; lap = h .lap; «updated_ms» = h .«updated_ms»; guide = h .guide }
+  on = record { trail = h .trail; window = h .window; frame = f; fed = h .fed; here = h .here; «here_ms» = h .«here_ms»; motion = m; follow = h .follow; course = h .course; «auto_follow» = h .«auto_follow»; arrived = h .arrived; lap = h .lap; «updated_ms» = h .«updated_ms»; guide = h .guide }
 
   abbrev grown : Homing
-  grown = record { trail = k .trail; frame = f; fed = h .fed; here = h .here; «here_ms» = h .«here_ms»; motion = m; follow = w; course = h .course; «auto_follow» = h .«auto_follow»; arrived = h .arrived; lap = h .lap; «updated_ms» = h .«updated_ms»; guide = h .guide }
+  grown = record { trail = k .trail; window = w; frame = f; fed = h .fed; here = h .here; «here_ms» = h .«here_ms»; motion = m; follow = n; course = h .course; «auto_follow» = h .«auto_follow»; arrived = h .arrived; lap = h .lap; «updated_ms» = h .«updated_ms»; guide = h .guide }
 
   abbrev pub whole : Homing
-  whole = record { trail = k .trail; frame = f; fed = h .fed; here = h .here; «here_ms» = h .«here_ms»; motion = m; follow = w; course = h .course; «auto_follow» = h .«auto_follow»; arrived = h .arrived; lap = l; «updated_ms» = h .«updated_ms»; guide = h .guide }
+  whole = record { trail = k .trail; window = w; frame = f; fed = h .fed; here = h .here; «here_ms» = h .«here_ms»; motion = m; follow = n; course = h .course; «auto_follow» = h .«auto_follow»; arrived = h .arrived; lap = l; «updated_ms» = h .«updated_ms»; guide = h .guide }
 
   on-it : m ≡ trackHeading (h .motion) p now → Changes (headed p now) there on
   unfolding headed
   on-it e = record { same = λ b. ap (λ (n : Motion). withMotion n (stateOf there b)) e; trail = refl }
 
-  takes : w ≡ afterThinning (k .thinned) (h .follow) → TakesOver on k grown
-  unfolding recordedIn
-  takes e = record { same = λ b. ap (λ (n : Follow). withFollow n (withTrack (trail.track (k .trail) b) (stateOf on b))) e; trail = refl }
-
-  grows : Records (λ C. trails.add C p) (h .trail) entry k exit → w ≡ afterThinning (k .thinned) (h .follow) → Follows (λ C. addIn C p) on entry grown exit
+  grows : Records (λ C. trails.add C p) (h .trail) (h .window) entry k w exit → n ≡ afterThinning (k .thinned) (h .follow)
+      → Follows (λ C. addIn C p) on entry grown exit
   unfolding addIn
-  grows did e = taken-over (λ C. trails.add C p) on grown k entry exit did (takes e)
+  grows did e = taken-over (λ C. trails.add C p) on did e
 
   passes : l ≡ passing p (m .heading) (h .lap) → Changes (passOnly p) grown whole
   unfolding passOnly passing
   passes e = record { same = λ b. ap (λ (n : Lap). withLap n (stateOf grown b)) e; trail = refl }
 
-  pub replays-parts : f ≡ located x (h .frame) → p ≡ framed f x → m ≡ trackHeading (h .motion) p now → Records (λ C. trails.add C p) (h .trail) entry k exit
-      → w ≡ afterThinning (k .thinned) (h .follow) → l ≡ passing p (m .heading) (h .lap) → Follows (λ C. replay C x now) h entry whole exit
+  pub replays-parts : f ≡ located x (h .frame) → p ≡ framed f x → m ≡ trackHeading (h .motion) p now → Records (λ C. trails.add C p) (h .trail) (h .window) entry k w exit
+      → n ≡ afterThinning (k .thinned) (h .follow) → l ≡ passing p (m .heading) (h .lap) → Follows (λ C. replay C x now) h entry whole exit
   replays-parts ef ep em did ew el = replays h on grown whole x now f p there entry exit ef ep (λ b. refl) refl (on-it em) (grows did ew) (passes el)

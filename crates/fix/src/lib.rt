@@ -12,7 +12,6 @@ use plane::Heading;
 use plane::Point;
 use plane::Spot;
 use state::Course;
-use state::Follow;
 use state::Homing;
 use state::Place;
 use state::Shown;
@@ -23,8 +22,7 @@ ghost use lib.ListN.{length};
 ghost use Rattle.trail.specs.View as trail;
 ghost use Rattle.follow.specs.View.{Changes, Follows};
 ghost use Rattle.motion.specs.Heading.{elapsed};
-ghost use Rattle.calls.specs.Fix.{fixLostMs, isAt, cleared, missing, headed, replay, endReplay};
-ghost use Rattle.follow.specs.Record.{afterThinning};
+ghost use Rattle.calls.specs.Fix.{fixLostMs, isAt, cleared, missing, replay, endReplay};
 ghost use Rattle.fix.specs.Pass.{passing};
 
 // A fix missing for longer than this leaves the guide without a position.
@@ -74,15 +72,6 @@ pub fn missing(h: Homing, now_ms: u64) -> Homing
     h
 }
 
-pub fn headed(h: Homing, p: Point, now_ms: u64) -> Homing
-    ensures { λ r. ⌜ Changes (headed p «now_ms») h r ⌝ }
-{
-    let was = h.motion;
-    let mut next = h;
-    next.motion = motion::track_heading(was, p, now_ms);
-    next
-}
-
 // ---- a fix from before a restart
 
 // The start pass is moved on, but no lap is taken.
@@ -93,16 +82,6 @@ fn passing(l: Lap, p: Point, heading: Heading) -> Lap
     let mut next = lap::step_pass(l, p, heading);
     next.passed = passed;
     next
-}
-
-// A following of the breadcrumb is over after a thinning.
-fn after_thinning(thinned: bool, f: Follow) -> Follow
-    ensures { λ r. ⌜ r ≡ afterThinning thinned f ⌝ }
-{
-    if thinned {
-        return follow_parts::left(f);
-    }
-    f
 }
 
 // Each group of the state by itself, so that the whole is copied once.
@@ -117,20 +96,17 @@ pub fn replay(h: Homing, crumbs: &mut [f32], lat: i32, lon: i32, now_ms: u64) ->
     let motion = motion::track_heading(m, p, now_ms);
     let heading = motion.heading;
     let t = h.trail;
-    let added = trail::add(t, crumbs, p);
-    let trail = added.trail;
     let f = h.follow;
-    let follow = after_thinning(added.thinned, f);
     let l = h.lap;
-    let lap = passing(l, p, heading);
-    Homing {
-        frame,
-        motion,
-        trail,
-        follow,
-        lap,
-        ..h
-    }
+    let mut next = h;
+    let added = trail::add(t, &mut next.window, crumbs, p);
+    let trail = added.trail;
+    next.trail = trail;
+    next.frame = frame;
+    next.motion = motion;
+    next.follow = follow_parts::after_thinning(added.thinned, f);
+    next.lap = passing(l, p, heading);
+    next
 }
 
 // The heading starts again from the next fix.

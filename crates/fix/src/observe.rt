@@ -11,7 +11,6 @@ ghost use Rattle.follow.specs.View.{HomingFit, courseOf};
 ghost use Rattle.update.specs.View.{Updates};
 ghost use Rattle.calls.specs.Fix.{sameFix, stillAt, newFix, seen};
 ghost use Rattle.fix.specs.Ready.{Ready};
-ghost use Rattle.fix.specs.Arrives.{Arrives};
 
 // A repeated fix is acted on this long after the last update.
 const STILL_MS: u64 = 1_000;
@@ -47,33 +46,29 @@ fn still_at(h: Homing, crumbs: &mut [f32], line: &[f32], here: Spot, now_ms: u64
             event: Event::Nothing,
         };
     }
-    let on = crate::headed(h, p, now_ms);
+    let m = h.motion;
+    let mut on = h;
+    on.motion = motion::track_heading(m, p, now_ms);
     update::update(on, crumbs, line, p, now_ms)
 }
 
-// The state at a new fix, before anything is made of it.
-fn arrived_at(h: Homing, lat: i32, lon: i32, now_ms: u64) -> Homing
-    ensures { λ r. ⌜ Arrives h (record { lat = lat; lon = lon }) «now_ms» r ⌝ }
-{
-    let was = h.frame;
-    let frame = course::located(was, lat, lon);
-    let p = course::framed(frame, lat, lon);
-    let there = Homing {
-        here: Spot::At(p),
-        fed: Place::At(lat, lon),
-        frame,
-        ..h
-    };
-    crate::headed(there, p, now_ms)
-}
-
+// The fix is the new place, in the frame that the ride's first fix gave, and the heading goes by it.
 fn new_fix(h: Homing, crumbs: &mut [f32], line: &[f32], lat: i32, lon: i32, now_ms: u64) -> Told
     requires { ⌜ Ready h (length (now crumbs)) (length (now line)) ⌝ }
     ensures { λ r. ⌜ Updates (λ C. newFix C (courseOf h (now (line .entry))) (record { lat = lat; lon = lon }) «now_ms») h (now (crumbs .entry)) r (now (crumbs .exit)) ⌝ }
 {
-    let there = arrived_at(h, lat, lon, now_ms);
-    let frame = there.frame;
+    let was = h.frame;
+    let frame = course::located(was, lat, lon);
     let p = course::framed(frame, lat, lon);
+    let m = h.motion;
+    let motion = motion::track_heading(m, p, now_ms);
+    let there = Homing {
+        here: Spot::At(p),
+        fed: Place::At(lat, lon),
+        frame,
+        motion,
+        ..h
+    };
     crate::new_fix::fix_on(there, crumbs, line, p, now_ms)
 }
 

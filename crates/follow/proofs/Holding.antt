@@ -8,6 +8,5 @@ same-held t r e =
     record {
       len = ap (λ (x : Trail). x .len) e;
       tolerance = ap (λ (x : Trail). x .tolerance) e;
-      window = ap (λ (x : Trail). x .window) e;
       waiting = ap (λ (x : Trail). x .«window_len») e;
     }

@@ -20,26 +20,49 @@ use Rattle.trail.specs.View.{track}
 use Rattle.trail.specs.Inner.{Records}
 use Rattle.trail.specs.View as trail
 use Rattle.state.specs.declared.Homing.{Homing}
+use Rattle.state.specs.declared.Follow.{Follow}
 use Rattle.state.specs.declared.Line.{Line}
 use Rattle.state.specs.State.{State, stateOf, withTrack, withFollow}
 use Rattle.state.specs.Rule.{Done, done}
-use Rattle.follow.specs.Record.{recordedIn, recorded, keepIn}
+use Rattle.follow.specs.Record.{afterThinning, recordedIn, recorded, keepIn}
 use Rattle.follow.specs.Parts.{stopped}
 use Rattle.follow.specs.Engage.{cutTo, leaveAt, forgotten, stopBreadcrumb, stopOn, stop}
-use Rattle.follow.specs.View.{TakesOver, Follows, Changes}
+use Rattle.follow.specs.View.{Follows, Changes}
 
-module _ (rule : ℕ → Rule) (h n : Homing) (r : Recorded) (entry exit : List Float) (did : Records rule (h .trail) entry r exit) (takes : TakesOver h r n) where
-  pub taken-over : Follows (λ C s. recorded (rule C (s .track)) s) h entry n exit
+-- the state with another trail, another window and another following
+abbrev recordedAs : Trail → List Float → Follow → Homing → Homing
+recordedAs t w f h =
+    record {
+      trail = t;
+      window = w;
+      frame = h .frame;
+      fed = h .fed;
+      here = h .here;
+      «here_ms» = h .«here_ms»;
+      motion = h .motion;
+      follow = f;
+      course = h .course;
+      «auto_follow» = h .«auto_follow»;
+      arrived = h .arrived;
+      lap = h .lap;
+      «updated_ms» = h .«updated_ms»;
+      guide = h .guide;
+    }
+
+module _ (rule : ℕ → Rule) (h : Homing) {r : Recorded} {entry w exit : List Float} {f : Follow} (did : Records rule (h .trail) (h .window) entry r w exit) where
+  pub taken-over : f ≡ afterThinning (r .thinned) (h .follow) → Follows (λ C s. recorded (rule C (s .track)) s) h entry (recordedAs (r .trail) w f h) exit
   unfolding recorded recordedIn
-  taken-over =
+  taken-over e =
+      let C = capacity (length entry) in
+      let d = rule C (track (h .trail) (h .window) entry) in
       record {
         same =
-            takes .same exit
-            ∙ ap (λ (b : Bool). recordedIn b (track (r .trail) exit) (stateOf h entry)) (did .thinned)
-            ∙ ap (λ (t : Track). recordedIn (thinnedIn (rule (capacity (length entry)) (track (h .trail) entry) .notes)) t (stateOf h entry)) (did .follows .same);
-        fit = subst (λ (t : Trail). trail.TrailFit t (length exit)) (sym (takes .trail)) (did .follows .fit);
+            ap (λ (x : Follow). withFollow x (withTrack (track (r .trail) w exit) (stateOf h entry)))
+            (e ∙ ap (λ (b : Bool). afterThinning b (h .follow)) (did .thinned))
+            ∙ ap (λ (t : Track). recordedIn (thinnedIn (d .notes)) t (stateOf h entry)) (did .follows .same);
+        fit = did .follows .fit;
         size = did .follows .size;
-        beyond = subst (λ (t : Trail). behind (max (h .trail .len) (t .len)) exit ≡ behind (max (h .trail .len) (t .len)) entry) (sym (takes .trail)) (did .follows .beyond);
+        beyond = did .follows .beyond;
       }
 
 -- ---- the breadcrumb cut
@@ -58,9 +81,9 @@ module _ (h cut r : Homing) (p : Point) (segment : ℕ) (entry exit : List Float
         beyond = behind-more (max (cut .trail .len) (r .trail .len)) (max (h .trail .len) (r .trail .len)) exit entry (max-le (cut .trail .len) (h .trail .len) (r .trail .len) l) (f .beyond);
       }
 
-pub cut-state : (h : Homing) (segment : ℕ) (entry : List Float) → segment ≤ h .trail .len → withTrack (withCrumbs (crumbs segment entry) (track (h .trail) entry)) (stateOf h entry) ≡ cutTo segment (stateOf h entry)
+pub cut-state : (h : Homing) (segment : ℕ) (entry : List Float) → segment ≤ h .trail .len → withTrack (withCrumbs (crumbs segment entry) (track (h .trail) (h .window) entry)) (stateOf h entry) ≡ cutTo segment (stateOf h entry)
 unfolding cutTo track
-cut-state h segment entry l = ap (λ (c : List Crumb). withTrack (withCrumbs c (track (h .trail) entry)) (stateOf h entry)) (sym (take-crumbs segment (h .trail .len) entry l))
+cut-state h segment entry l = ap (λ (c : List Crumb). withTrack (withCrumbs c (track (h .trail) (h .window) entry)) (stateOf h entry)) (sym (take-crumbs segment (h .trail .len) entry l))
 
 -- ---- a change that leaves the trail alone
 pub unmoved : (rule : State → State) (h r : Homing) (b : List Float) → trail.TrailFit (h .trail) (length b) → Changes rule h r → Follows (λ C s. done (tt {0}) (rule s)) h b r b
@@ -79,7 +102,7 @@ left-nowhere h matched segment b told f =
     subst (λ (m : Spot). Follows (λ C. leaveAt C m segment) h b h b) (sym told) (record { same = refl; fit = f; size = refl; beyond = refl })
 
 module _ (h f r : Homing) (entry exit : List Float) where
-  pub stops-at : stateOf f entry ≡ withFollow (stopped Nowhere (h .follow)) (withTrack (forgotten (track (h .trail) entry)) (stateOf h entry)) → f .trail .len ≡ h .trail .len
+  pub stops-at : stateOf f entry ≡ withFollow (stopped Nowhere (h .follow)) (withTrack (forgotten (track (h .trail) (h .window) entry)) (stateOf h entry)) → f .trail .len ≡ h .trail .len
       → Follows (λ C. leaveAt C (h .follow .matched) (h .follow .segment)) f entry r exit → Follows stopBreadcrumb h entry r exit
   unfolding stopBreadcrumb
   stops-at e l d =

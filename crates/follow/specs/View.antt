@@ -11,9 +11,6 @@ use Rattle.trail.specs.View as trail
 use Rattle.state.specs.declared.Line.the-variants as line
 use Rattle.state.specs.declared.Homing.{Homing}
 use Rattle.trail.specs.declared.Trail.{Trail}
-use Rattle.trail.specs.declared.Recorded.{Recorded}
-use Rattle.trail.specs.View.{track}
-use Rattle.follow.specs.Record.{recordedIn}
 use Rattle.follow.specs.declared.Answered.{Answered}
 use Rattle.state.specs.State.{State, stateOf}
 use Rattle.state.specs.Rule.{Done}
@@ -43,16 +40,10 @@ pub record Follows {A : Type 0} (rule : ℕ → State → Done A) (h : Homing) (
   -- and the numbers of the window that belong to no waiting place
   pub beyond : behind (max (h .trail .len) (r .trail .len)) exit ≡ behind (max (h .trail .len) (r .trail .len)) entry
 
--- A state that took over what was recorded.
-pub record TakesOver (h : Homing) (r : Recorded) (n : Homing) : Type 0 where
-  pub same : (b : List Float) → stateOf n b ≡ recordedIn (r .thinned) (track (r .trail) b) (stateOf h b)
-  pub trail : n .trail ≡ r .trail
-
--- a trail that holds the same crumbs and waiting places as another
+-- a trail that holds as many crumbs and waiting places as another, at the same tolerance
 pub record SameHeld (t r : Trail) : Type 0 where
   pub len : r .len ≡ t .len
   pub tolerance : r .tolerance ≡ t .tolerance
-  pub window : r .window ≡ t .window
   pub waiting : r .«window_len» ≡ t .«window_len»
 
 -- A rule that answers yes or no and keeps no crumb, on a crumb buffer b.

@@ -8,12 +8,13 @@ ghost use mathlib.Core.Path.{_≡_};
 ghost use Prim.Native.Nat.{_≤_};
 ghost use lib.ListN.{length};
 ghost use Rattle.crumbs.specs.Crumb.{capacity, crumbs as heldCrumbs};
+ghost use Rattle.follow.specs.Record.{afterThinning};
 ghost use Rattle.follow.specs.Parts.{endedByThinning, stopped, heldOff, alongAt, courseFrom, leads};
 
 // ---- what is followed
 
 // A following of the breadcrumb is over, without a cut; one of the course goes on.
-pub fn left(f: Follow) -> Follow
+fn left(f: Follow) -> Follow
     ensures { λ r. ⌜ r ≡ endedByThinning (f .line) f ⌝ }
 {
     let line = f.line;
@@ -28,6 +29,16 @@ pub fn left(f: Follow) -> Follow
         Line::Nothing => f,
         Line::Course => f,
     }
+}
+
+// A following of the breadcrumb is over after a thinning.
+pub fn after_thinning(thinned: bool, f: Follow) -> Follow
+    ensures { λ r. ⌜ r ≡ afterThinning thinned f ⌝ }
+{
+    if thinned {
+        return left(f);
+    }
+    f
 }
 
 pub fn stopped(f: Follow, matched: Spot) -> Follow

@@ -7,7 +7,6 @@ use plane::Spot;
 use state::Follow;
 use state::Homing;
 use state::Line;
-use trail::Recorded;
 ghost use mathlib.Core.Path.{_≡_};
 ghost use Prim.Native.Nat.{_≤_};
 ghost use lib.ListN.{length};
@@ -16,7 +15,7 @@ ghost use Rattle.trail.specs.View as trail;
 ghost use Rattle.state.specs.declared.Line.the-variants as line;
 ghost use Rattle.follow.specs.Record.{keepIn, addIn, flushIn};
 ghost use Rattle.follow.specs.Engage.{engageAt, engage, leaveAt, stopNothing, stopCourse, stopBreadcrumb, stop};
-ghost use Rattle.follow.specs.View.{courseOf, TakesOver, Changes, Follows, Asks};
+ghost use Rattle.follow.specs.View.{courseOf, Changes, Follows, Asks};
 
 // A state, and a yes or no beside it.
 pub struct Answered {
@@ -26,28 +25,18 @@ pub struct Answered {
 
 // ---- the breadcrumb
 
-// What was recorded, in the whole state.
-fn recorded(h: Homing, r: Recorded) -> Homing
-    ensures { λ n. ⌜ TakesOver h r n ⌝ }
-{
-    let mut next = h;
-    let trail = r.trail;
-    next.trail = trail;
-    if r.thinned {
-        let was = h.follow;
-        next.follow = follow_parts::left(was);
-        return next;
-    }
-    next
-}
-
 pub fn keep(h: Homing, crumbs: &mut [f32], p: Point) -> Homing
     requires { ⌜ trail.TrailFit (h .trail) (length (now crumbs)) ⌝ }
     ensures { λ r. ⌜ Follows (λ C. keepIn C p) h (now (crumbs .entry)) r (now (crumbs .exit)) ⌝ }
 {
     let t = h.trail;
-    let r = trail::keep(t, crumbs, p);
-    recorded(h, r)
+    let kept = trail::keep(t, crumbs, p);
+    let f = h.follow;
+    let mut next = h;
+    let trail = kept.trail;
+    next.trail = trail;
+    next.follow = follow_parts::after_thinning(kept.thinned, f);
+    next
 }
 
 pub fn add(h: Homing, crumbs: &mut [f32], p: Point) -> Homing
@@ -55,8 +44,13 @@ pub fn add(h: Homing, crumbs: &mut [f32], p: Point) -> Homing
     ensures { λ r. ⌜ Follows (λ C. addIn C p) h (now (crumbs .entry)) r (now (crumbs .exit)) ⌝ }
 {
     let t = h.trail;
-    let r = trail::add(t, crumbs, p);
-    recorded(h, r)
+    let f = h.follow;
+    let mut next = h;
+    let added = trail::add(t, &mut next.window, crumbs, p);
+    let trail = added.trail;
+    next.trail = trail;
+    next.follow = follow_parts::after_thinning(added.thinned, f);
+    next
 }
 
 pub fn flush(h: Homing, crumbs: &mut [f32]) -> Homing
@@ -64,8 +58,13 @@ pub fn flush(h: Homing, crumbs: &mut [f32]) -> Homing
     ensures { λ r. ⌜ Follows flushIn h (now (crumbs .entry)) r (now (crumbs .exit)) ⌝ }
 {
     let t = h.trail;
-    let r = trail::flush(t, crumbs);
-    recorded(h, r)
+    let flushed = trail::flush(t, &h.window, crumbs);
+    let f = h.follow;
+    let mut next = h;
+    let trail = flushed.trail;
+    next.trail = trail;
+    next.follow = follow_parts::after_thinning(flushed.thinned, f);
+    next
 }
 
 // ---- following begins

@@ -31,7 +31,7 @@ use Rattle.homing.specs.Answers.{saysReply, saysSight}
 pub record MakesNew (b : List Float) (r : Changed) : Type 0 where
   pub answered : saysReply (r .answer) ≡ answer (unless (question1 (length b)) 1) (tt {0})
   pub fresh : (crumbs : List Float) → stateOf (r .homing) crumbs ≡ new
-  pub window : r .homing .trail .window ≡ emptyWindow
+  pub window : r .homing .window ≡ emptyWindow
 
 -- `reset`, whatever the crumb buffer holds, which it is not given
 pub record DoesReset (h : Homing) (r : Changed) : Type 0 where

@@ -47,7 +47,7 @@ fn nearest_before(crumbs: &[f32], len: usize, p: Point, n: usize) -> Best
 
 // How long the breadcrumb was before the first fix back.
 pub fn len_before(t: Trail) -> usize
-    ensures { λ r. ⌜ ((b : List Float) → r ≡ lenBefore (track t b)) ⌝ }
+    ensures { λ r. ⌜ ((w b : List Float) → r ≡ lenBefore (track t w b)) ⌝ }
 {
     if t.retrace == 0 { t.len } else { t.retrace_len }
 }

@@ -106,7 +106,7 @@ module _ (h : Homing) (b : List Float) (fits : stateFits (stateOf h b) ≡ true)
   unfolding numbersFit track
   numbers =
       numbers-given
-      (placesFit (places (h .trail .«window_len») (h .trail .window)) && spotsFit (stateOf h b) && alongFits (h .course .along) && alongFits (h .course .reached))
+      (placesFit (places (h .trail .«window_len») (h .window)) && spotsFit (stateOf h b) && alongFits (h .course .along) && alongFits (h .course .reached))
       (headingFits (h .motion .heading)) (shownFits (h .guide)) (factorFits (h .frame .«east_per_e7»)) (le plusZero (h .trail .tolerance)) (halves .1)
 
   state-fits : Counted h

@@ -127,7 +127,7 @@ pub fn follow_fits(on: Line, segment: usize, len: usize, line_len: usize) -> boo
 }
 
 pub fn retrace_fits(t: Trail) -> bool
-    ensures { λ r. ⌜ ((b : List Float) → r ≡ retraceFits (track t b)) ⌝ }
+    ensures { λ r. ⌜ ((w b : List Float) → r ≡ retraceFits (track t w b)) ⌝ }
 {
     (t.retrace < joining::RETRACE_FIXES) & ((t.retrace == 0) | (t.retrace_len <= t.len))
 }

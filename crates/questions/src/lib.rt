@@ -56,7 +56,7 @@ fn numbers_fit(h: Homing) -> bool
     let m = h.motion;
     let heading = m.heading;
     let shown = h.guide;
-    counts::window_fits(&t.window, t.window_len)
+    counts::window_fits(&h.window, t.window_len)
         & spots_fit(h)
         & limits::along_fits(c.along)
         & limits::along_fits(c.reached)

@@ -58,7 +58,7 @@ module _ (last first : Utc) (r : Rebuild) (h : Homing) where
   unfolding perform performs
   begun-anew n e a =
       subst (λ (m : Made). Settles m h (visited decided n)) (sym (chosen false e))
-      (record { rebuilt = refl; same = λ C b. a .same b; fit = a .trail .fit })
+      (record { rebuilt = refl; same = λ C b. a .same b; fit = a .trail [] .fit })
 
 -- ---- a fix replayed
 module _ (x : Fix) (r : Rebuild) (h n : Homing) (entry exit : List Float) where

@@ -34,7 +34,7 @@ pub record State : Type 0 where
 abbrev pub stateOf : Homing → List Float → State
 stateOf h b =
     record {
-      track = track (h .trail) b;
+      track = track (h .trail) (h .window) b;
       frame = h .frame;
       fed = h .fed;
       here = h .here;

@@ -106,6 +106,8 @@ pub struct Follow {
 
 pub struct Homing {
     pub trail: Trail,
+    // The places that wait, as numbers: place i at 2i and 2i + 1.
+    pub window: [f32; 96],
     pub frame: Frame,
     // The fix last acted on.
     pub fed: Place,

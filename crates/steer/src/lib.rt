@@ -74,8 +74,10 @@ pub fn new() -> Homing
         fix: Spot::Nowhere,
     };
     let lap = no_lap();
+    let window = [0.0; 96];
     Homing {
         trail,
+        window,
         frame,
         fed: Place::Missing,
         here: Spot::Nowhere,

@@ -9,7 +9,7 @@ use Rattle.stored.specs.Stored.{mosts, wordsOf, StateFits}
 use Rattle.stored.proofs.fields.Fitting.{append-in}
 
 pub words-fit : (h : Homing) → within (take 22 mosts) (take 22 (wordsOf h)) ≡ true → within (drop 22 mosts) (drop 22 (wordsOf h)) ≡ true
-    → PlaceFits (h .frame .origin) → PlaceFits (h .fed) → length (h .trail .window) ≡ 96 → StateFits h
+    → PlaceFits (h .frame .origin) → PlaceFits (h .fed) → length (h .window) ≡ 96 → StateFits h
 unfolding mosts wordsOf
 words-fit h a b s t u =
     record {

@@ -34,16 +34,15 @@ module _ (h : Homing) (fits : StateFits h) (ws : List ℕ) (ns : List Float) whe
   unfolding mosts
   at i l = within-at mosts (wordsOf h) (fits .words) i l
 
-  window-back : take 96 (drop 14 N) ≡ h .trail .window
+  window-back : take 96 (drop 14 N) ≡ h .window
   unfolding numbersOf headOf
-  window-back = take-at (h .trail .window) ns 96 (fits .window)
+  window-back = take-at (h .window) ns 96 (fits .window)
 
   trail-back : trailAt W N ≡ h .trail
   unfolding trailAt wordsOf numbersOf headOf mosts
   trail-back = λ i. record {
     len = h .trail .len;
     tolerance = h .trail .tolerance;
-    window = window-back i;
     «window_len» = h .trail .«window_len»;
     retrace = narrow-same most8 (h .trail .retrace) (at 3 (omega arith)) i;
     «retrace_len» = h .trail .«retrace_len»;
@@ -133,6 +132,7 @@ module _ (h : Homing) (fits : StateFits h) (ws : List ℕ) (ns : List Float) whe
   unfolding homingAt
   homing-back = λ i. record {
     trail = trail-back i;
+    window = window-back i;
     frame = frame-back i;
     fed = fed-back i;
     here = here-back i;
@@ -153,7 +153,7 @@ module _ (h : Homing) (fits : StateFits h) (ws : List ℕ) (ns : List Float) whe
 
   long : length N ≡ 110 + length ns
   unfolding numbersOf headOf
-  long = length-append (numbersOf h) ns ∙ ap (λ k. k + length ns) (length-append (headOf h) (h .trail .window) ∙ ap (λ k. 14 + k) (fits .window))
+  long = length-append (numbersOf h) ns ∙ ap (λ k. k + length ns) (length-append (headOf h) (h .window) ∙ ap (λ k. 14 + k) (fits .window))
 
   enough : leb numberCount (length N) ≡ true
   enough = le-leb numberCount (length N) (omega (arith, long))

@@ -43,14 +43,14 @@ length-head h n s e p l =
     let k : length (headOf h) ≡ 14 = refl in
     ap length (head-front h n s e p) ∙ length-append (headOf h) (drop 14 n) ∙ ap (λ j. j + length (drop 14 n)) k ∙ omega (arith, d, l)
 
-pub numbers-front : (h : Homing) (n n₁ : List Float) {n′ : List Float} → length (h .trail .window) ≡ 96 → n₁ ≡ headOf h ++ drop 14 n
-    → n′ ≡ paste n₁ 14 (h .trail .window) (length (h .trail .window)) → n′ ≡ numbersOf h ++ drop numberCount n
+pub numbers-front : (h : Homing) (n n₁ : List Float) {n′ : List Float} → length (h .window) ≡ 96 → n₁ ≡ headOf h ++ drop 14 n
+    → n′ ≡ paste n₁ 14 (h .window) (length (h .window)) → n′ ≡ numbersOf h ++ drop numberCount n
 unfolding numbersOf headOf
 numbers-front h n n₁ long e p =
-    p ∙ ap (λ x. paste x 14 (h .trail .window) (length (h .trail .window))) e
-    ∙ ap (λ x. headOf h ++ x ++ drop (14 + length (h .trail .window)) (headOf h ++ drop 14 n)) (take-length (h .trail .window))
-    ∙ ap (λ k. headOf h ++ h .trail .window ++ drop (14 + k) (headOf h ++ drop 14 n)) long
-    ∙ ap (λ x. headOf h ++ h .trail .window ++ x) (drop-drop 96 14 n)
+    p ∙ ap (λ x. paste x 14 (h .window) (length (h .window))) e
+    ∙ ap (λ x. headOf h ++ x ++ drop (14 + length (h .window)) (headOf h ++ drop 14 n)) (take-length (h .window))
+    ∙ ap (λ k. headOf h ++ h .window ++ drop (14 + k) (headOf h ++ drop 14 n)) long
+    ∙ ap (λ x. headOf h ++ h .window ++ x) (drop-drop 96 14 n)
 
 -- ---- the promises
 pub stores : {h : Homing} {w : List ℕ} {n : List Float} {w′ : List ℕ} {n′ : List Float} → StateFits h → w′ ≡ wordsOf h ++ drop wordCount w

@@ -3,7 +3,6 @@
 use Prim.Native.Nat.{ℕ}
 use mathlib.Core.Bool.{Bool, true, false}
 use mathlib.Core.List.{List, [], _∷_, _++_}
-use lib.ListN.{take, drop}
 use lib.Ieee.{Float}
 use mir.Syntax.{w32}
 use mir.Val.{SFits}
@@ -63,7 +62,6 @@ trailAt w n =
     record {
       len = wordAt w 1;
       tolerance = numberAt n 0;
-      window = take 96 (drop windowAt n);
       «window_len» = wordAt w 2;
       retrace = narrowAt most8 w 3;
       «retrace_len» = wordAt w 4;

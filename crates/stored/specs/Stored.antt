@@ -24,7 +24,7 @@ use mathlib.Core.Bool.{Bool, true, false, _&&_}
 use mathlib.Core.List.{List, [], _∷_, _++_}
 use mathlib.Core.Option.{Option, none, some}
 use lib.Dec.{leb, eqb}
-use lib.ListN.{length, drop}
+use lib.ListN.{length, take, drop}
 use lib.Ieee.{Float}
 use Rattle.state.specs.declared.Homing.{Homing}
 use Rattle.stored.specs.Fields.{within, wordAt, flagAt, spotAt, placeRead, pointIn}
@@ -38,6 +38,7 @@ unfoldable pub homingAt : List ℕ → List Float → Homing
 homingAt w n =
     record {
       trail = trailAt w n;
+      window = take 96 (drop windowAt n);
       frame = frameAt w n;
       fed = placeRead w 8;
       here = spotAt w 11 n 2;
@@ -81,7 +82,7 @@ headOf h =
     ∷ []
 
 unfoldable pub numbersOf : Homing → List Float
-numbersOf h = headOf h ++ h .trail .window
+numbersOf h = headOf h ++ h .window
 
 -- ---- what is promised
 -- each field of a state fits its type, and the window has its 96 numbers
@@ -89,7 +90,7 @@ pub record StateFits (h : Homing) : Type 0 where
   pub words : within mosts (wordsOf h) ≡ true
   pub origin : PlaceFits (h .frame .origin)
   pub fed : PlaceFits (h .fed)
-  pub window : length (h .trail .window) ≡ 96
+  pub window : length (h .window) ≡ 96
 
 -- Reading back what was stored gives the same state, every field, whatever lies behind.
 abbrev pub ReadBack : Type 0

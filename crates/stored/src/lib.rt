@@ -89,6 +89,7 @@ fn homing_at(words: &[u64], numbers: &[f32]) -> Homing
 {
     Homing {
         trail: parts::trail_at(words, numbers),
+        window: parts::window_at(numbers),
         frame: parts::frame_at(words, numbers),
         fed: fields::place_at(words, 8),
         here: fields::spot_at(words, 11, numbers, 2),
@@ -214,7 +215,7 @@ fn store_numbers(h: Homing, numbers: &mut [f32])
 {
     let head = head_of(h);
     fields::put_numbers(&head, numbers, 0);
-    let window = h.trail.window;
+    let window = h.window;
     fields::put_numbers(&window, numbers, parts::WINDOW_AT);
 }
 

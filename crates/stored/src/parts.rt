@@ -28,7 +28,7 @@ const WINDOW: usize = 96;
 
 // ---- parts, read
 
-fn window_at(numbers: &[f32]) -> [f32; 96]
+pub fn window_at(numbers: &[f32]) -> [f32; 96]
     requires { ⌜ numberCount ≤ length (now numbers) ⌝ }
     ensures { λ r. ⌜ r ≡ take 96 (drop windowAt (now (numbers .entry))) ⌝ }
 {
@@ -46,7 +46,6 @@ pub fn trail_at(words: &[u64], numbers: &[f32]) -> Trail
     Trail {
         len: fields::usize_at(words, 1),
         tolerance: numbers[0],
-        window: window_at(numbers),
         window_len: fields::usize_at(words, 2),
         retrace: fields::u8_at(words, 3),
         retrace_len: fields::usize_at(words, 4),

@@ -31,15 +31,15 @@ use Rattle.trail.proofs.Rules.{thinned-then}
 use Rattle.trail.proofs.Theorems.{Sound, thin-sound}
 
 -- ---- a trail that fits, and its track
-pub sound-of : {t : Trail} (b : List Float) → TrailFit t (length b) → Sound (capacity (length b)) (track t b)
+pub sound-of : {t : Trail} (w b : List Float) → TrailFit t (length b) → Sound (capacity (length b)) (track t w b)
 unfolding track
-sound-of b f = record { held = rw length-crumbs (f .held); waiting = rw length-places (f .waiting); tolerance = f .tolerance }
+sound-of w b f = record { held = rw length-crumbs (f .held); waiting = rw length-places (f .waiting); tolerance = f .tolerance }
 
 -- a trail r in place of t, on a buffer of the same length
-fit-of : {t : Trail} (r : Trail) (b exit : List Float) → TrailFit t (length b) → length exit ≡ length b → Sound (capacity (length b)) (track r exit)
+fit-of : {t : Trail} (r : Trail) (w b exit : List Float) → TrailFit t (length b) → length exit ≡ length b → Sound (capacity (length b)) (track r w exit)
     → TrailFit r (length exit)
 unfolding track
-fit-of r b exit f e s =
+fit-of r w b exit f e s =
     rw e
     (record {
       whole-long = f .whole-long;
@@ -51,8 +51,9 @@ fit-of r b exit f e s =
     })
 
 -- ---- a rule after a rule, and a rule that is another at this track
-module _ {t t₁ t₂ : Trail} {b b₁ b₂ : List Float} {R S : ℕ → Rule} where
-  pub follows-then : TrailFollows R t b t₁ b₁ → TrailFollows S t₁ b₁ t₂ b₂ → t₁ .len ≤ max (t .len) (t₂ .len) → TrailFollows (λ C. R C >> S C) t b t₂ b₂
+module _ {t t₁ t₂ : Trail} {w w₁ w₂ b b₁ b₂ : List Float} {R S : ℕ → Rule} where
+  pub follows-then : TrailFollows R t w b t₁ w₁ b₁ → TrailFollows S t₁ w₁ b₁ t₂ w₂ b₂ → t₁ .len ≤ max (t .len) (t₂ .len)
+      → TrailFollows (λ C. R C >> S C) t w b t₂ w₂ b₂
   follows-then f g h =
       let n = max (t .len) (t₂ .len) in
       record {
@@ -64,19 +65,19 @@ module _ {t t₁ t₂ : Trail} {b b₁ b₂ : List Float} {R S : ℕ → Rule} w
             ∙ behind-more (max (t .len) (t₁ .len)) n b₁ b (omega arith) (f .beyond);
       }
 
-pub records-then : {t t₂ : Trail} {r : Recorded} {b b₁ b₂ : List Float} {R S : ℕ → Rule} → Records R t b r b₁ → TrailFollows S (r .trail) b₁ t₂ b₂
+pub records-then : {t t₂ : Trail} {r : Recorded} {w w₁ w₂ b b₁ b₂ : List Float} {R S : ℕ → Rule} → Records R t w b r w₁ b₁ → TrailFollows S (r .trail) w₁ b₁ t₂ w₂ b₂
     → r .trail .len ≤ max (t .len) (t₂ .len) → ((C : ℕ) (u : Track) → thinnedIn (S C u .notes) ≡ false)
-    → Records (λ C. R C >> S C) t b (record { trail = t₂; thinned = r .thinned }) b₂
-records-then {t} {b = b} {R = R} {S} f g h quiet =
+    → Records (λ C. R C >> S C) t w b (record { trail = t₂; thinned = r .thinned }) w₂ b₂
+records-then {t} {w = w} {b = b} {R = R} {S} f g h quiet =
     let C = capacity (length b) in
-    let d = R C (track t b) in
+    let d = R C (track t w b) in
     record {
       follows = follows-then (f .follows) g h;
       thinned = f .thinned ∙ sym (thinned-then (d .notes) (S C (d .track) .notes) (quiet C (d .track)));
     }
 
-pub records-as : {t : Trail} {r : Recorded} {b exit : List Float} {R S : ℕ → Rule} → Records R t b r exit
-    → R (capacity (length b)) (track t b) ≡ S (capacity (length b)) (track t b) → Records S t b r exit
+pub records-as : {t : Trail} {r : Recorded} {w b w′ exit : List Float} {R S : ℕ → Rule} → Records R t w b r w′ exit
+    → R (capacity (length b)) (track t w b) ≡ S (capacity (length b)) (track t w b) → Records S t w b r w′ exit
 records-as f e =
     record {
       follows =
@@ -89,26 +90,26 @@ records-as f e =
       thinned = f .thinned ∙ ap (λ d. thinnedIn (d .notes)) e;
     }
 
-pub records-still : {t : Trail} (b : List Float) → TrailFit t (length b) → Records (λ C. still) t b (record { trail = t; thinned = false }) b
-records-still b f = record { follows = record { same = refl; fit = f; size = refl; beyond = refl }; thinned = refl }
+pub records-still : {t : Trail} (w b : List Float) → TrailFit t (length b) → Records (λ C. still) t w b (record { trail = t; thinned = false }) w b
+records-still w b f = record { follows = record { same = refl; fit = f; size = refl; beyond = refl }; thinned = refl }
 
 -- ---- a place waits
-abbrev waited : Trail → Point → Trail
-waited t p =
+abbrev waited : Trail → Trail
+waited t =
     record {
       len = t .len;
       tolerance = t .tolerance;
-      window = putPlace (t .window) (t .«window_len») p;
       «window_len» = t .«window_len» + 1;
       retrace = t .retrace;
       «retrace_len» = t .«retrace_len»;
     }
 
-pub waits : (t : Trail) (p : Point) → length (t .window) ≡ 96 → t .«window_len» < windowPlaces → TrailChanges (wait p) t (waited t p)
+pub waits : (t : Trail) (w : List Float) (p : Point) → length w ≡ 96 → t .«window_len» < windowPlaces
+    → TrailChanges (wait p) t w (waited t) (putPlace w (t .«window_len») p)
 unfolding track wait
-waits t p long few =
+waits t w p long few =
     record {
-      same = λ b. ap (λ w. withWindow w (track t b)) (places-put (t .window) (t .«window_len») p (omega arith));
+      same = λ b. ap (λ l. withWindow l (track t w b)) (places-put w (t .«window_len») p (omega arith));
       fit = λ size f.
           record {
             whole-long = f .whole-long;
@@ -126,21 +127,20 @@ putOne t =
     record {
       len = t .len + 1;
       tolerance = t .tolerance;
-      window = t .window;
       «window_len» = t .«window_len»;
       retrace = t .retrace;
       «retrace_len» = t .«retrace_len»;
     }
 
-pub puts : (t : Trail) (p : Point) (b : List Float) {along : Float} {exit : List Float} → TrailFit t (length b) → t .len < capacity (length b)
-    → along ≡ recordedM (crumbs (t .len) b) p → exit ≡ putAt b (t .len) (crumbOf p along) → TrailFollows (λ C. put p) t b (putOne t) exit
+pub puts : (t : Trail) (p : Point) (w b : List Float) {along : Float} {exit : List Float} → TrailFit t (length b) → t .len < capacity (length b)
+    → along ≡ recordedM (crumbs (t .len) b) p → exit ≡ putAt b (t .len) (crumbOf p along) → TrailFollows (λ C. put p) t w b (putOne t) w exit
 unfolding track put
-puts t p b {along} {exit} f room far e =
+puts t p w b {along} {exit} f room far e =
     let n = t .len in
     let long : length exit ≡ length b = ap length e ∙ length-put b n (crumbOf p along) in
     record {
       same =
-          ap (λ l. withCrumbs l (track t b))
+          ap (λ l. withCrumbs l (track t w b))
           (ap (crumbs (n + 1)) e
           ∙ (crumbs-behind n b (crumbOf p along) room ∙ ap (λ m. crumbs n b ++ crumbOf p m ∷ []) far));
       fit =
@@ -160,14 +160,14 @@ puts t p b {along} {exit} f room far e =
 -- ---- a thinning
 abbrev thinnedTo : Trail → ℕ → Float → Trail
 thinnedTo t k d =
-    record { len = k; tolerance = d; window = t .window; «window_len» = t .«window_len»; retrace = 0; «retrace_len» = t .«retrace_len» }
+    record { len = k; tolerance = d; «window_len» = t .«window_len»; retrace = 0; «retrace_len» = t .«retrace_len» }
 
-track-thin : (t : Trail) (b exit : List Float) (k : ℕ) {d : Float} → crumbs k exit ≡ realong (thinned (t .len) (t .tolerance) b .left)
-    → d ≡ thinned (t .len) (t .tolerance) b .tolerance → track (thinnedTo t k d) exit ≡ thin (capacity (length b)) (track t b) .track
+track-thin : (t : Trail) (w b exit : List Float) (k : ℕ) {d : Float} → crumbs k exit ≡ realong (thinned (t .len) (t .tolerance) b .left)
+    → d ≡ thinned (t .len) (t .tolerance) b .tolerance → track (thinnedTo t k d) w exit ≡ thin (capacity (length b)) (track t w b) .track
 unfolding track thin
-track-thin t b exit k p q =
+track-thin t w b exit k p q =
     ap₂
-    (λ l x. record { crumbs = l; tolerance = x; window = places (t .«window_len») (t .window); retrace = 0; retraceLen = t .«retrace_len» })
+    (λ l x. record { crumbs = l; tolerance = x; window = places (t .«window_len») w; retrace = 0; retraceLen = t .«retrace_len» })
     p q
 
 asked : {t : Trail} {size : ℕ} → TrailFit t size → question9 size (t .len) (t .tolerance) ≡ true
@@ -193,13 +193,13 @@ module _ {t : Trail} {b b₁ : List Float} {r : Thinned} (f : TrailFit t (length
     pub room-left : k ≤ capacity (length b₁)
     room-left = omega (arith, fewer, f .held, done .size)
 
-    pub thins : {exit : List Float} → Realongs k b₁ exit → TrailFollows thin t b (thinnedTo t k d) exit
-    thins {exit} g =
+    pub thins : (w : List Float) {exit : List Float} → Realongs k b₁ exit → TrailFollows thin t w b (thinnedTo t k d) w exit
+    thins w {exit} g =
         let long : length exit ≡ length b = g .size ∙ done .size in
-        let same = track-thin t b exit k (g .held ∙ ap realong (is .held)) (is .tolerance) in
+        let same = track-thin t w b exit k (g .held ∙ ap realong (is .held)) (is .tolerance) in
         record {
           same = same;
-          fit = fit-of (thinnedTo t k d) b exit f long (rw same (thin-sound (capacity (length b)) (omega arith) (track t b) (sound-of b f)));
+          fit = fit-of (thinnedTo t k d) w b exit f long (rw same (thin-sound (capacity (length b)) (omega arith) (track t w b) (sound-of w b f)));
           size = long;
           beyond =
               behind-more k (max (t .len) k) exit b₁ (omega arith) (g .beyond)

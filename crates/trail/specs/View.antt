@@ -1,4 +1,4 @@
--- What a trail and the lent buffer stand for, and what the functions promise of it.
+-- What a trail, its window and the lent buffer stand for, and what the functions promise of it.
 use Prim.Native.Nat.{ℕ, zero, suc, _+_, _*_, _≤_}
 use mathlib.Core.Path.{_≡_}
 use mathlib.Core.Bool.{true}
@@ -20,12 +20,13 @@ unfoldable pub places : ℕ → List Float → List Point
 places zero w = []
 places (suc n) w = places n w ++ waitingAt w n ∷ []
 
-unfoldable pub track : Trail → List Float → Track
-track t b =
+-- a trail with the window's numbers w and the crumb buffer b
+unfoldable pub track : Trail → List Float → List Float → Track
+track t w b =
     record {
       crumbs = crumbs (t .len) b;
       tolerance = t .tolerance;
-      window = places (t .«window_len») (t .window);
+      window = places (t .«window_len») w;
       retrace = t .retrace;
       retraceLen = t .«retrace_len»;
     }

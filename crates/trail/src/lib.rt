@@ -7,9 +7,11 @@ use crumbs::along;
 use plane::Point;
 use thin::Thinned;
 ghost use mathlib.Core.Path.{_≡_};
+ghost use mathlib.Core.List.{List};
 ghost use mathlib.Core.Option.{Option·getD};
 ghost use Prim.Native.Nat.{_<_, _≤_};
 ghost use lib.ListN.{length};
+ghost use lib.Ieee.{Float};
 ghost use Rattle.crumbs.specs.Crumb.{capacity};
 ghost use Rattle.crumbs.specs.Choice.{last};
 ghost use Rattle.trail.specs.Trail.{windowPlaces, strays, thin, put, keep, flush, wait, simplify, add, resetTrack};
@@ -24,13 +26,13 @@ pub const TOLERANCE_M: f32 = 6.0;
 // The most places that wait.
 pub const WINDOW: usize = 48;
 
-// The breadcrumb's state beside the buffer that holds its crumbs.
+// The breadcrumb's state beside the window and the buffer that holds its crumbs. The window has the
+// places since the last kept crumb, oldest first: place i at 2i and 2i + 1.
 pub struct Trail {
     // Crumbs held.
     pub len: usize,
     pub tolerance: f32,
-    // The fixes since the last kept crumb, oldest first: place i at 2i and 2i + 1.
-    pub window: [f32; 96],
+    // Places that wait.
     pub window_len: usize,
     // Fixes in a row riding back along the breadcrumb, and its length before the first of them.
     pub retrace: u8,
@@ -47,11 +49,9 @@ pub struct Recorded {
 pub fn new() -> Trail
     ensures { λ r. ⌜ Emptied r ⌝ }
 {
-    let window = [0.0; 96];
     Trail {
         len: 0,
         tolerance: TOLERANCE_M,
-        window,
         window_len: 0,
         retrace: 0,
         retrace_len: 0,
@@ -60,7 +60,7 @@ pub fn new() -> Trail
 
 // Forget the breadcrumb.
 pub fn reset(t: Trail) -> Trail
-    ensures { λ r. ⌜ TrailChanges resetTrack t r ⌝ }
+    ensures { λ r. ⌜ ((w : List Float) → TrailChanges resetTrack t w r w) ⌝ }
 {
     Trail {
         len: 0,
@@ -95,16 +95,17 @@ fn last(window: &[f32; 96], window_len: usize, anchor: Point) -> Point
 }
 
 // `p` waits behind the others.
-fn wait(t: Trail, p: Point) -> Trail
-    requires { ⌜ t .«window_len» < windowPlaces ⌝ }
-    ensures { λ r. ⌜ TrailChanges (wait p) t r ⌝ }
+fn wait(t: Trail, window: &mut [f32; 96], p: Point) -> Trail
+    requires { ⌜ (length (now window) ≡ 96) × (t .«window_len» < windowPlaces) ⌝ }
+    ensures { λ r. ⌜ TrailChanges (wait p) t (now (window .entry)) r (now (window .exit)) ⌝ }
 {
-    let mut next = t;
     let at = 2 * t.window_len;
-    next.window[at] = p.east;
-    next.window[at + 1] = p.north;
-    next.window_len = t.window_len + 1;
-    next
+    window[at] = p.east;
+    window[at + 1] = p.north;
+    Trail {
+        window_len: t.window_len + 1,
+        ..t
+    }
 }
 
 // Whether a straight line from `anchor` to `p` would leave a waiting place farther off than `tolerance`.
@@ -125,7 +126,7 @@ fn strays(window: &[f32; 96], window_len: usize, anchor: Point, p: Point, tolera
 // go back to may be gone, so one that is under way is forgotten.
 fn thin(t: Trail, crumbs: &mut [f32]) -> Trail
     requires { ⌜ TrailFit t (length (now crumbs)) ⌝ }
-    ensures { λ r. ⌜ TrailFollows thin t (now (crumbs .entry)) r (now (crumbs .exit)) ⌝ }
+    ensures { λ r. ⌜ ((w : List Float) → TrailFollows thin t w (now (crumbs .entry)) r w (now (crumbs .exit))) ⌝ }
 {
     let Thinned::Left {
         len,
@@ -136,17 +137,18 @@ fn thin(t: Trail, crumbs: &mut [f32]) -> Trail
         return t;
     };
     along::realong(crumbs, len);
-    let mut left = t;
-    left.len = len;
-    left.tolerance = tolerance;
-    left.retrace = 0;
-    left
+    Trail {
+        len,
+        tolerance,
+        retrace: 0,
+        ..t
+    }
 }
 
 // A crumb at `p` behind those held.
 fn put(t: Trail, crumbs: &mut [f32], p: Point) -> Trail
     requires { ⌜ (TrailFit t (length (now crumbs))) × (t .len < capacity (length (now crumbs))) ⌝ }
-    ensures { λ r. ⌜ TrailFollows (λ C. put p) t (now (crumbs .entry)) r (now (crumbs .exit)) ⌝ }
+    ensures { λ r. ⌜ ((w : List Float) → TrailFollows (λ C. put p) t w (now (crumbs .entry)) r w (now (crumbs .exit))) ⌝ }
 {
     let len = t.len;
     let c = Crumb {
@@ -161,7 +163,7 @@ fn put(t: Trail, crumbs: &mut [f32], p: Point) -> Trail
 // Keep a crumb at `p`. Where there is no room left, the line is thinned first.
 pub fn keep(t: Trail, crumbs: &mut [f32], p: Point) -> Recorded
     requires { ⌜ TrailFit t (length (now crumbs)) ⌝ }
-    ensures { λ r. ⌜ Records (λ C. keep C p) t (now (crumbs .entry)) r (now (crumbs .exit)) ⌝ }
+    ensures { λ r. ⌜ ((w : List Float) → Records (λ C. keep C p) t w (now (crumbs .entry)) r w (now (crumbs .exit))) ⌝ }
 {
     if t.len == crumbs::capacity(crumbs.len()) {
         let left = thin(t, crumbs);
@@ -177,9 +179,9 @@ pub fn keep(t: Trail, crumbs: &mut [f32], p: Point) -> Recorded
 }
 
 // Keep the last place that waits, if one does, and empty the window.
-pub fn flush(t: Trail, crumbs: &mut [f32]) -> Recorded
+pub fn flush(t: Trail, window: &[f32; 96], crumbs: &mut [f32]) -> Recorded
     requires { ⌜ TrailFit t (length (now crumbs)) ⌝ }
-    ensures { λ r. ⌜ Records flush t (now (crumbs .entry)) r (now (crumbs .exit)) ⌝ }
+    ensures { λ r. ⌜ Records flush t (now (window .entry)) (now (crumbs .entry)) r (now (window .entry)) (now (crumbs .exit)) ⌝ }
 {
     let n = t.window_len;
     if n == 0 {
@@ -188,7 +190,7 @@ pub fn flush(t: Trail, crumbs: &mut [f32]) -> Recorded
             thinned: false,
         };
     }
-    let p = waiting(&t.window, n - 1);
+    let p = waiting(window, n - 1);
     let kept = keep(t, crumbs, p);
     let trail = kept.trail;
     Recorded {
@@ -201,39 +203,45 @@ pub fn flush(t: Trail, crumbs: &mut [f32]) -> Recorded
 }
 
 // `p` waits. Where a place before it strays, or the window is full, the last that waits is kept first.
-fn simplify(t: Trail, crumbs: &mut [f32], anchor: Point, p: Point) -> Recorded
-    requires { ⌜ TrailFit t (length (now crumbs)) ⌝ }
-    ensures { λ r. ⌜ Records (λ C. simplify C anchor p) t (now (crumbs .entry)) r (now (crumbs .exit)) ⌝ }
+fn simplify(
+    t: Trail,
+    window: &mut [f32; 96],
+    crumbs: &mut [f32],
+    anchor: Point,
+    p: Point,
+) -> Recorded
+    requires { ⌜ (length (now window) ≡ 96) × (TrailFit t (length (now crumbs))) ⌝ }
+    ensures { λ r. ⌜ Records (λ C. simplify C anchor p) t (now (window .entry)) (now (crumbs .entry)) r (now (window .exit)) (now (crumbs .exit)) ⌝ }
 {
-    if strays(&t.window, t.window_len, anchor, p, t.tolerance) || t.window_len == WINDOW {
-        let flushed = flush(t, crumbs);
+    if strays(window, t.window_len, anchor, p, t.tolerance) || t.window_len == WINDOW {
+        let flushed = flush(t, window, crumbs);
         let trail = flushed.trail;
         return Recorded {
-            trail: wait(trail, p),
+            trail: wait(trail, window, p),
             thinned: flushed.thinned,
         };
     }
     Recorded {
-        trail: wait(t, p),
+        trail: wait(t, window, p),
         thinned: false,
     }
 }
 
 // The window simplification: keep the last fix before one that would make a straight line from the
 // last kept crumb stray too far.
-pub fn add(t: Trail, crumbs: &mut [f32], p: Point) -> Recorded
-    requires { ⌜ TrailFit t (length (now crumbs)) ⌝ }
-    ensures { λ r. ⌜ Records (λ C. add C p) t (now (crumbs .entry)) r (now (crumbs .exit)) ⌝ }
+pub fn add(t: Trail, window: &mut [f32; 96], crumbs: &mut [f32], p: Point) -> Recorded
+    requires { ⌜ (length (now window) ≡ 96) × (TrailFit t (length (now crumbs))) ⌝ }
+    ensures { λ r. ⌜ Records (λ C. add C p) t (now (window .entry)) (now (crumbs .entry)) r (now (window .exit)) (now (crumbs .exit)) ⌝ }
 {
     if t.len == 0 {
         return keep(t, crumbs, p);
     }
     let anchor = along::end(crumbs, t.len);
-    if plane::distance(last(&t.window, t.window_len, anchor), p) < MIN_STEP_M {
+    if plane::distance(last(window, t.window_len, anchor), p) < MIN_STEP_M {
         return Recorded {
             trail: t,
             thinned: false,
         };
     }
-    simplify(t, crumbs, anchor, p)
+    simplify(t, window, crumbs, anchor, p)
 }

@@ -17,7 +17,8 @@ use Rattle.plane.specs.declared.Spot.{Spot}
 use Rattle.plane.specs.declared.Spot.the-variants as spot
 use Rattle.crumbs.specs.declared.Crumb.{Crumb}
 use Rattle.crumbs.specs.Crumb.{crumbs}
-use Rattle.motion.specs.Heading.{elapsed}
+use Rattle.motion.specs.declared.Motion.{Motion}
+use Rattle.motion.specs.Heading.{elapsed, trackHeading}
 use Rattle.state.specs.declared.Place.{Place}
 use Rattle.state.specs.declared.Place.the-variants as place
 use Rattle.state.specs.declared.Line.{Line}
@@ -26,7 +27,7 @@ use Rattle.state.specs.declared.Frame.{Frame}
 use Rattle.state.specs.declared.Follow.{Follow}
 use Rattle.state.specs.declared.Course.{Course}
 use Rattle.state.specs.declared.Homing.{Homing}
-use Rattle.state.specs.State.{State, stateOf, withFrame, withFed, withHere, withHereMs}
+use Rattle.state.specs.State.{State, stateOf, withFrame, withFed, withHere, withHereMs, withMotion}
 use Rattle.state.specs.Rule.{done}
 use Rattle.follow.specs.View.{HomingFit, courseOf, Changes}
 use Rattle.update.specs.Update.{update}
@@ -69,29 +70,39 @@ words-eq a b f g = by (eqb (ofZ w32 a) (ofZ w32 b)) refl
     by true e = sym (eqZ-same a b (words-same a b f g (eqb-true _ _ e)))
     by false e = sym (eqZ-other a b (λ h. eqb-false _ _ e (ap (λ z. ofZ w32 z) h)))
 
--- the state at a new fix, by its frame and its place
-module _ (h : Homing) (x : Fix) (now : ℕ) (f : Frame) (p : Point) (there r : Homing) where
-  pub arrives : f ≡ located x (h .frame) → p ≡ framed f x
-      → ((b : List Float) → stateOf there b ≡ withHere (spot.At p) (withFrame f (withFed (place.At (x .lat) (x .lon)) (stateOf h b)))) → there .trail ≡ h .trail
-      → Changes (headed p now) there r → Changes (arrivedAt x now) h r
-  unfolding arrivedAt
-  arrives ef ep same trail c =
-      record {
-        same = λ b.
-            let at : Frame → Point → State = λ g q. headed q now (withHere (spot.At q) (withFrame g (withFed (place.At (x .lat) (x .lon)) (stateOf h b)))) in
-            c .same b
-            ∙ ap (λ (s : State). headed p now s) (same b)
-            ∙ ap (λ (q : Point). at f q) ep
-            ∙ ap (λ (g : Frame). at g (framed g x)) ef;
-        trail = c .trail ∙ trail;
-      }
+-- the state at a new fix, by its frame, its place and its motion
+abbrev pub movedTo : Homing → Fix → Frame → Point → Motion → Homing
+movedTo h x f p m =
+    record {
+      trail = h .trail;
+      window = h .window;
+      frame = f;
+      fed = place.At (x .lat) (x .lon);
+      here = spot.At p;
+      «here_ms» = h .«here_ms»;
+      motion = m;
+      follow = h .follow;
+      course = h .course;
+      «auto_follow» = h .«auto_follow»;
+      arrived = h .arrived;
+      lap = h .lap;
+      «updated_ms» = h .«updated_ms»;
+      guide = h .guide;
+    }
 
-  headed-frame : (s : State) → headed p now s .frame ≡ s .frame
-  unfolding headed
-  headed-frame s = refl
-
-  pub arrives-framed : f ≡ located x (h .frame) → there .frame ≡ f → Changes (headed p now) there r → r .frame ≡ located x (h .frame)
-  arrives-framed ef et c = ap (λ (s : State). s .frame) (c .same []) ∙ headed-frame (stateOf there []) ∙ et ∙ ef
+pub arrives : (h : Homing) (x : Fix) (now : ℕ) {f : Frame} {p : Point} {m : Motion} → f ≡ located x (h .frame) → p ≡ framed f x
+    → m ≡ trackHeading (h .motion) p now → Changes (arrivedAt x now) h (movedTo h x f p m)
+unfolding arrivedAt headed
+arrives h x now {f} {p} {m} ef ep em =
+    record {
+      same = λ b.
+          let s = stateOf h b in
+          let at : Frame → Point → State = λ g q. headed q now (withHere (spot.At q) (withFrame g (withFed (place.At (x .lat) (x .lon)) s))) in
+          ap (λ (n : Motion). withMotion n (withHere (spot.At p) (withFrame f (withFed (place.At (x .lat) (x .lon)) s)))) em
+          ∙ ap (λ (q : Point). at f q) ep
+          ∙ ap (λ (g : Frame). at g (framed g x)) ef;
+      trail = refl;
+    }
 
 module _ (fed : Place) (x : Fix) where
   pub never-fed : fed ≡ place.Missing → false ≡ sameFix fed x
@@ -155,7 +166,31 @@ module _ (rule : State → State) (h r : Homing) (c : Changes rule h r) (same-fo
   pub changed-ready : (room lineRoom : ℕ) → Ready h room lineRoom → Ready r room lineRoom
   changed-ready room lineRoom q = ready-same h r room lineRoom q (c .trail) changed-follow changed-course
 
+-- the state with another motion
+abbrev pub movedOn : Homing → Motion → Homing
+movedOn h m =
+    record {
+      trail = h .trail;
+      window = h .window;
+      frame = h .frame;
+      fed = h .fed;
+      here = h .here;
+      «here_ms» = h .«here_ms»;
+      motion = m;
+      follow = h .follow;
+      course = h .course;
+      «auto_follow» = h .«auto_follow»;
+      arrived = h .arrived;
+      lap = h .lap;
+      «updated_ms» = h .«updated_ms»;
+      guide = h .guide;
+    }
+
 module _ (p : Point) (now : ℕ) where
+  pub turns : (h : Homing) {m : Motion} → m ≡ trackHeading (h .motion) p now → Changes (headed p now) h (movedOn h m)
+  unfolding headed
+  turns h e = record { same = λ b. ap (λ (m : Motion). withMotion m (stateOf h b)) e; trail = refl }
+
   headed-follows : (s : State) → headed p now s .follow ≡ s .follow
   unfolding headed
   headed-follows s = refl
@@ -166,9 +201,6 @@ module _ (p : Point) (now : ℕ) where
 
   pub headed-fit : (h r : Homing) (room lineRoom : ℕ) → Changes (headed p now) h r → HomingFit h room lineRoom → HomingFit r room lineRoom
   headed-fit h r room lineRoom c = changed-fit (headed p now) h r c headed-follows headed-courses room lineRoom
-
-  pub headed-course : (h r : Homing) → Changes (headed p now) h r → (line : List Float) → courseOf r line ≡ courseOf h line
-  headed-course h r c = changed-line (headed p now) h r c headed-follows headed-courses
 
 module _ (x : Fix) (now : ℕ) (h r : Homing) (c : Changes (arrivedAt x now) h r) where
   arrived-follows : (s : State) → arrivedAt x now s .follow ≡ s .follow

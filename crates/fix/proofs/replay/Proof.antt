@@ -30,18 +30,21 @@ same-length c = search needs
 
 returns : tie.Need-returns
 returns c =
-    let s = c .before .before .before .before .before .before .before .before .before .before .before .before .before .before .before .before .before in
+    let thinned = c .before in
+    let added = thinned .before .before .before .before in
+    let headed = added .before .before .before .before .before .before in
+    let placed = headed .before .before in
+    let framed-at = placed .before in
+    let s = framed-at .before .before .before in
     let g = s .args in
     let x : Fix = record { lat = g .lat; lon = g .lon } in
     let same = handed-fix (g .lat) (g .lon) (s .fits .lat .sfits) (s .fits .lon .sfits) in
-    let at = c .before .before .before .before .before .before .before .before .before .before .before .before .before .before .located in
-    let by = c .before .before .before .before .before .before .before .before .before .before .before .before .before .framed in
-    let m = c .before .before .before .before .before .before .before .before .before .before .before .track-heading in
-    let k = c .before .before .before .before .before .before .before .before .add in
-    let w = c .before .before .before .after-thinning in
-    let l = c .before .passing in
-    replays-parts (g .h) x (g .now-ms) (at .result) (by .result) (m .result) (k .result) (w .result) (l .result) (now (g .crumbs)) (k .last .1 .0)
-    (at .ensures ∙ ap (λ (y : Fix). located y (g .h .frame)) same) (by .ensures ∙ ap (λ (y : Fix). framed (at .result) y) same) (m .ensures) (k .ensures) (w .ensures) (l .ensures)
+    let f = framed-at .located .result in
+    replays-parts (g .h) x (g .now-ms) f (placed .framed .result) (headed .track-heading .result) (added .add .result) _
+    (thinned .after-thinning .result) (c .passing .result) (now (g .crumbs)) _
+    (framed-at .located .ensures ∙ ap (λ (y : Fix). located y (g .h .frame)) same)
+    (placed .framed .ensures ∙ ap (λ (y : Fix). framed f y) same) (headed .track-heading .ensures) (added .add .ensures)
+    (thinned .after-thinning .ensures) (c .passing .ensures)
 
 pub replay-spec : {M : Type 1} → statement M
 replay-spec =

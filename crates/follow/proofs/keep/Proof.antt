@@ -1,5 +1,4 @@
 -- `follow::keep` meets its contract. Assumes nothing.
-use denote.Ref.{now}
 use Rattle.trail.specs.Trail as trail
 use Rattle.follow.specs.Record.{keepIn}
 use Rattle.follow.proofs.Recording.{taken-over}
@@ -10,15 +9,18 @@ use Rattle.follow.proofs.keep.Tie as tie
 keep-requires : tie.Need-keep-requires
 keep-requires c κs = search needs
 
-recorded-requires : tie.Need-recorded-requires
-recorded-requires c κs = search needs
+after-thinning-requires : tie.Need-after-thinning-requires
+after-thinning-requires c κs = search needs
 
 same-length : tie.Need-same-length
 same-length c = search needs
 
 returns : tie.Need-returns
 unfolding keepIn
-returns c = let k = c .before .before .before in let g = k .before .before .before .before .args in taken-over (λ C. trail.keep C (g .p)) (g .h) (c .recorded .result) (k .keep .result) (now (g .crumbs)) (k .keep .last .1 .0) (k .keep .ensures) (c .recorded .ensures)
+returns c =
+    let kept = c .before .before .before .before .before in
+    let a = kept .before .before .before .before .args in
+    taken-over (λ C. trail.keep C (a .p)) (a .h) (kept .keep .ensures (a .h .window)) (c .after-thinning .ensures)
 
 pub keep-spec : {M : Type 1} → statement M
-keep-spec = tie.close (tie.spec keep-requires recorded-requires same-length returns)
+keep-spec = tie.close (tie.spec keep-requires after-thinning-requires same-length returns)

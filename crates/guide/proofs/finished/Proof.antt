@@ -44,15 +44,23 @@ guide-at-requires c κs =
 
 returns : tie.Need-returns
 returns c =
-    let g = c .before .before .before .before .before .before .before .before .before .before .before .before .before .before .before .before .before .args in
+    let shown = c .before .before .before .before .before .before .before in
+    let arrived = shown .before .before in
+    let long = arrived .before in
+    let on = long .before in
+    let far = on .before in
+    let goal = far .before in
+    let start = goal .before in
+    let g = start .before .before .before .before .args in
     let b = now (g .crumbs) in
     let l = courseOf (g .h) (now (g .line)) in
-    shows (g .h) b (now (g .line)) (g .p) (g .w) (g .e) (c .before .before .before .before .before .before .before .before .before .before .before .before .goal-on .result) (c .before .before .before .before .before .before .before .before .before .before .before .distance .result) (c .before .before .before .before .before .before .before .before .before .long-enough .result) (c .before .before .before .before .before .before .before .before .arrival .result) (c .before .before .before .before .before .before .guide-at .result)
-    (c .before .before .before .before .before .before .before .before .before .before .before .before .goal-on .ensures ∙ ap (λ (q : Point). goalOn (g .h .follow .line) l q) (c .before .before .before .before .before .before .before .before .before .before .before .before .before .start .ensures))
-    (c .before .before .before .before .before .before .before .before .before .before .before .distance .ensures)
-    (c .before .before .before .before .before .before .before .before .before .long-enough .ensures ∙ ap (λ (x : Bool). longEnough x (crumbs (g .h .trail .len) b)) (c .before .before .before .before .before .before .before .before .before .before .on-course .ensures))
-    (c .before .before .before .before .before .before .before .before .arrival .ensures b)
-    (c .before .before .before .before .before .before .guide-at .ensures b)
+    shows (g .h) b (now (g .line)) (g .p) (g .w) (g .e) (goal .goal-on .result) (far .distance .result) (long .long-enough .result)
+    (arrived .arrival .result) (shown .guide-at .result)
+    (goal .goal-on .ensures ∙ ap (λ (q : Point). goalOn (g .h .follow .line) l q) (start .start .ensures))
+    (far .distance .ensures)
+    (long .long-enough .ensures ∙ ap (λ (x : Bool). longEnough x (crumbs (g .h .trail .len) b)) (on .on-course .ensures))
+    (arrived .arrival .ensures b)
+    (shown .guide-at .ensures b)
     _ refl refl refl
 
 pub finished-spec : {M : Type 1} → statement M

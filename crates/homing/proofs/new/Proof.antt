@@ -28,7 +28,7 @@ returns c =
     (record {
       answered = sym (ap (λ (b : Bool). answer (unless b 1) (tt {0})) (sym (c .before .before .question1 .ensures) ∙ c .before .if1 .taken));
       fresh = c .before .before .before .new .ensures .same;
-      window = c .before .before .before .new .ensures .trail .window;
+      window = c .before .before .before .new .ensures .window;
     })
 
 refused-requires : tie.Need-refused-requires
@@ -41,7 +41,7 @@ returns-2 c =
     (record {
       answered = sym (ap (λ (b : Bool). answer (unless b 1) (tt {0})) (sym (c .before .before .question1 .ensures) ∙ c .before .if1 .left));
       fresh = c .before .before .before .new .ensures .same;
-      window = c .before .before .before .new .ensures .trail .window;
+      window = c .before .before .before .new .ensures .window;
     })
 
 pub new-spec : {M : Type 1} → statement M

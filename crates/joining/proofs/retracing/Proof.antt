@@ -28,8 +28,8 @@ returns c =
     let is = rode-back (g .p) (stateOf (g .h) b) (sym (c .before .before .before .before .before .rides-back .ensures) ∙ c .before .before .before .before .if1 .taken) in
     record {
       answered = sym (ap (λ (d : Done Bool). d .answer) is);
-      same = simp (c .before .before .len-before .ensures b) (sym (ap (λ (d : Done Bool). d .state) is));
-      held = record { len = refl; tolerance = refl; window = refl; waiting = refl };
+      same = simp (c .before .before .len-before .ensures (g .h .window) b) (sym (ap (λ (d : Done Bool). d .state) is));
+      held = record { len = refl; tolerance = refl; waiting = refl };
     }
 
 returns-2 : tie.Need-returns-2
@@ -41,7 +41,7 @@ returns-2 c =
     record {
       answered = sym (ap (λ (d : Done Bool). d .answer) is);
       same = sym (ap (λ (d : Done Bool). d .state) is);
-      held = record { len = refl; tolerance = refl; window = refl; waiting = refl };
+      held = record { len = refl; tolerance = refl; waiting = refl };
     }
 
 pub retracing-spec : {M : Type 1} → statement M

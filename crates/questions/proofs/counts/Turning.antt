@@ -13,6 +13,6 @@ use Rattle.calls.specs.Questions.{retraceFits}
 abbrev pub turned : Trail → Bool
 turned t = ltb (t .retrace) retraceFixes && (eqb (t .retrace) 0 || leb (t .«retrace_len») (t .len))
 
-pub retrace-counted : (t : Trail) (b : List Float) → retraceFits (track t b) ≡ turned t
+pub retrace-counted : (t : Trail) (w b : List Float) → retraceFits (track t w b) ≡ turned t
 unfolding retraceFits track
-retrace-counted t b = simp length-crumbs
+retrace-counted t w b = simp length-crumbs

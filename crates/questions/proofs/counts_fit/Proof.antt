@@ -15,7 +15,7 @@ retrace-fits-requires c κs = search needs
 
 returns : tie.Need-returns
 unfolding countsFit track
-returns c = λ b. simp (length-crumbs, length-places, ← c .before .follow-fits .ensures, c .retrace-fits .ensures b)
+returns c = λ b. simp (length-crumbs, length-places, ← c .before .follow-fits .ensures, c .retrace-fits .ensures (c .before .before .before .before .before .args .h .window) b)
 
 pub counts-fit-spec : {M : Type 1} → statement M
 counts-fit-spec = tie.close (tie.spec follow-fits-requires retrace-fits-requires returns)

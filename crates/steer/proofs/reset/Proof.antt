@@ -16,7 +16,12 @@ no-lap-requires c κs = search needs
 
 returns : tie.Need-returns
 unfolding reset unheaded
-returns c = record { same = λ b. simp (c .before .before .before .before .before .before .reset .ensures .same b, c .before .awaiting .ensures, c .no-lap .ensures); trail = c .before .before .before .before .before .before .reset .ensures }
+returns c =
+    let s = c .before .before .before .before .before .before .before in
+    record {
+      same = λ b. simp (s .reset .ensures (s .before .before .args .h .window) .same b, c .before .before .awaiting .ensures, c .before .no-lap .ensures);
+      trail = s .reset .ensures;
+    }
 
 pub reset-spec : {M : Type 1} → statement M
 reset-spec = tie.close (tie.spec reset-requires awaiting-requires no-lap-requires returns)

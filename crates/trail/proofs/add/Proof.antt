@@ -1,5 +1,6 @@
 -- `trail::add` keeps the first place, ignores one that is too near, and has any other wait.
 use native.Mathlib.Omega.{arith}
+use denote.Ref.{now}
 use lib.Ieee.{ofBits, round}
 use Rattle.binary32.specs.Arithmetic.{constant}
 use Rattle.trail.specs.Trail.{minStepM}
@@ -15,7 +16,11 @@ same-length : tie.Need-same-length
 same-length c = search needs
 
 returns : tie.Need-returns
-returns c = let at = c .before .before .before .before .before .before in adds-first (at .args .t1) _ (at .args .p) (c .before .before .before .before .if1 .taken) (c .before .before .keep .ensures)
+returns c =
+    let kept = c .before .before in
+    let empty = kept .before .before in
+    let a = empty .before .before .before .args in
+    adds-first (a .t) _ _ (a .p) (empty .if1 .taken) (kept .keep .ensures (now (a .window)))
 
 end-requires : tie.Need-end-requires
 end-requires c κs = search needs
@@ -32,9 +37,13 @@ same-length-2 c = search needs
 returns-2 : tie.Need-returns-2
 unfolding minStepM constant round ofBits
 returns-2 c =
-    let at = c .before .before .before .before .before .before .before .before .before in
-    adds-near (at .args .t1) _ (at .args .p) (omega (arith, c .before .before .before .before .before .before .before .if1 .left)) (c .before .before .before .before .before .end .ensures) (c .before .before .last .ensures) (at .pre)
-    (rw (c .before .distance .ensures) at (c .if2 .taken))
+    let far = c .before in
+    let last = far .before in
+    let end = last .before .before in
+    let some = end .before .before in
+    let at = some .before .before .before in
+    adds-near (at .args .t) _ _ (at .args .p) (omega (arith, some .if1 .left)) (end .end .ensures) (last .last .ensures) (at .pre .1)
+    (rw (far .distance .ensures) at (c .if2 .taken))
 
 simplify-requires : tie.Need-simplify-requires
 simplify-requires c κs = search needs
@@ -45,9 +54,15 @@ same-length-3 c = search needs
 returns-3 : tie.Need-returns-3
 unfolding minStepM constant round ofBits
 returns-3 c =
-    let at = c .before .before .before .before .before .before .before .before .before .before .before .before .before in
-    adds-far (at .args .t1) _ (at .args .p) (omega (arith, c .before .before .before .before .before .before .before .before .before .before .before .if1 .left)) (c .before .before .before .before .before .before .before .before .before .end .ensures) (c .before .before .before .before .before .before .last .ensures)
-    (rw (c .before .before .before .before .before .distance .ensures) at (c .before .before .before .before .if2 .left)) (c .before .before .simplify .ensures)
+    let simplified = c .before .before in
+    let tested = simplified .before .before .before in
+    let far = tested .before in
+    let last = far .before in
+    let end = last .before .before in
+    let some = end .before .before in
+    let at = some .before .before .before in
+    adds-far (at .args .t) _ _ (at .args .p) (omega (arith, some .if1 .left)) (end .end .ensures) (last .last .ensures)
+    (rw (far .distance .ensures) at (tested .if2 .left)) (simplified .simplify .ensures)
 
 pub add-spec : {M : Type 1} → statement M
 add-spec =

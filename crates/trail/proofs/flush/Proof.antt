@@ -1,12 +1,13 @@
 -- `trail::flush` keeps the last place that waits, and empties the window.
 use native.Mathlib.Omega.{arith}
+use denote.Ref.{now}
 use Rattle.trail.proofs.Recording.{flushes-none, flushes}
 use borrow.Author.Needs.{needs}
 use Rattle.trail.proofs.flush.Statement.{statement}
 use Rattle.trail.proofs.flush.Tie as tie
 
 returns : tie.Need-returns
-returns c = flushes-none _ (c .before .before .pre) (c .if1 .taken)
+returns c = let at = c .before .before in flushes-none (now (at .args .window)) _ (at .pre) (c .if1 .taken)
 
 sub-waiting : tie.Need-sub-waiting
 sub-waiting c = search needs
@@ -22,9 +23,11 @@ same-length c = search needs
 
 returns-2 : tie.Need-returns-2
 returns-2 c =
-    let at = c .before .before .before .before .before .before .before .before .before .before .before in
-    let some-wait = c .before .before .before .before .before .before .before .before .before .if1 .left in
-    flushes (at .args .t1) _ (c .before .before .before .before .before .before .waiting .result) (omega (arith, some-wait)) (c .before .before .before .before .before .before .waiting .ensures) (c .before .before .before .before .keep .ensures)
+    let kept = c .before .before .before in
+    let last = kept .before .before in
+    let at = last .before .before .before in
+    flushes (at .args .t) (now (at .args .window)) _ (last .waiting .result) (omega (arith, last .before .if1 .left)) (last .waiting .ensures)
+    (kept .keep .ensures (now (at .args .window)))
 
 pub flush-spec : {M : Type 1} → statement M
 flush-spec =

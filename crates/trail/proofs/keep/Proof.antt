@@ -1,5 +1,6 @@
 -- `trail::keep` puts the crumb behind those held, or behind those that a thinning leaves.
 use mathlib.Core.Path.{sym, _∙_}
+use mathlib.Core.List.{[]}
 use Rattle.trail.proofs.Recording.{room-behind, keeps-full, keeps-room}
 use borrow.Author.Needs.{needs}
 use Rattle.trail.proofs.keep.Statement.{statement}
@@ -13,18 +14,18 @@ thin-requires c κs = search needs
 
 put-requires : tie.Need-put-requires
 put-requires c κs =
-    let thinned = c .before .before .before .thin .ensures in
+    let thinned = c .before .before .before .thin .ensures [] in
     (thinned .fit, room-behind (c .before .before .before .before .before .before .before .before .before .pre) thinned)
 
 same-length : tie.Need-same-length
 same-length c = search needs
 
 returns : tie.Need-returns
-returns c =
+returns c = λ w.
     let at = c .before .before .before .before .before .before .before .before .before .before .before .before in
-    keeps-full (at .args .t) _ (at .args .p) (at .pre)
+    keeps-full (at .args .t) w _ (at .args .p) (at .pre)
     (c .before .before .before .before .before .before .before .before .if1 .taken ∙ c .before .before .before .before .before .before .before .before .before .before .capacity .ensures)
-    (c .before .before .before .before .before .before .thin .ensures) (c .before .before .put .ensures)
+    (c .before .before .before .before .before .before .thin .ensures w) (c .before .before .put .ensures w)
 
 put-requires-2 : tie.Need-put-requires-2
 put-requires-2 c κs = search needs
@@ -33,10 +34,10 @@ same-length-2 : tie.Need-same-length-2
 same-length-2 c = search needs
 
 returns-2 : tie.Need-returns-2
-returns-2 c =
+returns-2 c = λ w.
     let at = c .before .before .before .before .before .before .before .before in
-    keeps-room (at .args .t) _ (at .args .p) (λ e. c .before .before .before .before .if1 .left (e ∙ sym (c .before .before .before .before .before .before .capacity .ensures)))
-    (c .before .before .put2 .ensures)
+    keeps-room (at .args .t) w _ (at .args .p) (λ e. c .before .before .before .before .if1 .left (e ∙ sym (c .before .before .before .before .before .before .capacity .ensures)))
+    (c .before .before .put2 .ensures w)
 
 pub keep-spec : {M : Type 1} → statement M
 keep-spec =

@@ -17,10 +17,11 @@ same-length : tie.Need-same-length
 same-length c = search needs
 
 returns : tie.Need-returns
-returns c =
-    let at = c .before .before .before .before .before .before .before .before in
-    puts (at .args .t) (at .args .p) _ (at .pre .0) (at .pre .1) (c .before .before .before .before .before .recorded-m .ensures)
-    (c .before .before .before .put .ensures)
+returns c = λ w.
+    let kept = c .before .before in
+    let far = kept .before .before in
+    let at = far .before .before .before in
+    puts (at .args .t) (at .args .p) w _ (at .pre .0) (at .pre .1) (far .recorded-m .ensures) (kept .put .ensures)
 
 pub put-spec : {M : Type 1} → statement M
 put-spec = tie.close (tie.spec recorded-m-requires put-requires add-t12 same-length returns)

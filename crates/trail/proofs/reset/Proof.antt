@@ -11,7 +11,7 @@ use Rattle.trail.proofs.reset.Tie as tie
 
 returns : tie.Need-returns
 unfolding toleranceM resetTrack constant round ofBits le lt crumbs places track
-returns c =
+returns c = λ w.
     record {
       same = λ b. refl;
       fit = λ size f.

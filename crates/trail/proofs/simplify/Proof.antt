@@ -15,28 +15,38 @@ flush-requires : tie.Need-flush-requires
 flush-requires c κs = search needs
 
 wait-requires : tie.Need-wait-requires
-wait-requires c κs = room-to-wait (c .before .before .before .flush .ensures)
+wait-requires c κs =
+    let flushed = c .before .before .before .before in
+    let at = flushed .before .before .before .before .before .before .before in
+    (at .pre .0, room-to-wait (flushed .flush .ensures))
 
 same-length : tie.Need-same-length
 same-length c = search needs
 
 returns : tie.Need-returns
 returns c =
-    let at = c .before .before .before .before .before .before .before .before .before .before .before in
-    let is = c .before .before .before .before .before .before .before .strays .ensures in
-    simplifies-bends (at .args .t1) _ (at .args .anchor) (at .args .p)
-    (⊎-elim (λ w. strayed (at .args .t1) _ (at .args .anchor) (at .args .p) is (w .taken)) (λ w. filled (at .args .t1) _ (at .args .anchor) (at .args .p) is (w .1 .taken)) (c .before .before .before .before .before .before .if1 .came))
-    (c .before .before .before .before .flush .ensures) (c .wait .ensures)
+    let flushed = c .before .before .before .before .before in
+    let tested = flushed .before .before .before in
+    let is = tested .before .strays .ensures in
+    let at = tested .before .before .before .before in
+    let a = at .args in
+    simplifies-bends (a .t) _ _ (a .anchor) (a .p)
+    (⊎-elim (λ x. strayed (a .t) _ _ (a .anchor) (a .p) is (x .taken)) (λ x. filled (a .t) _ _ (a .anchor) (a .p) is (x .2 .taken)) (tested .if1 .came))
+    (flushed .flush .ensures) (c .wait .ensures)
 
 wait-requires-2 : tie.Need-wait-requires-2
-wait-requires-2 c κs = let t = c.before .before .before .before .before .before .args .t1 in omega (arith, eqb-false (t .«window_len») windowPlaces (c .if2 .left), c .before .before .before .before .before .before .pre)
+wait-requires-2 c κs =
+    let at = c .before .before .before .before .before .before .before in
+    (at .pre .0, omega (arith, eqb-false (at .args .t .«window_len») windowPlaces (c .before .if2 .left), at .pre .1))
 
 returns-2 : tie.Need-returns-2
 returns-2 c =
-    let at = c .before .before .before .before .before .before .before in
-    simplifies-straight (at .args .t1) _ (at .args .anchor) (at .args .p) (at .pre)
-    (straight (at .args .t1) _ (at .args .anchor) (at .args .p) (c .before .before .before .strays .ensures) (c .before .before .if1 .left) (c .before .if2 .left))
-    (c .wait2 .ensures)
+    let full = c .before .before in
+    let tested = full .before .before in
+    let at = tested .before .before .before .before in
+    let a = at .args in
+    simplifies-straight (a .t) _ _ (a .anchor) (a .p) (at .pre .1)
+    (straight (a .t) _ _ (a .anchor) (a .p) (tested .before .strays .ensures) (tested .if1 .left) (full .if2 .left)) (c .wait2 .ensures)
 
 pub simplify-spec : {M : Type 1} → statement M
 simplify-spec =

@@ -17,7 +17,7 @@ same-length : tie.Need-same-length
 same-length c = search needs
 
 returns : tie.Need-returns
-returns c =
+returns c = λ w.
     let at = c .before .before .before .before in
     absurd (taken (at .before .before .before .pre) (at .thin .ensures) (c .enum-told .given .1))
 
@@ -30,9 +30,10 @@ same-length-2 : tie.Need-same-length-2
 same-length-2 c = search needs
 
 returns-2 : tie.Need-returns-2
-returns-2 c =
+returns-2 c = λ w.
     let at = c .before .before .before .before .before .before .before .before .before in
-    thins (at .before .before .before .pre) (at .thin .ensures) (c .before .before .before .before .before .len .given .1) (c .before .before .realong .ensures)
+    thins (at .before .before .before .pre) (at .thin .ensures) (c .before .before .before .before .before .len .given .1) w
+    (c .before .before .realong .ensures)
 
 pub thin-spec : {M : Type 1} → statement M
 thin-spec =

@@ -1,4 +1,5 @@
 -- `trail::wait` puts the place behind the others.
+use denote.Ref.{now}
 use Rattle.trail.proofs.Tracks.{waits}
 use borrow.Author.Needs.{needs}
 use Rattle.trail.proofs.wait.Statement.{statement}
@@ -7,36 +8,36 @@ use Rattle.trail.proofs.wait.Tie as tie
 mul-at : tie.Need-mul-at
 mul-at c = search needs
 
-mul-next : tie.Need-mul-next
-mul-next c = search needs
+mul-window : tie.Need-mul-window
+mul-window c = search needs
 
-element-write-next : tie.Need-element-write-next
-element-write-next c = search needs
+element-write-window : tie.Need-element-write-window
+element-write-window c = search needs
 
-add-next : tie.Need-add-next
-add-next c = search needs
+add-window : tie.Need-add-window
+add-window c = search needs
 
-mul-next-2 : tie.Need-mul-next-2
-mul-next-2 c = search needs
+mul-window-2 : tie.Need-mul-window-2
+mul-window-2 c = search needs
 
-element-write-next-2 : tie.Need-element-write-next-2
-element-write-next-2 c = search needs
+element-write-window-2 : tie.Need-element-write-window-2
+element-write-window-2 c = search needs
 
-add-next-2 : tie.Need-add-next-2
-add-next-2 c = search needs
+add-t5 : tie.Need-add-t5
+add-t5 c = search needs
 
 returns : tie.Need-returns
-returns c = let a = c .before .before .args in waits (a .t) (a .p) (search needs) (c .before .before .pre)
+returns c = let at = c .before .before in waits (at .args .t) (now (at .args .window)) (at .args .p) (at .pre .0) (at .pre .1)
 
 pub wait-spec : {M : Type 1} → statement M
 wait-spec =
     tie.close
     (tie.spec
     mul-at
-    mul-next
-    element-write-next
-    add-next
-    mul-next-2
-    element-write-next-2
-    add-next-2
+    mul-window
+    element-write-window
+    add-window
+    mul-window-2
+    element-write-window-2
+    add-t5
     returns)

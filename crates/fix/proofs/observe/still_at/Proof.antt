@@ -12,7 +12,7 @@ use Rattle.follow.specs.View.{courseOf}
 use Rattle.update.specs.Update.{update}
 use Rattle.calls.specs.Fix.{stillMs, stillAt}
 use Rattle.fix.proofs.recording.Moving.{updates-after, updates-nothing, same-len}
-use Rattle.fix.proofs.observe.Seeing.{still-nowhere, still-early, still-due, headed-fit, headed-course}
+use Rattle.fix.proofs.observe.Seeing.{still-nowhere, still-early, still-due, movedOn, turns, headed-fit}
 use borrow.Author.Needs.{needs}
 use Rattle.fix.proofs.observe.still_at.Statement.{statement}
 use Rattle.fix.proofs.observe.still_at.Tie as tie
@@ -43,30 +43,38 @@ returns-2 c =
     (still-early (g .here) (capacity (length (now (g .crumbs)))) l (g .now-ms) (stateOf (g .h) (now (g .crumbs))) (c .before .before .before .here .given .0 .0) (c .before .before .before .here .given .1)
     (ap (λ (n : ℕ). ltb n stillMs) (sym (c .before .elapsed .ensures)) ∙ lt-ltb _ _ (c .if1 .taken)))
 
-headed-requires : tie.Need-headed-requires
-headed-requires c κs = search needs
+track-heading-requires : tie.Need-track-heading-requires
+track-heading-requires c κs = search needs
 
 update-requires : tie.Need-update-requires
-update-requires c κs = let s = c .before .before .before .before .before .before .before .before .before in let g = s .args in headed-fit (c .before .before .before .before .before .here .given .0 .0) (g .now-ms) (g .h) (c .before .headed .result) _ _ (c .before .headed .ensures) (s .pre)
+update-requires c κs =
+    let headed = c .before in
+    let p = headed .before .before .before .before .before .here .given .0 .0 in
+    let s = headed .before .before .before .before .before .before .before .before .before in
+    let g = s .args in
+    headed-fit p (g .now-ms) (g .h) _ _ _ (turns p (g .now-ms) (g .h) (headed .track-heading .ensures)) (s .pre)
 
 same-length : tie.Need-same-length
 same-length c = search needs
 
 returns-3 : tie.Need-returns-3
 returns-3 c =
-    let s = c .before .before .before .before .before .before .before .before .before .before .before .before in
-    let g = s .args in
+    let u = c .before .before in
+    let headed = u .before .before in
+    let due = headed .before .before in
+    let at = due .before .before .before in
+    let g = at .before .before .before .before .args in
     let b = now (g .crumbs) in
     let l = courseOf (g .h) (now (g .line)) in
-    let p = c .before .before .before .before .before .before .before .before .here .given .0 .0 in
-    let on = c .before .before .before .before .headed .result in
-    let u = c .before .before .update in
+    let p = at .here .given .0 .0 in
+    let on = movedOn (g .h) (headed .track-heading .result) in
+    let turned = turns p (g .now-ms) (g .h) (headed .track-heading .ensures) in
     let C = capacity (length b) in
-    updates-after (λ C. stillAt (g .here) C l (g .now-ms)) (λ C. update C (courseOf on (now (g .line))) p (g .now-ms)) (g .h) on b (u .last .1 .0) (u .result) (same-len (g .h) on (c .before .before .before .before .headed .ensures .trail))
-    (still-due (g .here) C l (g .now-ms) (stateOf (g .h) b) p (c .before .before .before .before .before .before .before .before .here .given .1) (ap (λ (n : ℕ). ltb n stillMs) (sym (c .before .before .before .before .before .before .elapsed .ensures)) ∙ le-ltb _ _ (c .before .before .before .before .before .if1 .left))
-    ∙ ap (λ (x : State). update C l p (g .now-ms) x) (sym (c .before .before .before .before .headed .ensures .same b))
-    ∙ ap (λ k. update C k p (g .now-ms) (stateOf on b)) (sym (headed-course p (g .now-ms) (g .h) on (c .before .before .before .before .headed .ensures) (now (g .line)))))
-    (u .ensures)
+    updates-after (λ C. stillAt (g .here) C l (g .now-ms)) (λ C. update C l p (g .now-ms)) (g .h) on b (u .update .last .1 .0) (u .update .result)
+    (same-len (g .h) on refl)
+    (still-due (g .here) C l (g .now-ms) (stateOf (g .h) b) p (at .here .given .1) (ap (λ (n : ℕ). ltb n stillMs) (sym (due .before .elapsed .ensures)) ∙ le-ltb _ _ (due .if1 .left))
+    ∙ ap (λ (x : State). update C l p (g .now-ms) x) (sym (turned .same b)))
+    (u .update .ensures)
 
 pub still-at-spec : {M : Type 1} → statement M
 still-at-spec =
@@ -77,7 +85,7 @@ still-at-spec =
     returns
     elapsed-requires
     returns-2
-    headed-requires
+    track-heading-requires
     update-requires
     same-length
     returns-3)

@@ -9,11 +9,11 @@ use Rattle.joining.proofs.retrace.len_before.Tie as tie
 
 returns : tie.Need-returns
 unfolding lenBefore track
-returns c = λ b. simp (eq-eqb _ _ (c .if1 .taken), length-crumbs)
+returns c = λ w b. simp (eq-eqb _ _ (c .if1 .taken), length-crumbs)
 
 returns-2 : tie.Need-returns-2
 unfolding lenBefore track
-returns-2 c = λ b. simp (ne-eqb _ _ (c .if1 .left))
+returns-2 c = λ w b. simp (ne-eqb _ _ (c .if1 .left))
 
 pub len-before-spec : {M : Type 1} → statement M
 len-before-spec = tie.close (tie.spec returns returns-2)

@@ -10,9 +10,6 @@ usize-at-requires c κs = search needs
 shared-slice-read-t5 : tie.Need-shared-slice-read-t5
 shared-slice-read-t5 c = search needs
 
-window-at-requires : tie.Need-window-at-requires
-window-at-requires c κs = search needs
-
 usize-at-requires-2 : tie.Need-usize-at-requires-2
 usize-at-requires-2 c κs = search needs
 
@@ -24,7 +21,7 @@ usize-at-requires-3 c κs = search needs
 
 returns : tie.Need-returns
 unfolding trailAt
-returns c = simp (← c .usize-at3 .ensures, ← c .before .u8-at .ensures, ← c .before .before .usize-at2 .ensures, ← c .before .before .before .window-at .ensures, ← c .before .before .before .before .before .usize-at .ensures)
+returns c = simp (← c .usize-at3 .ensures, ← c .before .u8-at .ensures, ← c .before .before .usize-at2 .ensures, ← c .before .before .before .before .usize-at .ensures)
 
 pub trail-at-spec : {M : Type 1} → statement M
 trail-at-spec =
@@ -32,7 +29,6 @@ trail-at-spec =
     (tie.spec
     usize-at-requires
     shared-slice-read-t5
-    window-at-requires
     usize-at-requires-2
     u8-at-requires
     usize-at-requires-3

@@ -1,8 +1,8 @@
--- `fix::after_thinning` meets its contract. Assumes nothing.
+-- `follow::follow_parts::after_thinning` meets its contract. Assumes nothing.
 use Rattle.follow.specs.Record.{afterThinning}
 use borrow.Author.Needs.{needs}
-use Rattle.fix.proofs.after_thinning.Statement.{statement}
-use Rattle.fix.proofs.after_thinning.Tie as tie
+use Rattle.follow.proofs.follow_parts.after_thinning.Statement.{statement}
+use Rattle.follow.proofs.follow_parts.after_thinning.Tie as tie
 
 left-requires : tie.Need-left-requires
 left-requires c κs = search needs
