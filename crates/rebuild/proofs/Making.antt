@@ -1,7 +1,7 @@
 -- The rebuild's rules followed, one after the other. Assumes nothing.
 use mathlib.Core.Path.{_≡_, refl, sym, ap, ap₂, _∙_, subst}
 use Prim.Native.Nat.{ℕ, max}
-use mathlib.Core.Bool.{Bool, true, false, cond}
+use mathlib.Core.Bool.{Bool, true, false, cond, not}
 use mathlib.Core.List.{List, [], _∷_}
 use lib.ListN.{length}
 use lib.Ieee.{Float}
@@ -15,14 +15,16 @@ use Rattle.state.specs.Rule.{Done}
 use Rattle.follow.specs.View.{Follows}
 use Rattle.course.specs.Fix.{Fix}
 use Rattle.calls.specs.Fix.{replay}
-use Rattle.calls.specs.Calls.{Reset, Replay, performs}
+use Rattle.calls.specs.Calls.{Call, Reset, Replay, performs}
 use Rattle.steer.specs.View.{Resets}
 use Rattle.log.specs.declared.Utc.{Utc}
+use Rattle.rebuild.specs.declared.Stage.{Stage}
 use Rattle.rebuild.specs.declared.Stage.the-variants as stage
 use Rattle.rebuild.specs.declared.Rebuild.{Rebuild}
 use Rattle.rebuild.specs.declared.Visited.{Visited}
 use Rattle.rebuild.specs.Made.{Made, making, quiet, _then_, perform, mostHeld}
-use Rattle.rebuild.specs.Rebuild.{withStage, carriesOn, decide, replays}
+use Rattle.rebuild.specs.Rebuild.{withStage, carriesOn, decide, beforeReplay, replays, settleFrom}
+use Rattle.rebuild.specs.Inner.{startsAnew, stageBehind}
 use Rattle.rebuild.specs.View.{Makes, Settles}
 use Rattle.rebuild.proofs.Performing.{performed-both, most-front, most-rest}
 
@@ -42,22 +44,42 @@ settled rule h b v f s =
 pub makes-quiet : (r : Rebuild) (h : Homing) (b : List Float) → trail.TrailFit (h .trail) (length b) → Makes (quiet r) h b (visited r h) b
 makes-quiet r h b f = settled (quiet r) h b (visited r h) f (settles-quiet r h)
 
--- ---- whether the later ride carries on
-module _ (last first : Utc) (r : Rebuild) (h : Homing) where
-  abbrev decided : Rebuild
-  decided = withStage stage.Decided r
+-- ---- what a fix decides before it is replayed
+-- the calls that makes: the guide is reset, or nothing is done
+abbrev pub resetIf : Bool → List Call
+resetIf anew = cond anew (Reset ∷ []) []
 
-  chosen : (t : Bool) → carriesOn last first ≡ t → decide last first r ≡ making (cond t [] (Reset ∷ [])) decided
-  unfolding decide
-  chosen t e = ap (λ (b : Bool). making (cond b [] (Reset ∷ [])) decided) e
+turned-round : (t : Bool) → cond t [] (Reset ∷ []) ≡ resetIf (not t)
+turned-round true = refl
+turned-round false = refl
 
-  pub carried-on : carriesOn last first ≡ true → Settles (decide last first r) h (visited decided h)
-  carried-on e = subst (λ (m : Made). Settles m h (visited decided h)) (sym (chosen true e)) (settles-quiet decided h)
+decides-so : (s : Stage) (later : Bool) (t : Utc) (r : Rebuild) → r .stage ≡ s
+    → beforeReplay s later t r ≡ making (resetIf (startsAnew s later t)) (withStage (stageBehind s later t) r)
+unfolding beforeReplay decide startsAnew stageBehind
+decides-so (stage.Pending last) true t r e = ap (λ (l : List Call). making l (withStage stage.Decided r)) (turned-round (carriesOn last t))
+decides-so (stage.Pending last) false t r e = refl
+decides-so stage.Decided later t r e = ap (λ (s : Stage). quiet (withStage s r)) e
 
-  pub begun-anew : (n : Homing) → carriesOn last first ≡ false → Resets h n → Settles (decide last first r) h (visited decided n)
+pub decides : (later : Bool) (t : Utc) (r : Rebuild) {behind : Stage} → behind ≡ stageBehind (r .stage) later t
+    → beforeReplay (r .stage) later t r ≡ making (resetIf (startsAnew (r .stage) later t)) (withStage behind r)
+decides later t r e =
+    decides-so (r .stage) later t r refl ∙ ap (λ (s : Stage). making (resetIf (startsAnew (r .stage) later t)) (withStage s r)) (sym e)
+
+-- a live fix decides as the later ride's first does
+pub decides-live : (s : Stage) (t : Utc) (r : Rebuild) → r .stage ≡ s
+    → settleFrom s t r ≡ making (resetIf (startsAnew s true t)) (withStage stage.Decided r)
+unfolding settleFrom decide startsAnew
+decides-live (stage.Pending last) t r e = ap (λ (l : List Call). making l (withStage stage.Decided r)) (turned-round (carriesOn last t))
+decides-live stage.Decided t r e = ap (λ (s : Stage). quiet (withStage s r)) e
+
+module _ {m : Made} {anew : Bool} {on : Rebuild} (h : Homing) (is : m ≡ making (resetIf anew) on) where
+  pub carried-on : anew ≡ false → Settles m h (visited on h)
+  carried-on e = subst (λ (x : Made). Settles x h (visited on h)) (sym (is ∙ ap (λ (b : Bool). making (resetIf b) on) e)) (settles-quiet on h)
+
+  pub begun-anew : (n : Homing) → anew ≡ true → Resets h n → Settles m h (visited on n)
   unfolding perform performs
   begun-anew n e a =
-      subst (λ (m : Made). Settles m h (visited decided n)) (sym (chosen false e))
+      subst (λ (x : Made). Settles x h (visited on n)) (sym (is ∙ ap (λ (b : Bool). making (resetIf b) on) e))
       (record { rebuilt = refl; same = λ C b. a .same b; fit = a .trail [] .fit })
 
 -- ---- a fix replayed

@@ -1,3 +1,4 @@
 pub mod Made
 pub mod Rebuild
+pub mod Inner
 pub mod View

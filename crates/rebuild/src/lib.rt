@@ -16,7 +16,8 @@ ghost use Prim.Native.Nat.{_≤_};
 ghost use lib.ListN.{length};
 ghost use Rattle.trail.specs.View as trail;
 ghost use Rattle.log.specs.Entry.{used};
-ghost use Rattle.rebuild.specs.Rebuild.{newRebuild, ticked, apart, carriesOn, decide, knownOr, skips, beforeReplay, visitSample, isLater, visitSamples, visit, caughtUp, settle};
+ghost use Rattle.rebuild.specs.Rebuild.{newRebuild, ticked, apart, carriesOn, knownOr, skips, visitSample, isLater, visitSamples, visit, caughtUp, settle};
+ghost use Rattle.rebuild.specs.Inner.{startsAnew, stageBehind};
 ghost use Rattle.rebuild.specs.View.{Makes, Settles};
 
 // The later ride carries on if its first fix is this soon after the recovered ride's last.
@@ -87,18 +88,18 @@ fn carries_on(last: Utc, first: Utc) -> bool
     apart(a, b) <= CONTINUE_MS
 }
 
-fn decide(r: Rebuild, h: Homing, last: Utc, first: Utc) -> Visited
-    ensures { λ v. ⌜ Settles (decide last first r) h v ⌝ }
+// Whether a fix makes the breadcrumb start again: the later ride's first, where that ride does not
+// carry on.
+fn starts_anew(stage: Stage, later: bool, utc: Utc) -> bool
+    ensures { λ b. ⌜ b ≡ startsAnew stage later utc ⌝ }
 {
-    let rebuild = Rebuild {
-        stage: Stage::Decided,
-        ..r
+    let Stage::Pending(last) = stage else {
+        return false;
     };
-    if carries_on(last, first) {
-        return Visited { rebuild, homing: h };
+    if later {
+        return !carries_on(last, utc);
     }
-    let homing = steer::reset(h);
-    Visited { rebuild, homing }
+    false
 }
 
 // Settle the breadcrumb on a live fix at `utc` instead of the later ride's first one in the log, which a
@@ -106,14 +107,16 @@ fn decide(r: Rebuild, h: Homing, last: Utc, first: Utc) -> Visited
 pub fn settle(r: Rebuild, h: Homing, utc: Utc) -> Visited
     ensures { λ v. ⌜ Settles (settle utc r) h v ⌝ }
 {
-    let stage = r.stage;
-    match stage {
-        Stage::Pending(last) => decide(r, h, last, utc),
-        Stage::Decided => Visited {
-            rebuild: r,
-            homing: h,
-        },
+    let was = r.stage;
+    let rebuild = Rebuild {
+        stage: Stage::Decided,
+        ..r
+    };
+    if starts_anew(was, true, utc) {
+        let homing = steer::reset(h);
+        return Visited { rebuild, homing };
     }
+    Visited { rebuild, homing: h }
 }
 
 // ---- a sample
@@ -152,26 +155,18 @@ fn skips(stage: Stage, later: bool) -> bool
     }
 }
 
-// What a fix decides before it is replayed.
-fn meets(r: Rebuild, h: Homing, later: bool, utc: Utc) -> Visited
-    ensures { λ v. ⌜ Settles (beforeReplay (r .stage) later utc r) h v ⌝ }
+// The stage behind a fix.
+fn stage_behind(stage: Stage, later: bool, utc: Utc) -> Stage
+    ensures { λ s. ⌜ s ≡ stageBehind stage later utc ⌝ }
 {
-    let was = r.stage;
-    let Stage::Pending(last) = was else {
-        return Visited {
-            rebuild: r,
-            homing: h,
-        };
+    let Stage::Pending(last) = stage else {
+        return Stage::Decided;
     };
     if later {
-        return decide(r, h, last, utc);
+        return Stage::Decided;
     }
     let latest = or_else(utc, last);
-    let rebuild = Rebuild {
-        stage: Stage::Pending(latest),
-        ..r
-    };
-    Visited { rebuild, homing: h }
+    Stage::Pending(latest)
 }
 
 // A sample of the recovered ride, or of the later one. The clock goes on with each, located or not.
@@ -180,6 +175,7 @@ fn visit_sample(r: Rebuild, h: Homing, crumbs: &mut [f32], later: bool, sample: 
     ensures { λ v. ⌜ Makes (visitSample later sample r) h (now (crumbs .entry)) v (now (crumbs .exit)) ⌝ }
 {
     let on = ticked(r);
+    let clock_ms = on.clock_ms;
     let place = sample.place;
     let Place::At(lat, lon) = place else {
         return Visited {
@@ -187,18 +183,22 @@ fn visit_sample(r: Rebuild, h: Homing, crumbs: &mut [f32], later: bool, sample: 
             homing: h,
         };
     };
-    let stage = on.stage;
-    if skips(stage, later) {
+    let was = on.stage;
+    if skips(was, later) {
         return Visited {
             rebuild: on,
             homing: h,
         };
     }
     let utc = sample.utc;
-    let met = meets(on, h, later, utc);
-    let rebuild = met.rebuild;
-    let there = met.homing;
-    let homing = fix::replay(there, crumbs, lat, lon, rebuild.clock_ms);
+    let stage = stage_behind(was, later, utc);
+    let rebuild = Rebuild { stage, ..on };
+    if starts_anew(was, later, utc) {
+        let anew = steer::reset(h);
+        let homing = fix::replay(anew, crumbs, lat, lon, clock_ms);
+        return Visited { rebuild, homing };
+    }
+    let homing = fix::replay(h, crumbs, lat, lon, clock_ms);
     Visited { rebuild, homing }
 }
 

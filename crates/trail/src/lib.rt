@@ -137,10 +137,11 @@ fn thin(t: Trail, crumbs: &mut [f32]) -> Trail
         return t;
     };
     along::realong(crumbs, len);
+    let retrace = 0;
     Trail {
         len,
         tolerance,
-        retrace: 0,
+        retrace,
         ..t
     }
 }

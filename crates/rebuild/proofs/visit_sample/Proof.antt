@@ -1,11 +1,12 @@
 -- `rebuild::visit_sample` meets its contract. Assumes nothing.
 use denote.Ref.{now}
 use mathlib.Core.Path.{sym, _∙_, subst}
-use lib.ListN.{length}
+use mathlib.Core.List.{[]}
 use Rattle.follow.specs.View.{Follows}
 use Rattle.course.specs.Fix.{Fix}
 use Rattle.calls.specs.Fix.{replay}
 use Rattle.fix.proofs.Arriving.{fixAt, handed-fix}
+use Rattle.rebuild.proofs.Making.{decides, carried-on, begun-anew}
 use Rattle.rebuild.proofs.Visiting.{unlocated, skipped, not-skipped}
 use borrow.Author.Needs.{needs}
 use Rattle.rebuild.proofs.visit_sample.Statement.{statement}
@@ -37,28 +38,69 @@ returns-2 c =
     skipped (g .later) (g .sample) (g .r) (c .before .before .before .before .before .ticked .result) (c .before .before .before .before .before .ticked .ensures) (g .h) (now (g .crumbs)) (s .pre) (fixAt (at .0 .0) (at .0 .1 .0)) (at .1)
     (sym (c .before .skips .ensures) ∙ c .if1 .taken)
 
-meets-requires : tie.Need-meets-requires
-meets-requires c κs = search needs
+stage-behind-requires : tie.Need-stage-behind-requires
+stage-behind-requires c κs = search needs
+
+starts-anew-requires : tie.Need-starts-anew-requires
+starts-anew-requires c κs = search needs
+
+reset-requires : tie.Need-reset-requires
+reset-requires c κs = search needs
 
 replay-requires : tie.Need-replay-requires
-replay-requires c κs = c .before .before .before .meets .ensures .fit (length (now (c .before .before .before .before .before .before .before .before .before .before .before .args .crumbs))) (c .before .before .before .before .before .before .before .before .before .before .before .pre)
+replay-requires c κs =
+    let s = c .before .before .before .before .before .before .before .before .before .before .before .before .before in
+    c .before .reset .ensures .trail [] .fit _ (s .pre)
 
 same-length : tie.Need-same-length
 same-length c = search needs
 
 returns-3 : tie.Need-returns-3
 returns-3 c =
-    let s = c .before .before .before .before .before .before .before .before .before .before .before .before .before .before in
+    let k = c .before .before in
+    let anew = k .before .before in
+    let tested = anew .before in
+    let behind = tested .before .before .before in
+    let read = behind .before in
+    let at = read .before .before .before in
+    let ticks = at .before .before in
+    let s = ticks .before .before in
     let g = s .args in
-    let at = c .before .before .before .before .before .before .before .before .before .before .place .given in
-    let known = c .before .before .before .before .before .before .before .before .before .known-told .given in
-    let met = c .before .before .before .before .before .before .meets .result in
-    let k = c .before .before .replay in
-    not-skipped (g .later) (g .sample) (g .r) (c .before .before .before .before .before .before .before .before .before .before .before .before .ticked .result) (c .before .before .before .before .before .before .before .before .before .before .before .before .ticked .ensures) (g .h) (now (g .crumbs)) (s .pre) (fixAt (at .0 .0) (at .0 .1 .0)) (at .1)
-    met (k .result) (k .last .1 .0)
-    (sym (c .before .before .before .before .before .before .before .before .skips .ensures) ∙ c .before .before .before .before .before .before .before .if1 .left)
-    (c .before .before .before .before .before .before .meets .ensures)
-    (subst (λ (x : Fix). Follows (λ C. replay C x (met .rebuild .«clock_ms»)) (met .homing) (now (g .crumbs)) (k .result) (k .last .1 .0)) (handed-fix (at .0 .0) (at .0 .1 .0) (known .0 .1) (known .1 .0 .1)) (k .ensures))
+    let place = at .place .given in
+    let known = read .before .before .known-told .given in
+    let on = ticks .ticked .result in
+    let decided = decides (g .later) (g .sample .utc) on (behind .stage-behind .ensures) in
+    not-skipped (g .later) (g .sample) (g .r) on (ticks .ticked .ensures) (g .h) (now (g .crumbs)) (s .pre) (fixAt (place .0 .0) (place .0 .1 .0)) (place .1)
+    _ (k .replay .result) (k .replay .last .1 .0) (sym (read .before .skips .ensures) ∙ read .if1 .left)
+    (begun-anew (g .h) decided (anew .reset .result) (sym (tested .before .starts-anew .ensures) ∙ tested .if2 .taken) (anew .reset .ensures))
+    (subst (λ (x : Fix). Follows (λ C. replay C x (on .«clock_ms»)) (anew .reset .result) (now (g .crumbs)) (k .replay .result) (k .replay .last .1 .0))
+    (handed-fix (place .0 .0) (place .0 .1 .0) (known .0 .1) (known .1 .0 .1)) (k .replay .ensures))
+
+replay-requires-2 : tie.Need-replay-requires-2
+replay-requires-2 c κs = search needs
+
+same-length-2 : tie.Need-same-length-2
+same-length-2 c = search needs
+
+returns-4 : tie.Need-returns-4
+returns-4 c =
+    let k = c .before .before in
+    let tested = k .before .before in
+    let behind = tested .before .before .before in
+    let read = behind .before in
+    let at = read .before .before .before in
+    let ticks = at .before .before in
+    let s = ticks .before .before in
+    let g = s .args in
+    let place = at .place .given in
+    let known = read .before .before .known-told .given in
+    let on = ticks .ticked .result in
+    let decided = decides (g .later) (g .sample .utc) on (behind .stage-behind .ensures) in
+    not-skipped (g .later) (g .sample) (g .r) on (ticks .ticked .ensures) (g .h) (now (g .crumbs)) (s .pre) (fixAt (place .0 .0) (place .0 .1 .0)) (place .1)
+    _ (k .replay2 .result) (k .replay2 .last .1 .0) (sym (read .before .skips .ensures) ∙ read .if1 .left)
+    (carried-on (g .h) decided (sym (tested .before .starts-anew .ensures) ∙ tested .if2 .left))
+    (subst (λ (x : Fix). Follows (λ C. replay C x (on .«clock_ms»)) (g .h) (now (g .crumbs)) (k .replay2 .result) (k .replay2 .last .1 .0))
+    (handed-fix (place .0 .0) (place .0 .1 .0) (known .0 .1) (known .1 .0 .1)) (k .replay2 .ensures))
 
 pub visit-sample-spec : {M : Type 1} → statement M
 visit-sample-spec =
@@ -70,7 +112,12 @@ visit-sample-spec =
     returns
     skips-requires
     returns-2
-    meets-requires
+    stage-behind-requires
+    starts-anew-requires
+    reset-requires
     replay-requires
     same-length
-    returns-3)
+    returns-3
+    replay-requires-2
+    same-length-2
+    returns-4)
