@@ -1,6 +1,7 @@
 // A crumb, and how crumbs lie in a lent buffer of numbers. No other crate knows how many numbers a crumb takes.
 
 pub mod along;
+pub mod bounds;
 
 use plane::Point;
 ghost use mathlib.Core.Path.{_≡_};

@@ -1,2 +1,1 @@
 pub mod Sure
-pub mod FourFit

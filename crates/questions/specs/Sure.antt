@@ -1,7 +1,6 @@
--- For the functions inside: tests by which a crumb surely fits. What a crumb must meet is `crumbFits`.
+-- For the functions inside: two crumbs between which every crumb fits. What a crumb must meet is `crumbFits`.
 use Prim.Native.Nat.{_^_}
-use mathlib.Core.Bool.{Bool, _&&_}
-use lib.Ieee.{Float, neg, le}
+use lib.Ieee.{Float, neg}
 use Rattle.binary32.specs.Arithmetic.{constant}
 use Rattle.binary32.specs.Limits.{plusZero}
 use Rattle.crumbs.specs.declared.Crumb.{Crumb}
@@ -12,8 +11,8 @@ placeMost = constant (10 ^ 8) 1
 unfoldable pub alongSure : Float
 alongSure = constant (10 ^ 15) 1
 
-unfoldable pub noneBelow : Crumb → Bool
-noneBelow c = le (neg placeMost) (c .east) && le (neg placeMost) (c .north) && le plusZero (c .along)
+unfoldable pub leastSure : Crumb
+leastSure = record { east = neg placeMost; north = neg placeMost; along = plusZero }
 
-unfoldable pub noneAbove : Crumb → Bool
-noneAbove c = le (c .east) placeMost && le (c .north) placeMost && le (c .along) alongSure
+unfoldable pub mostSure : Crumb
+mostSure = record { east = placeMost; north = placeMost; along = alongSure }

@@ -5,9 +5,9 @@ use crate::limits;
 use state::Line;
 use trail::Trail;
 ghost use mathlib.Core.Path.{_≡_};
-ghost use mathlib.Core.Bool.{true, _&&_};
+ghost use mathlib.Core.Bool.{_&&_};
 ghost use mathlib.Core.List.{List};
-ghost use Prim.Native.Nat.{_+_, _≤_, _<_};
+ghost use Prim.Native.Nat.{_≤_};
 ghost use lib.Dec.{leb};
 ghost use lib.Ieee.{Float};
 ghost use lib.ListN.{length};
@@ -15,7 +15,6 @@ ghost use Rattle.crumbs.specs.Crumb.{capacity, crumbs as heldCrumbs};
 ghost use Rattle.trail.specs.Trail.{windowPlaces};
 ghost use Rattle.trail.specs.View.{places, track};
 ghost use Rattle.calls.specs.Questions.{question1, placesFit, crumbsFit, segmentFits, followFits, retraceFits, question4, unless, _orElse_};
-ghost use Rattle.questions.specs.FourFit.{FourFit, Sure};
 
 // The least and the most crumbs that a crumb buffer may have room for.
 const LEAST: usize = 8;
@@ -51,46 +50,12 @@ pub fn window_fits(window: &[f32; 96], window_len: usize) -> bool
     ok
 }
 
-// Whether the four crumbs from place `i` on surely fit.
-fn four_fit(buf: &[f32], i: usize) -> bool
-    requires { ⌜ i + 3 < capacity (length (now buf)) ⌝ }
-    ensures { λ r. ⌜ (r ≡ true → FourFit (now (buf .entry)) i) ⌝ }
-{
-    let a = crumbs::crumb_at(buf, i);
-    let b = crumbs::crumb_at(buf, i + 1);
-    let c = crumbs::crumb_at(buf, i + 2);
-    let d = crumbs::crumb_at(buf, i + 3);
-    let low = limits::none_below(a)
-        & limits::none_below(b)
-        & limits::none_below(c)
-        & limits::none_below(d);
-    let high = limits::none_above(a)
-        & limits::none_above(b)
-        & limits::none_above(c)
-        & limits::none_above(d);
-    low & high
-}
-
-// How many leading crumbs surely fit, by fours.
-fn sure(buf: &[f32], len: usize) -> usize
-    requires { ⌜ len ≤ capacity (length (now buf)) ⌝ }
-    ensures { λ r. ⌜ Sure len (now (buf .entry)) r ⌝ }
-{
-    let mut i = 0;
-    while 4 <= len - i {
-        if !four_fit(buf, i) {
-            return i;
-        }
-        i += 4;
-    }
-    i
-}
-
+// Those in front that surely fit are passed by; the rest are asked one by one.
 fn crumbs_fit(buf: &[f32], len: usize) -> bool
     requires { ⌜ len ≤ capacity (length (now buf)) ⌝ }
     ensures { λ r. ⌜ r ≡ crumbsFit (heldCrumbs len (now (buf .entry))) ⌝ }
 {
-    let first = sure(buf, len);
+    let first = crumbs::bounds::leading(buf, len, limits::least(), limits::most());
     let mut ok = true;
     for i in first..len {
         ok = ok & limits::crumb_fits(crumbs::crumb_at(buf, i));

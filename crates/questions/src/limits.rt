@@ -10,7 +10,7 @@ ghost use mathlib.Core.Path.{_≡_};
 ghost use lib.Ieee.{le};
 ghost use Rattle.binary32.specs.Limits.{plusZero};
 ghost use Rattle.calls.specs.Questions.{sized, placeFits, alongFits, factorFits, headingFits, guideFits, shownFits, spotFits, crumbFits, asksGuide};
-ghost use Rattle.questions.specs.Sure.{noneBelow, noneAbove};
+ghost use Rattle.questions.specs.Sure.{leastSure, mostSure};
 
 // A place is at most this far from the origin, east or west, north or south.
 const PLACE_MOST_M: f32 = 100000000.0;
@@ -83,19 +83,26 @@ pub fn crumb_fits(c: Crumb) -> bool
     place_fits(crumbs::point(c)) & along_fits(c.along)
 }
 
-// ---- a crumb that surely fits: none of its numbers below its bound, and none above, an along's lower than need be. The two are
-// told apart so that a scan tests twelve numbers side by side.
+// ---- two crumbs: one that has no number below that of the least, or above that of the most, surely fits
 
-pub fn none_below(c: Crumb) -> bool
-    ensures { λ r. ⌜ r ≡ noneBelow c ⌝ }
+pub fn least() -> Crumb
+    ensures { λ r. ⌜ r ≡ leastSure ⌝ }
 {
-    (-PLACE_MOST_M <= c.east) & (-PLACE_MOST_M <= c.north) & (0.0 <= c.along)
+    Crumb {
+        east: -PLACE_MOST_M,
+        north: -PLACE_MOST_M,
+        along: 0.0,
+    }
 }
 
-pub fn none_above(c: Crumb) -> bool
-    ensures { λ r. ⌜ r ≡ noneAbove c ⌝ }
+pub fn most() -> Crumb
+    ensures { λ r. ⌜ r ≡ mostSure ⌝ }
 {
-    (c.east <= PLACE_MOST_M) & (c.north <= PLACE_MOST_M) & (c.along <= ALONG_SURE_M)
+    Crumb {
+        east: PLACE_MOST_M,
+        north: PLACE_MOST_M,
+        along: ALONG_SURE_M,
+    }
 }
 
 // ---- a guide

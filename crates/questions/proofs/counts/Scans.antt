@@ -1,5 +1,5 @@
 -- Places and crumbs that are looked at one after another: those passed and those to come are all. Assumes nothing.
-use Prim.Native.Nat.{ℕ, _+_, _≤_, _<_}
+use Prim.Native.Nat.{ℕ, zero, suc, _+_, _≤_, _<_}
 use mathlib.Core.Path.{_≡_, refl, sym, ap, ap₂, _∙_, subst}
 use mathlib.Core.Bool.{Bool, true, _&&_, and-true, and-assoc}
 use mathlib.Core.List.{List, [], _∷_, _++_}
@@ -10,13 +10,13 @@ use lib.Ieee.{Float}
 use Rattle.plane.specs.declared.Point.{Point}
 use Rattle.crumbs.specs.declared.Crumb.{Crumb}
 use Rattle.crumbs.specs.Crumb.{crumbAt, crumbs}
+use Rattle.crumbs.specs.Bounds.{Leading}
 use Rattle.crumbs.proofs.Crumbs.{length-crumbs, drop-crumbs}
 use Rattle.trail.specs.View.{waitingAt, places}
 use Rattle.trail.proofs.Window.{places-on}
 use Rattle.calls.specs.Questions.{placeFits, placesFit, crumbFits, crumbsFit}
-use Rattle.questions.specs.Sure.{noneBelow, noneAbove}
-use Rattle.questions.proofs.limits.Sure.{both, sure-fits}
-use Rattle.questions.specs.FourFit.{FourFit, Sure}
+use Rattle.questions.specs.Sure.{leastSure, mostSure}
+use Rattle.questions.proofs.limits.Sure.{sure-fits}
 
 -- ---- the window's places
 -- the first i of n places fit or not
@@ -77,39 +77,13 @@ passing-end {n} {b} {ok} {i} all h =
     let e : length (crumbs n b) ≤ i = omega (arith, length-crumbs n b) in
     sym (ap (λ l. ok && crumbsFit l) (drop-of-length-le (crumbs n b) e) ∙ and-true ok) ∙ all .whole
 
--- ---- those that surely fit
-pub sure-start : (n : ℕ) (b : List Float) → Sure n b 0
-sure-start n b = record { within = omega arith; rest = refl }
+-- ---- those that lie between the bounds
+between-passed : {n : ℕ} {b : List Float} {i : ℕ} → Leading leastSure mostSure n b i → (k : ℕ) → k ≤ i → Passing n b true k
+between-passed {n} {b} l zero h = passing-start n b
+between-passed {n} {b} l (suc k) h =
+    subst (Passing n b true) (add-one k)
+    (passing-next (between-passed l k (omega arith)) (omega (arith, l .within)) refl (sym (sure-fits (crumbAt b k) (l .each k (omega arith)))))
 
-one-more : {n : ℕ} {b : List Float} {i j : ℕ} → Passing n b true i → i < n → crumbFits (crumbAt b i) ≡ true → i + 1 ≡ j → Passing n b true j
-one-more {n} {b} p h f e = subst (Passing n b true) e (passing-next p h refl (sym f))
-
-pub sure-on : {n : ℕ} {b : List Float} {i : ℕ} → Sure n b i → i + 3 < n → FourFit b i → Sure n b (i + 4)
-sure-on {n} {b} {i} s h f =
-    let w = s .within in
-    let p : Passing n b true i = record { within = w; whole = s .rest } in
-    let q : Passing n b true (i + 1) = one-more p (omega arith) (f .first) refl in
-    let r : Passing n b true (i + 2) = one-more q (omega arith) (f .second) (omega arith) in
-    let t : Passing n b true (i + 3) = one-more r (omega arith) (f .third) (omega arith) in
-    let u : Passing n b true (i + 4) = one-more t (omega arith) (f .fourth) (omega arith) in
-    record { within = u .within; rest = u .whole }
-
-pub passing-from : {n : ℕ} {b : List Float} {i : ℕ} → Sure n b i → Passing n b true i
-passing-from s = record { within = s .within; whole = s .rest }
-
--- four crumbs that were read
-module _ (buf : List Float) (i : ℕ) {a b c d : Crumb} (A : a ≡ crumbAt buf i) (B : b ≡ crumbAt buf (i + 1)) (C : c ≡ crumbAt buf (i + 2)) (D : d ≡ crumbAt buf (i + 3))
-    {p q r s t u v w : Bool} (P : p ≡ noneBelow a) (Q : q ≡ noneBelow b) (R : r ≡ noneBelow c) (S : s ≡ noneBelow d) (E : t ≡ noneAbove a) (F : u ≡ noneAbove b) (G : v ≡ noneAbove c) (H : w ≡ noneAbove d) where
-  one : {x : Crumb} {l h : Bool} {y : Crumb} → x ≡ y → l ≡ noneBelow x → h ≡ noneAbove x → l ≡ true → h ≡ true → crumbFits y ≡ true
-  one {x} e L K f g = subst (λ (z : Crumb). crumbFits z ≡ true) e (sure-fits x (sym L ∙ f) (sym K ∙ g))
-
-  pub four : ((p && q && r && s) && (t && u && v && w)) ≡ true → FourFit buf i
-  four h =
-      let k = both (p && q && r && s) (t && u && v && w) h in
-      let l = both (p && q && r) s (k .0) in
-      let m = both (p && q) r (l .0) in
-      let n = both p q (m .0) in
-      let x = both (t && u && v) w (k .1) in
-      let y = both (t && u) v (x .0) in
-      let z = both t u (y .0) in
-      record { first = one A P E (n .0) (z .0); second = one B Q F (n .1) (z .1); third = one C R G (m .1) (y .1); fourth = one D S H (l .1) (x .1) }
+pub passing-from : {n : ℕ} {b : List Float} {i : ℕ} {least most : Crumb} → Leading least most n b i
+    → least ≡ leastSure → most ≡ mostSure → Passing n b true i
+passing-from {n} {b} {i} {least} {most} l low high = between-passed (rw (low, high) at l) i (omega arith)

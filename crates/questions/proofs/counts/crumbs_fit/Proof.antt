@@ -11,11 +11,17 @@ Inv-loop buf len first ok₀ i₀ ok i = Passing len buf ok i
 abbrev μ-loop : tie.MeasureT-loop
 μ-loop buf len first ok₀ i₀ ok i = len - i
 
-sure-requires : tie.Need-sure-requires Inv-loop μ-loop
-sure-requires c κs = c .before .pre
+least-requires : tie.Need-least-requires Inv-loop μ-loop
+least-requires c κs = tt
+
+most-requires : tie.Need-most-requires Inv-loop μ-loop
+most-requires c κs = tt
+
+leading-requires : tie.Need-leading-requires Inv-loop μ-loop
+leading-requires c κs = c .before .before .before .pre
 
 loop-holds : tie.Need-loop-holds Inv-loop μ-loop
-loop-holds c = passing-from (c .sure .ensures)
+loop-holds c = passing-from (c .leading .ensures) (c .before .before .least .ensures) (c .before .most .ensures)
 
 crumb-at-requires : tie.Need-crumb-at-requires Inv-loop μ-loop
 crumb-at-requires c κs = omega arith
@@ -41,7 +47,9 @@ crumbs-fit-spec =
     (tie.spec
     Inv-loop
     μ-loop
-    sure-requires
+    least-requires
+    most-requires
+    leading-requires
     loop-holds
     crumb-at-requires
     crumb-fits-requires
