@@ -1,6 +1,6 @@
 -- The tests of the counts, by the counts themselves, whatever the crumb buffer holds. Assumes nothing.
 use Prim.Native.Nat.{ℕ, _≤_}
-use mathlib.Core.Path.{_≡_, refl, sym, ap, _∙_}
+use mathlib.Core.Path.{_≡_, refl, ap}
 use mathlib.Core.Bool.{Bool, true, false, _&&_}
 use mathlib.Core.List.{List}
 use borrow.Author.Tests.{leb-true}
@@ -9,12 +9,14 @@ use lib.Ieee.{Float}
 use Rattle.crumbs.specs.Crumb.{crumbs}
 use Rattle.crumbs.proofs.Crumbs.{length-crumbs}
 use Rattle.trail.specs.Trail.{windowPlaces}
+use Rattle.trail.specs.declared.Trail.{Trail}
 use Rattle.trail.specs.View.{track}
 use Rattle.trail.proofs.Window.{length-places}
+use Rattle.state.specs.declared.Follow.{Follow}
 use Rattle.state.specs.declared.Homing.{Homing}
 use Rattle.state.specs.State.{stateOf}
-use Rattle.questions.proofs.counts.Turning.{turned, retrace-counted}
-use Rattle.calls.specs.Questions.{followFits, countsFit, crumbsFit, heldFits}
+use Rattle.calls.specs.Questions.{retraceFits, countsFit, crumbsFit, heldFits}
+use Rattle.questions.specs.Counted.{turned, counted}
 
 -- a conjunction that is true
 pub split : (a b : Bool) → (a && b) ≡ true → (a ≡ true) × (b ≡ true)
@@ -22,19 +24,17 @@ split true b e = (refl, e)
 split false true e = (e, refl)
 split false false e = (e, e)
 
--- the window's, the segment's and the turn-round's
-abbrev pub counted : Homing → Bool
-counted h =
-    leb (h .trail .«window_len») windowPlaces
-    && followFits (h .follow .line) (h .follow .segment) (h .trail .len) (h .course .«line_len»)
-    && turned (h .trail)
+-- the turn-round's, and with it the window's and the segment's
+retrace-counted : (t : Trail) (w b : List Float) → retraceFits (track t w b) ≡ turned t
+unfolding retraceFits track
+retrace-counted t w b = simp length-crumbs
 
-pub counts-counted : (h : Homing) (b : List Float) → countsFit (stateOf h b) ≡ counted h
+pub counts-counted : (h : Homing) (b : List Float) → countsFit (stateOf h b) ≡ counted (h .trail) (h .follow) (h .course .«line_len»)
 unfolding countsFit track
 counts-counted h b = simp (retrace-counted, length-crumbs, length-places)
 
-pub window-counted : (h : Homing) (b : List Float) → countsFit (stateOf h b) ≡ true → h .trail .«window_len» ≤ windowPlaces
-window-counted h b e = leb-true (h .trail .«window_len») windowPlaces (split _ _ (split _ _ (sym (counts-counted h b) ∙ e) .0) .0)
+pub window-counted : (t : Trail) (f : Follow) (lineLen : ℕ) → counted t f lineLen ≡ true → t .«window_len» ≤ windowPlaces
+window-counted t f lineLen e = leb-true (t .«window_len») windowPlaces (split _ _ (split _ _ e .0) .0)
 
 -- the held crumbs'
 pub held-counted : (C : ℕ) (h : Homing) (b : List Float) → heldFits C (stateOf h b) ≡ (leb (h .trail .len) C && crumbsFit (crumbs (h .trail .len) b))

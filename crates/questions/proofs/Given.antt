@@ -30,7 +30,7 @@ use Rattle.follow.specs.View as follow
 use Rattle.course.specs.Fix.{Fix}
 use Rattle.course.specs.Course.{points}
 use Rattle.calls.specs.Questions.{question1, question4, placesFit, spotsFit, alongFits, factorFits, headingFits, guideFits, shownFits, segmentFits, followFits, countsFit, numbersFit, stateFits, crumbsFit, heldFits, lineFits, latitudeFits, longitudeFits, asksState, asksCrumbs, asksLine, asksBoth, asksGuide, asksFix, asksFixes, unless, _orElse_}
-use Rattle.questions.proofs.counts.Turning.{turned}
+use Rattle.questions.specs.Counted.{turned}
 use Rattle.questions.proofs.Counted.{split, counts-counted, held-counted}
 
 -- ---- a question that says yes, and the next

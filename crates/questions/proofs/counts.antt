@@ -1,2 +1,1 @@
 mod Scans
-pub mod Turning

@@ -6,15 +6,14 @@ use state::Line;
 use trail::Trail;
 ghost use mathlib.Core.Path.{_≡_};
 ghost use mathlib.Core.Bool.{_&&_};
-ghost use mathlib.Core.List.{List};
 ghost use Prim.Native.Nat.{_≤_};
 ghost use lib.Dec.{leb};
-ghost use lib.Ieee.{Float};
 ghost use lib.ListN.{length};
 ghost use Rattle.crumbs.specs.Crumb.{capacity, crumbs as heldCrumbs};
 ghost use Rattle.trail.specs.Trail.{windowPlaces};
-ghost use Rattle.trail.specs.View.{places, track};
-ghost use Rattle.calls.specs.Questions.{question1, placesFit, crumbsFit, segmentFits, followFits, retraceFits, question4, unless, _orElse_};
+ghost use Rattle.trail.specs.View.{places};
+ghost use Rattle.calls.specs.Questions.{question1, placesFit, crumbsFit, segmentFits, followFits, question4, unless, _orElse_};
+ghost use Rattle.questions.specs.Counted.{turned};
 
 // The least and the most crumbs that a crumb buffer may have room for.
 const LEAST: usize = 8;
@@ -92,7 +91,7 @@ pub fn follow_fits(on: Line, segment: usize, len: usize, line_len: usize) -> boo
 }
 
 pub fn retrace_fits(t: Trail) -> bool
-    ensures { λ r. ⌜ ((w b : List Float) → r ≡ retraceFits (track t w b)) ⌝ }
+    ensures { λ r. ⌜ r ≡ turned t ⌝ }
 {
     (t.retrace < joining::RETRACE_FIXES) & ((t.retrace == 0) | (t.retrace_len <= t.len))
 }

@@ -5,40 +5,39 @@ pub mod counts;
 pub mod globe;
 pub mod limits;
 
+use lap::Lap;
+use motion::Motion;
+use plane::Spot;
+use state::Course;
+use state::Follow;
 use state::Homing;
+use trail::Trail;
 ghost use mathlib.Core.Path.{_≡_};
+ghost use mathlib.Core.Bool.{_&&_};
 ghost use mathlib.Core.List.{List};
-ghost use Prim.Native.Nat.{_≤_};
 ghost use lib.Ieee.{Float};
 ghost use lib.ListN.{length};
-ghost use Rattle.trail.specs.Trail.{windowPlaces};
 ghost use Rattle.state.specs.State.{stateOf};
-ghost use Rattle.calls.specs.Questions.{countsFit, spotsFit, numbersFit, stateFits, asksState, asksCrumbs, asksLine, asksBoth};
+ghost use Rattle.calls.specs.Questions.{spotFits, stateFits, asksState, asksCrumbs, asksLine, asksBoth};
+ghost use Rattle.questions.specs.Counted.{counted};
 
 // ---- 10: the state
 
-fn counts_fit(h: Homing) -> bool
-    ensures { λ r. ⌜ ((b : List Float) → r ≡ countsFit (stateOf h b)) ⌝ }
+fn counts_fit(t: Trail, f: Follow, line_len: usize) -> bool
+    ensures { λ r. ⌜ r ≡ counted t f «line_len» ⌝ }
 {
-    let t = h.trail;
-    let f = h.follow;
     let on = f.line;
     (t.window_len <= trail::WINDOW)
-        & counts::follow_fits(on, f.segment, t.len, h.course.line_len)
+        & counts::follow_fits(on, f.segment, t.len, line_len)
         & counts::retrace_fits(t)
 }
 
-fn spots_fit(h: Homing) -> bool
-    ensures { λ r. ⌜ ((b : List Float) → r ≡ spotsFit (stateOf h b)) ⌝ }
+fn spots_fit(here: Spot, m: Motion, f: Follow, c: Course, l: Lap) -> bool
+    ensures { λ r. ⌜ r ≡ (spotFits here && spotFits (m .from) && spotFits (f .matched) && spotFits (c .fix) && spotFits (l .start)) ⌝ }
 {
-    let here = h.here;
-    let m = h.motion;
     let from = m.from;
-    let f = h.follow;
     let matched = f.matched;
-    let c = h.course;
     let fix = c.fix;
-    let l = h.lap;
     let start = l.start;
     limits::spot_fits(here)
         & limits::spot_fits(from)
@@ -47,32 +46,29 @@ fn spots_fit(h: Homing) -> bool
         & limits::spot_fits(start)
 }
 
-fn numbers_fit(h: Homing) -> bool
-    requires { ⌜ h .trail .«window_len» ≤ windowPlaces ⌝ }
-    ensures { λ r. ⌜ ((b : List Float) → r ≡ numbersFit (stateOf h b)) ⌝ }
+// The counts, then the numbers.
+fn state_fits(h: Homing) -> bool
+    ensures { λ r. ⌜ ((b : List Float) → r ≡ stateFits (stateOf h b)) ⌝ }
 {
     let t = h.trail;
-    let c = h.course;
     let m = h.motion;
+    let f = h.follow;
+    let c = h.course;
+    if !counts_fit(t, f, c.line_len) {
+        return false;
+    }
+    let here = h.here;
+    let l = h.lap;
     let heading = m.heading;
     let shown = h.guide;
     counts::window_fits(&h.window, t.window_len)
-        & spots_fit(h)
+        & spots_fit(here, m, f, c, l)
         & limits::along_fits(c.along)
         & limits::along_fits(c.reached)
         & limits::heading_fits(heading)
         & limits::shown_fits(shown)
         & limits::factor_fits(h.frame.east_per_e7)
         & limits::tolerance_fits(t.tolerance)
-}
-
-fn state_fits(h: Homing) -> bool
-    ensures { λ r. ⌜ ((b : List Float) → r ≡ stateFits (stateOf h b)) ⌝ }
-{
-    if counts_fit(h) {
-        return numbers_fit(h);
-    }
-    false
 }
 
 // ---- the questions a call is asked, by what it is given

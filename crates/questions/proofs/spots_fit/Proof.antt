@@ -1,5 +1,4 @@
 -- `questions::spots_fit` meets its contract: the tests are the rule's. Assumes nothing.
-use Rattle.calls.specs.Questions.{spotsFit}
 use borrow.Author.Needs.{needs}
 use Rattle.questions.proofs.spots_fit.Statement.{statement}
 use Rattle.questions.proofs.spots_fit.Tie as tie
@@ -20,8 +19,13 @@ spot-fits-requires-5 : tie.Need-spot-fits-requires-5
 spot-fits-requires-5 c κs = search needs
 
 returns : tie.Need-returns
-unfolding spotsFit
-returns c = λ b. simp (← c .before .before .before .before .spot-fits .ensures, ← c .before .before .before .spot-fits2 .ensures, ← c .before .before .spot-fits3 .ensures, ← c .before .spot-fits4 .ensures, ← c .spot-fits5 .ensures)
+returns c = simp (
+  ← c .before .before .before .before .spot-fits .ensures,
+  ← c .before .before .before .spot-fits2 .ensures,
+  ← c .before .before .spot-fits3 .ensures,
+  ← c .before .spot-fits4 .ensures,
+  ← c .spot-fits5 .ensures,
+)
 
 pub spots-fit-spec : {M : Type 1} → statement M
 spots-fit-spec =
