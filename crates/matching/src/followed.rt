@@ -1,5 +1,6 @@
-// The followed line: how long it is, its segment nearest the rider, and the way on along it.
+// The followed line: how long it is, the match of a fix on it, and the way on along it.
 
+use plane::Heading;
 use plane::Point;
 use search::Range;
 use search::course_match;
@@ -7,7 +8,8 @@ use search::course_match::Progress;
 use search::quick;
 use segments::Best;
 use segments::costs::Nearest;
-use state::Homing;
+use state::Course;
+use state::Follow;
 use state::Line;
 use state::Mode;
 ghost use mathlib.Core.Path.{_≡_};
@@ -16,13 +18,21 @@ ghost use lib.ListN.{length};
 ghost use Rattle.binary32.specs.Arithmetic.{_⊖_};
 ghost use Rattle.binary32.specs.Limits.{maxZero};
 ghost use Rattle.search.specs.Along.{atAlong};
-ghost use Rattle.state.specs.State.{stateOf};
-ghost use Rattle.follow.specs.View.{courseOf};
-ghost use Rattle.matching.specs.Followed.{nearest, widened, followed, lookaheadM, wayOn};
-ghost use Rattle.matching.specs.View.{Room, followedLen, OnFollowed};
+ghost use Rattle.matching.specs.Followed.{nearest, widened, lookaheadM, wayOn};
+ghost use Rattle.matching.specs.View.{lenOn, followedBy, lineIn, Lent, WhereFollowed, matchIn};
 
 // Following steers to the line this far ahead.
 const LOOKAHEAD_M: f32 = 40.0;
+
+// What is followed: which line, how many crumbs it has, the segment last matched, whether the rider was off the
+// line, and how far on the course.
+pub struct Followed {
+    pub on: Line,
+    pub len: usize,
+    pub segment: usize,
+    pub off: bool,
+    pub was: Progress,
+}
 
 // Where to ride, and how far it is.
 pub struct Way {
@@ -33,40 +43,49 @@ pub struct Way {
 }
 
 // How many crumbs the followed line has: the course while it is followed, else the breadcrumb.
-pub fn followed_len(h: Homing) -> usize
-    ensures { λ r. ⌜ r ≡ followedLen h ⌝ }
+fn followed_len(on: Line, placed: usize, held: usize) -> usize
+    ensures { λ r. ⌜ r ≡ lenOn on placed held ⌝ }
 {
-    let f = h.follow;
-    let line = f.line;
-    match line {
-        Line::Course => h.course.line_len,
-        Line::Nothing => h.trail.len,
-        Line::Breadcrumb => h.trail.len,
+    match on {
+        Line::Course => placed,
+        Line::Nothing => held,
+        Line::Breadcrumb => held,
+    }
+}
+
+// What is followed, by the groups of the state and how many crumbs are held.
+pub fn followed_by(f: Follow, c: Course, heading: Heading, held: usize) -> Followed
+    ensures { λ r. ⌜ r ≡ followedBy f c heading held ⌝ }
+{
+    let on = f.line;
+    let fix = c.fix;
+    let was = Progress {
+        along: c.along,
+        reached: c.reached,
+        fix,
+        heading,
+    };
+    Followed {
+        on,
+        len: followed_len(on, c.line_len, held),
+        segment: f.segment,
+        off: f.off,
+        was,
     }
 }
 
 // The followed line's nearest segment to p.
-pub fn nearest(h: Homing, crumbs: &[f32], line: &[f32], p: Point, ends: Range) -> Best
-    requires { ⌜ Room h (length (now crumbs)) (length (now line)) ⌝ }
-    requires { ⌜ (1 ≤ ends .from) × (ends .to < followedLen h) ⌝ }
-    ensures { λ r. ⌜ r ≡ nearest (h .follow .line) (courseOf h (now (line .entry))) p ends (stateOf h (now (crumbs .entry))) ⌝ }
+fn nearest(f: Followed, crumbs: &[f32], line: &[f32], p: Point, ends: Range) -> Best
+    requires { ⌜ Lent f (length (now crumbs)) (length (now line)) ⌝ }
+    requires { ⌜ (1 ≤ ends .from) × (ends .to < f .len) ⌝ }
+    ensures { λ r. ⌜ WhereFollowed f (now (crumbs .entry)) (now (line .entry)) (λ course s. r ≡ nearest (s .follow .line) course p ends s) ⌝ }
 {
-    let f = h.follow;
-    let on = f.line;
-    let len = h.trail.len;
+    let on = f.on;
+    let len = f.len;
     match on {
         Line::Course => {
-            let c = h.course;
-            let m = h.motion;
-            let fix = c.fix;
-            let heading = m.heading;
-            let was = Progress {
-                along: c.along,
-                reached: c.reached,
-                fix,
-                heading,
-            };
-            course_match::nearest_on_course(line, c.line_len, p, ends, was)
+            let was = f.was;
+            course_match::nearest_on_course(line, len, p, ends, was)
         }
         Line::Nothing => quick::nearest_on_breadcrumb(crumbs, len, p, ends),
         Line::Breadcrumb => quick::nearest_on_breadcrumb(crumbs, len, p, ends),
@@ -74,44 +93,60 @@ pub fn nearest(h: Homing, crumbs: &[f32], line: &[f32], p: Point, ends: Range) -
 }
 
 // Off the line the whole of it is searched.
-pub fn widened(h: Homing, crumbs: &[f32], line: &[f32], p: Point, near: Nearest) -> Nearest
-    requires { ⌜ Room h (length (now crumbs)) (length (now line)) ⌝ }
-    requires { ⌜ 2 ≤ followedLen h ⌝ }
-    ensures { λ r. ⌜ r ≡ widened (courseOf h (now (line .entry))) p near (stateOf h (now (crumbs .entry))) ⌝ }
+fn widened(f: Followed, crumbs: &[f32], line: &[f32], p: Point, near: Nearest) -> Nearest
+    requires { ⌜ Lent f (length (now crumbs)) (length (now line)) ⌝ }
+    requires { ⌜ 2 ≤ f .len ⌝ }
+    ensures { λ r. ⌜ WhereFollowed f (now (crumbs .entry)) (now (line .entry)) (λ course s. r ≡ widened course p near s) ⌝ }
 {
-    if crate::lost(h.follow.off, near.off) {
+    if crate::lost(f.off, near.off) {
         let ends = Range {
             from: 1,
-            to: followed_len(h) - 1,
+            to: f.len - 1,
         };
-        let best = nearest(h, crumbs, line, p, ends);
+        let best = nearest(f, crumbs, line, p, ends);
         return crate::nearer(near, best);
     }
     near
 }
 
+// The match of a fix at p: around the last one, or off the line on the whole of it.
+pub fn matched(f: Followed, crumbs: &[f32], line: &[f32], p: Point) -> Best
+    requires { ⌜ Lent f (length (now crumbs)) (length (now line)) ⌝ }
+    requires { ⌜ (2 ≤ f .len) × (f .segment < f .len) ⌝ }
+    ensures { λ r. ⌜ WhereFollowed f (now (crumbs .entry)) (now (line .entry)) (λ course s. r ≡ matchIn course p s) ⌝ }
+{
+    let ends = Range {
+        from: crate::search_from(f.segment),
+        to: crate::search_to(f.segment, f.len),
+    };
+    let best = nearest(f, crumbs, line, p, ends);
+    let Best::Found(near) = best else {
+        return Best::Nothing;
+    };
+    Best::Found(widened(f, crumbs, line, p, near))
+}
+
 // The point ahead on the followed line.
-fn ahead(h: Homing, crumbs: &[f32], line: &[f32], near: Nearest) -> Point
-    requires { ⌜ Room h (length (now crumbs)) (length (now line)) ⌝ }
-    requires { ⌜ OnFollowed h near ⌝ }
-    ensures { λ r. ⌜ r ≡ atAlong (followed (courseOf h (now (line .entry))) (stateOf h (now (crumbs .entry)))) (near .end) (maxZero (near .along ⊖ lookaheadM)) ⌝ }
+fn ahead(f: Followed, crumbs: &[f32], line: &[f32], near: Nearest) -> Point
+    requires { ⌜ Lent f (length (now crumbs)) (length (now line)) ⌝ }
+    requires { ⌜ (1 ≤ near .end) × (near .end < f .len) ⌝ }
+    ensures { λ r. ⌜ r ≡ atAlong (lineIn f (now (crumbs .entry)) (now (line .entry))) (near .end) (maxZero (near .along ⊖ lookaheadM)) ⌝ }
 {
     let along = binary32::max_zero(near.along - LOOKAHEAD_M);
-    let f = h.follow;
-    let on = f.line;
-    let len = h.trail.len;
+    let on = f.on;
+    let len = f.len;
     match on {
-        Line::Course => search::at_along(line, h.course.line_len, near.end, along),
+        Line::Course => search::at_along(line, len, near.end, along),
         Line::Nothing => search::at_along(crumbs, len, near.end, along),
         Line::Breadcrumb => search::at_along(crumbs, len, near.end, along),
     }
 }
 
 // Off the line the way is back to it; on it, to a point a little way ahead.
-pub fn way_on(h: Homing, crumbs: &[f32], line: &[f32], off: bool, near: Nearest) -> Way
-    requires { ⌜ Room h (length (now crumbs)) (length (now line)) ⌝ }
-    requires { ⌜ OnFollowed h near ⌝ }
-    ensures { λ r. ⌜ r ≡ wayOn off (followed (courseOf h (now (line .entry))) (stateOf h (now (crumbs .entry)))) near ⌝ }
+pub fn way_on(f: Followed, crumbs: &[f32], line: &[f32], off: bool, near: Nearest) -> Way
+    requires { ⌜ Lent f (length (now crumbs)) (length (now line)) ⌝ }
+    requires { ⌜ (1 ≤ near .end) × (near .end < f .len) ⌝ }
+    ensures { λ r. ⌜ r ≡ wayOn off (lineIn f (now (crumbs .entry)) (now (line .entry))) near ⌝ }
 {
     let track = near.along + near.off;
     if off {
@@ -123,7 +158,7 @@ pub fn way_on(h: Homing, crumbs: &[f32], line: &[f32], off: bool, near: Nearest)
             target,
         };
     }
-    let target = ahead(h, crumbs, line, near);
+    let target = ahead(f, crumbs, line, near);
     Way {
         mode: Mode::Track,
         track,

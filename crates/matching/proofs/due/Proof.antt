@@ -1,8 +1,4 @@
 -- `matching::due` meets its contract. Assumes nothing.
-use mathlib.Core.Path.{_≡_, sym, ap, _∙_}
-use mathlib.Core.Bool.{Bool, not, _&&_}
-use Prim.Native.Nat.{ℕ}
-use lib.Dec.{leb}
 use Rattle.matching.specs.Match.{due}
 use borrow.Author.Needs.{needs}
 use Rattle.matching.proofs.due.Statement.{statement}

@@ -1,5 +1,4 @@
 -- `matching::off_event` meets its contract. Assumes nothing.
-use mathlib.Core.Path.{_∙_}
 use Rattle.matching.specs.Match.{offEvent}
 use borrow.Author.Needs.{needs}
 use Rattle.matching.proofs.off_event.Statement.{statement}

@@ -1,5 +1,5 @@
 -- `matching::reminded_at` meets its contract. Assumes nothing.
-use mathlib.Core.Path.{_≡_, sym, ap, _∙_}
+use mathlib.Core.Path.{sym, ap}
 use Rattle.state.specs.declared.Event.{Event}
 use Rattle.matching.specs.Match.{remindedAt}
 use borrow.Author.Needs.{needs}

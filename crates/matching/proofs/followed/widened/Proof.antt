@@ -1,14 +1,6 @@
 -- `matching::followed::widened` meets its contract. Assumes nothing.
-use denote.Ref.{now}
-use mathlib.Core.Path.{_≡_, refl, sym, ap, _∙_, subst}
-use native.Mathlib.Omega.{arith}
-use Prim.Native.Nat.{ℕ, _-_}
-use Rattle.segments.specs.declared.Best.{Best}
-use Rattle.state.specs.State.{stateOf}
-use Rattle.follow.specs.View.{courseOf}
-use Rattle.matching.specs.Followed.{nearest}
-use Rattle.matching.specs.Match.{nearer}
-use Rattle.matching.proofs.followed.Lines.{followed-long, widened-off, widened-on}
+use mathlib.Core.Path.{sym, _∙_}
+use Rattle.matching.proofs.followed.Lines.{widened-off, widened-on}
 use borrow.Author.Needs.{needs}
 use Rattle.matching.proofs.followed.widened.Statement.{statement}
 use Rattle.matching.proofs.followed.widened.Tie as tie
@@ -16,11 +8,8 @@ use Rattle.matching.proofs.followed.widened.Tie as tie
 lost-requires : tie.Need-lost-requires
 lost-requires c κs = search needs
 
-followed-len-requires : tie.Need-followed-len-requires
-followed-len-requires c κs = search needs
-
-sub-t10 : tie.Need-sub-t10
-sub-t10 c = search needs
+sub-t9 : tie.Need-sub-t9
+sub-t9 c = search needs
 
 nearest-requires : tie.Need-nearest-requires
 nearest-requires c κs = search needs
@@ -29,27 +18,15 @@ nearer-requires : tie.Need-nearer-requires
 nearer-requires c κs = search needs
 
 returns : tie.Need-returns
-returns c =
+returns c = λ course s i.
     let g = c .before .before .before .before .before .before .before .args in
-    let l = courseOf (g .h) (now (g .line)) in
-    let s = stateOf (g .h) (now (g .crumbs)) in
-    c .nearer .ensures
-    ∙ ap (λ (x : Best). nearer (g .near) x) (c .before .nearest .ensures ∙ ap (λ (n : ℕ). nearest (g .h .follow .line) l (g .p) (record { from = 1; to = n - 1 }) s) (c .before .before .followed-len .ensures ∙ followed-long (g .h) (now (g .line)) (now (g .crumbs))))
-    ∙ sym (widened-off l (g .p) (g .near) s (sym (c .before .before .before .before .lost .ensures) ∙ c .before .before .before .if1 .taken))
+    let lost = sym (c .before .before .before .before .lost .ensures) ∙ c .before .before .before .if1 .taken in
+    c .nearer .ensures ∙ widened-off i (g .p) (g .near) (c .before .nearest .result) lost (c .before .nearest .ensures course s i)
 
 returns-2 : tie.Need-returns-2
-returns-2 c =
+returns-2 c = λ course s i.
     let g = c .before .before .before .before .args in
-    sym (widened-on (courseOf (g .h) (now (g .line))) (g .p) (g .near) (stateOf (g .h) (now (g .crumbs))) (sym (c .before .lost .ensures) ∙ c .if1 .left))
+    widened-on i (g .p) (g .near) (sym (c .before .lost .ensures) ∙ c .if1 .left)
 
 pub widened-spec : {M : Type 1} → statement M
-widened-spec =
-    tie.close
-    (tie.spec
-    lost-requires
-    followed-len-requires
-    sub-t10
-    nearest-requires
-    nearer-requires
-    returns
-    returns-2)
+widened-spec = tie.close (tie.spec lost-requires sub-t9 nearest-requires nearer-requires returns returns-2)
