@@ -1,29 +1,24 @@
 -- The nearest segment lies within 500 m where some segment does, unless the first one tried is a NaN away: then nothing is less, and it stays. Assumes nothing.
-use Prim.Native.Nat.{ℕ, zero, suc, _+_, _-_, _*_, _≤_, _<_}
+use Prim.Native.Nat.{ℕ, zero, suc, _-_, _*_, _≤_, _<_}
 use mathlib.Core.Path.{_≡_, refl, sym, ap, _∙_, subst}
 use mathlib.Core.Bool.{Bool, true, false, _&&_, _||_, cond}
 use mathlib.Core.List.{List}
 use native.Mathlib.Omega.{arith}
 use borrow.Author.Tests.{eq-eqb}
-use lib.Dec.{T, eqb}
+use lib.Dec.{T}
 use lib.ListN.{length}
-use lib.Ieee.{Float, nan, inf, fin, binary32, ofBits, up, down, lt, le, eq, fits}
+use lib.Ieee.{Float, nan, inf, fin, binary32, ofBits, up, down, lt, le, eq}
 use lib.Ieee.Bits.{ofBits-fits}
 use Rattle.binary32.specs.Arithmetic.{constant}
 use Rattle.binary32.specs.Root.{root}
 use Rattle.plane.specs.declared.Point.{Point}
-use Rattle.plane.specs.Plane.{offSegment}
 use Rattle.crumbs.specs.declared.Crumb.{Crumb}
-use Rattle.crumbs.specs.Crumb.{point}
 use Rattle.segments.specs.declared.costs.Nearest.{Nearest}
 use Rattle.segments.specs.Cost.{plain}
-use Rattle.segments.specs.declared.Best.{Best}
-use Rattle.segments.specs.declared.Best.the-variants.{Nothing, Found}
 use Rattle.segments.specs.declared.SoFar.{SoFar}
 use Rattle.segments.specs.declared.SoFar.the-variants.{Empty, Least}
 use Rattle.segments.specs.Constants.{dropM}
-use Rattle.segments.specs.Line.{at}
-use Rattle.segments.specs.Segment.{meets, nearestOn, cheaper, considered, found}
+use Rattle.segments.specs.Segment.{nearestOn, cheaper, considered, found}
 use Rattle.segments.specs.Square.{squareOn}
 use Rattle.segments.proofs.Ranging.{on-is, on-fits, on-not-below}
 use Rattle.search.specs.Search.{falling, count, every}

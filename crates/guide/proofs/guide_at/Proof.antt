@@ -33,8 +33,23 @@ bearing-requires c κs = search needs
 
 returns : tie.Need-returns
 unfolding guideAt
-returns c = λ b.
-    simp (c .before .before .before .before .before .before .before .before .aim .ensures, c .before .before .before .before .before .before .before .mode-of .ensures, c .before .before .before .before .before .before .on-line .ensures, c .before .before .before .before .before .on-course .ensures, c .before .before .before .before .near-course .ensures, c .before .before .before .metres .ensures, c .before .before .metres2 .ensures, c .before .metres3 .ensures, c .bearing .ensures)
+returns c = λ b s x.
+    let near = c .before .before .before .before in
+    let aims = near .before .before .before .before in
+    simp (
+      ← x .follow,
+      ← x .arrived,
+      ← x .heading,
+      aims .aim .ensures,
+      near .before .before .before .mode-of .ensures,
+      near .before .before .on-line .ensures,
+      near .before .on-course .ensures,
+      near .near-course .ensures,
+      c .before .before .before .metres .ensures,
+      c .before .before .metres2 .ensures,
+      c .before .metres3 .ensures,
+      c .bearing .ensures,
+    )
 
 pub guide-at-spec : {M : Type 1} → statement M
 guide-at-spec =

@@ -1,7 +1,6 @@
 -- `guide::goal::aim` meets its contract. Assumes nothing.
 use lib.Ieee.{ofBits}
 use Rattle.guide.specs.Goal.{aim}
-use Rattle.binary32.specs.Limits.{one}
 use borrow.Author.Needs.{needs}
 use Rattle.guide.proofs.goal.aim.Statement.{statement}
 use Rattle.guide.proofs.goal.aim.Tie as tie

@@ -1,6 +1,6 @@
 -- `guide::goal::near_course` meets its contract. Assumes nothing.
 use denote.Ref.{now}
-use mathlib.Core.Path.{_≡_, sym, ap, _∙_}
+use mathlib.Core.Path.{sym, ap, _∙_}
 use Rattle.crumbs.specs.Crumb.{crumbs}
 use Rattle.state.specs.declared.Line.{Line}
 use Rattle.guide.specs.Goal.{nearCourse}
