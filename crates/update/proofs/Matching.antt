@@ -1,56 +1,47 @@
--- A match, in the whole state. Assumes nothing.
-use mathlib.Core.Path.{_≡_, ap, _∙_}
+-- A match, in every state that has what it is made of. Assumes nothing.
+use mathlib.Core.Path.{_≡_, sym, ap, _∙_}
 use Prim.Native.Nat.{ℕ}
 use mathlib.Core.Bool.{Bool}
 use mathlib.Core.List.{List}
 use lib.Ieee.{Float}
 use Rattle.plane.specs.declared.Point.{Point}
-use Rattle.crumbs.specs.Crumb.{crumbs}
+use Rattle.crumbs.specs.declared.Crumb.{Crumb}
 use Rattle.segments.specs.declared.costs.Nearest.{Nearest}
 use Rattle.state.specs.declared.Event.{Event}
 use Rattle.state.specs.declared.Follow.{Follow}
-use Rattle.state.specs.declared.Course.{Course}
-use Rattle.state.specs.declared.Homing.{Homing}
-use Rattle.state.specs.State.{State, stateOf, withFollow, withCourse}
+use Rattle.state.specs.State.{State, withFollow, withCourse}
 use Rattle.state.specs.Rule.{Done}
-use Rattle.follow.specs.View.{courseOf}
+use Rattle.matching.specs.declared.followed.Followed.{Followed}
 use Rattle.matching.specs.declared.followed.Way.{Way}
-use Rattle.guide.specs.declared.Told.{Told}
 use Rattle.matching.specs.Followed.{followed, wayOn}
 use Rattle.matching.specs.Match.{offNow, offEvent, due, followMatched, courseMatched}
+use Rattle.matching.specs.View.{IsFollowed}
+use Rattle.guide.specs.declared.Standing.{Standing}
 use Rattle.guide.specs.Guide.{finished}
+use Rattle.guide.specs.View.{Stands}
 use Rattle.update.specs.Update.{matchedAt}
-use Rattle.guide.specs.View.{Tells}
 
-module _ (h : Homing) (b line : List Float) (p : Point) (now : ℕ) (near : Nearest) where
-  abbrev offHere : Bool
-  offHere = offNow (h .follow .off) (near .off)
+module _ (course : List Crumb) (p : Point) (now : ℕ) (near : Nearest) (s : State) where
+  -- the state with the match in it
+  abbrev matched : Follow → State
+  matched m = withFollow m (withCourse (courseMatched near p (s .course)) s)
 
-  -- by being off, what is told, and the way
-  abbrev matchedBy : Bool → Event → Way → Follow → Course → Done Event
-  matchedBy off e w f c = finished (courseOf h line) p w e (withFollow f (withCourse c (stateOf h b)))
+  -- by the following before it, being off, what is told, and the line
+  abbrev matchedBy : Follow → Bool → Event → List Crumb → Done Event
+  matchedBy was off e line = finished course p (wayOn off line near) e (matched (followMatched near off e now was))
 
-  module _ (off : Bool) (e : Event) (w : Way) (f : Follow) (c : Course) where
-    pub matches : off ≡ offHere → e ≡ offEvent (h .follow .off) off (due (h .follow) now) → w ≡ wayOn off (followed (courseOf h line) (stateOf h b)) near
-        → f ≡ followMatched near off e now (h .follow) → c ≡ courseMatched near p (h .course)
-        → (m : Homing) → stateOf m b ≡ withFollow f (withCourse c (stateOf h b)) → m .trail ≡ h .trail
-        → (r : Told) → Tells (finished (courseOf m line) p w e) m b r → Tells (matchedAt (courseOf h line) p now near) h b r
-    unfolding matchedAt courseMatched
-    matches eo ee ew ef ec m same trail r t =
-        let course : m .course ≡ courseMatched near p (h .course) = ap (λ (s : State). s .course) same ∙ ec in
-        let placed : finished (courseOf m line) p w e (stateOf m b) ≡ matchedBy off e w f c =
-        ap (λ (x : Course). finished (crumbs (x .«line_len») line) p w e (stateOf m b)) course
-        ∙ ap (λ (s : State). finished (courseOf h line) p w e s) same in
-        let ends : Bool → Event → Done Event = λ o x. matchedBy o x (wayOn o (followed (courseOf h line) (stateOf h b)) near) (followMatched near o x now (h .follow)) (courseMatched near p (h .course)) in
-        let whole : finished (courseOf m line) p w e (stateOf m b) ≡ matchedAt (courseOf h line) p now near (stateOf h b) =
-        placed
-        ∙ ap (λ (x : Way). matchedBy off e x f c) ew
-        ∙ ap (λ (x : Follow). matchedBy off e (wayOn off (followed (courseOf h line) (stateOf h b)) near) x c) ef
-        ∙ ap (λ (x : Course). matchedBy off e (wayOn off (followed (courseOf h line) (stateOf h b)) near) (followMatched near off e now (h .follow)) x) ec
-        ∙ ap (λ (x : Event). ends off x) ee
-        ∙ ap (λ (o : Bool). ends o (offEvent (h .follow .off) o (due (h .follow) now))) eo in
-        record {
-          told = t .told ∙ ap (λ (d : Done Event). d .answer) whole;
-          same = t .same ∙ ap (λ (d : Done Event). d .state) whole;
-          trail = t .trail ∙ trail;
-        }
+  module _ {x : Standing} {b : List Float} {f : Followed} {l : List Crumb} (stands : Stands x b s) (is : IsFollowed f l course s) where
+    pub matches : {off : Bool} {e : Event} {w : Way} {m : Follow} → off ≡ offNow (x .follow .off) (near .off)
+        → e ≡ offEvent (x .follow .off) off (due (x .follow) now) → w ≡ wayOn off l near → m ≡ followMatched near off e now (x .follow)
+        → matchedAt course p now near s ≡ finished course p w e (matched m)
+    unfolding matchedAt
+    matches {off} {e} {w} {m} eo ee ew em =
+        let was = x .follow in
+        let isOff : Follow → Bool = λ g. offNow (g .off) (near .off) in
+        let told : Follow → Bool → Event = λ g o. offEvent (g .off) o (due g now) in
+        sym (ap (λ (g : Follow). matchedBy g (isOff g) (told g (isOff g)) (followed course s)) (stands .follow))
+        ∙ sym (ap (λ (y : List Crumb). matchedBy was (isOff was) (told was (isOff was)) y) (is .crumbs))
+        ∙ sym (ap (λ (o : Bool). matchedBy was o (told was o) l) eo)
+        ∙ sym (ap (λ (y : Event). matchedBy was off y l) ee)
+        ∙ sym (ap (λ (y : Way). finished course p y e (matched (followMatched near off e now was))) ew)
+        ∙ sym (ap (λ (g : Follow). finished course p w e (matched g)) em)

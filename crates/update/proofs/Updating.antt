@@ -1,44 +1,42 @@
--- One way or another by a test, in the whole state. Assumes nothing.
+-- What becomes of a following, in the whole state. Assumes nothing.
 use mathlib.Core.Path.{_≡_, refl, sym, ap, _∙_, subst}
 use Prim.Native.Nat.{ℕ, _≤_, _<_, max}
-use mathlib.Core.Bool.{Bool, true, false, _&&_, false≢true}
+use mathlib.Core.Bool.{true}
 use mathlib.Core.List.{List, []}
-use lib.Dec.{leb}
 use lib.ListN.{length}
-use lib.Ieee.{Float, lt}
-use borrow.Author.Tests.{leb-true}
+use lib.Ieee.{Float}
 use Rattle.plane.specs.declared.Point.{Point}
-use Rattle.segments.specs.declared.costs.Nearest.{Nearest}
-use Rattle.segments.specs.Constants.{dropM}
 use Rattle.crumbs.specs.declared.Crumb.{Crumb}
 use Rattle.crumbs.specs.Crumb.{capacity, crumbs, behind}
+use Rattle.segments.specs.declared.costs.Nearest.{Nearest}
 use Rattle.trail.specs.declared.Trail.{Trail}
 use Rattle.trail.specs.View as trail
+use Rattle.trail.specs.View.{track}
 use Rattle.state.specs.declared.Event.{Event}
 use Rattle.state.specs.declared.Event.the-variants as event
 use Rattle.state.specs.declared.Follow.{Follow}
 use Rattle.state.specs.declared.Course.{Course}
 use Rattle.state.specs.declared.Homing.{Homing}
-use Rattle.state.specs.State.{State, stateOf}
-use Rattle.state.specs.Rule.{Done}
+use Rattle.state.specs.State.{State, stateOf, withCourse}
+use Rattle.state.specs.Rule.{Done, done}
 use Rattle.follow.specs.View.{HomingFit, courseOf, Changes}
+use Rattle.matching.specs.declared.followed.Followed.{Followed}
+use Rattle.matching.specs.Match.{onLine, courseMatched}
+use Rattle.matching.specs.View.{followedBy, lineIn, Lent, IsFollowed}
+use Rattle.matching.proofs.followed.Lines.{is-followed, lent-on, last-on}
+use Rattle.guide.specs.declared.Display.{Display}
+use Rattle.guide.specs.declared.Standing.{Standing}
 use Rattle.guide.specs.declared.Told.{Told}
-use Rattle.matching.specs.Match.{onLine}
-use Rattle.matching.specs.Followed.{followed}
-use Rattle.update.specs.Update.{begun, matchedAt, endedWith, atCourseEnd, matchedTo, followOn, update}
 use Rattle.guide.specs.Guide.{direct}
-use Rattle.matching.specs.View.{Room, followedLen}
-use Rattle.guide.specs.View.{Tells}
-use Rattle.update.specs.View.{Updates}
-use Rattle.matching.proofs.Choosing.{picked, passed-by}
-use Rattle.matching.proofs.followed.Lines.{followed-long}
-
--- the crumbs and the line fit
-pub roomy : (h : Homing) (room lineRoom : ℕ) → HomingFit h room lineRoom → Room h room lineRoom
-roomy h room lineRoom f = record { held = f .trail .held; placed = f .course }
+use Rattle.guide.specs.View.{Tells, displaying, Stands}
+use Rattle.update.specs.declared.Outcome.{Outcome}
+use Rattle.update.specs.declared.Outcome.the-variants.{Straight, Stays, Ends, GoesOn}
+use Rattle.update.specs.Update.{begun, matchedAt, endedWith, update}
+use Rattle.update.specs.View.{Updates, comesTo, MatchedIn, Becomes}
 
 -- what fits goes by the trail, the following and the course alone
-pub fit-same : (h r : Homing) (room lineRoom : ℕ) → HomingFit h room lineRoom → r .trail ≡ h .trail → r .follow ≡ h .follow → r .course ≡ h .course → HomingFit r room lineRoom
+pub fit-same : (h r : Homing) (room lineRoom : ℕ) → HomingFit h room lineRoom
+    → r .trail ≡ h .trail → r .follow ≡ h .follow → r .course ≡ h .course → HomingFit r room lineRoom
 fit-same h r room lineRoom f t w c =
     record {
       trail = subst (λ (x : Trail). trail.TrailFit x room) (sym t) (f .trail);
@@ -53,6 +51,16 @@ fit-same h r room lineRoom f t w c =
             subst (λ (x : Follow). 1 ≤ x .segment) (sym w) (on .0),
             subst (λ (x : Course). r .follow .segment < x .«line_len») (sym c) (subst (λ (x : Follow). x .segment < h .course .«line_len») (sym w) (on .1)),
           );
+    }
+
+-- what a rule does, put in its place
+pub tells : (rule : State → Done Event) (h : Homing) (b : List Float) (r : Told) (d : Done Event) → rule (stateOf h b) ≡ d
+    → r .event ≡ d .answer → stateOf (r .homing) b ≡ d .state → r .homing .trail ≡ h .trail → Tells rule h b r
+tells rule h b r d is told same trail =
+    record {
+      told = told ∙ sym (ap (λ (x : Done Event). x .answer) is);
+      same = same ∙ sym (ap (λ (x : Done Event). x .state) is);
+      trail = trail;
     }
 
 -- a rule that is another at this state
@@ -101,45 +109,6 @@ updates-from before rule h g entry r exit c u =
           };
     }
 
--- ---- dropped, at the course's end, or matched
-module _ (C : ℕ) (course : List Crumb) (p : Point) (now : ℕ) (near : Nearest) (s : State) where
-  abbrev other : Done Event
-  other = elim (atCourseEnd s near) [ true ↦ endedWith event.CourseEnd C course p now s | false ↦ matchedAt course p now near s ]
-
-  pub drops : lt dropM (near .off) ≡ true → matchedTo C course p now near s ≡ endedWith event.Dropped C course p now s
-  unfolding matchedTo
-  drops t = picked (endedWith event.Dropped C course p now s) other (lt dropM (near .off)) t
-
-  pub reaches-end : lt dropM (near .off) ≡ false → atCourseEnd s near ≡ true → matchedTo C course p now near s ≡ endedWith event.CourseEnd C course p now s
-  unfolding matchedTo
-  reaches-end t a =
-      passed-by (endedWith event.Dropped C course p now s) other (lt dropM (near .off)) t
-      ∙ picked (endedWith event.CourseEnd C course p now s) (matchedAt course p now near s) (atCourseEnd s near) a
-
-  pub goes-on : lt dropM (near .off) ≡ false → atCourseEnd s near ≡ false → matchedTo C course p now near s ≡ matchedAt course p now near s
-  unfolding matchedTo
-  goes-on t a =
-      passed-by (endedWith event.Dropped C course p now s) other (lt dropM (near .off)) t
-      ∙ passed-by (endedWith event.CourseEnd C course p now s) (matchedAt course p now near s) (atCourseEnd s near) a
-
--- ---- whether a line is followed
-module _ (C : ℕ) (course : List Crumb) (p : Point) (now : ℕ) (s : State) where
-  abbrev pub leads : State → Bool
-  leads t = onLine (t .follow .line) && leb 2 (length (followed course t))
-
-  pub follows-on : leads (begun p now s) ≡ true → update C course p now s ≡ followOn C course p now (begun p now s)
-  unfolding update
-  follows-on t = picked (followOn C course p now (begun p now s)) (direct course p (begun p now s)) (leads (begun p now s)) t
-
-  pub goes-straight : leads (begun p now s) ≡ false → update C course p now s ≡ direct course p (begun p now s)
-  unfolding update
-  goes-straight t = passed-by (followOn C course p now (begun p now s)) (direct course p (begun p now s)) (leads (begun p now s)) t
-
-  -- "`update` calling itself: following falls": where nothing is followed, as after a following ended, an update goes straight to the start
-  pub unfollowed : onLine (s .follow .line) ≡ false → update C course p now s ≡ direct course p (begun p now s)
-  unfolding begun
-  unfollowed l = goes-straight (ap (λ (x : Bool). x && leb 2 (length (followed course s))) l)
-
 -- ---- the state after an update begins fits as it did
 module _ (p : Point) (now : ℕ) (h r : Homing) (room lineRoom : ℕ) (c : Changes (begun p now) h r) where
   follow-kept : r .follow ≡ h .follow
@@ -157,40 +126,92 @@ module _ (p : Point) (now : ℕ) (h r : Homing) (room lineRoom : ℕ) (c : Chang
   pub course-begun : (line : List Float) → courseOf r line ≡ courseOf h line
   course-begun line = ap (λ (x : Course). crumbs (x .«line_len») line) course-kept
 
--- ---- the whole of an update
-two-of : (a : Bool) (n : ℕ) → (a && leb 2 n) ≡ true → (2 ≤ n) × (a ≡ true)
-two-of true n e = (leb-true 2 n e, refl)
-two-of false n e = absurd (false≢true e)
+-- ---- what an update reads of a state
+module _ (h : Homing) (b line : List Float) where
+  abbrev standing : Standing
+  standing =
+      record {
+        follow = h .follow;
+        arrived = h .arrived;
+        heading = h .motion .heading;
+        held = h .trail .len;
+        placed = h .course .«line_len»;
+      }
 
-pub line-followed : (h : Homing) → (onLine (h .follow .line) && leb 2 (followedLen h)) ≡ true → (2 ≤ followedLen h) × (onLine (h .follow .line) ≡ true)
-line-followed h e = two-of (onLine (h .follow .line)) (followedLen h) e
+  pub stands-begun : (p : Point) (now : ℕ) → Stands standing b (begun p now (stateOf h b))
+  unfolding begun track
+  stands-begun p now = record { follow = refl; arrived = refl; heading = refl; crumbs = refl }
 
-module _ (h b : Homing) (entry exit line : List Float) (p : Point) (now : ℕ) (c : Changes (begun p now) h b) where
+  abbrev followedHere : Followed
+  followedHere = followedBy (h .follow) (h .course) (h .motion .heading) (h .trail .len)
+
+  module _ {f : Followed} (e : f ≡ followedHere) where
+    pub followed-here : IsFollowed f (lineIn f b line) (courseOf h line) (stateOf h b)
+    unfolding track
+    followed-here =
+        let here = is-followed (stateOf h b) b line (h .trail .len) refl in
+        subst (λ (x : Followed). IsFollowed x (lineIn x b line) (courseOf h line) (stateOf h b)) (sym e) here
+
+    module _ {room lineRoom : ℕ} (fit : HomingFit h room lineRoom) where
+      pub lent-here : Lent f room lineRoom
+      lent-here =
+          let here = lent-on (h .follow .line) _ _ room lineRoom (fit .course) (fit .trail .held) in
+          subst (λ (x : Followed). Lent x room lineRoom) (sym e) here
+
+      pub last-here : onLine (f .on) ≡ true → f .segment < f .len
+      last-here =
+          subst (λ (x : Followed). onLine (x .on) ≡ true → x .segment < x .len) (sym e)
+          (λ l. last-on (h .follow .segment) _ _ (h .follow .line) l (fit .onTrail) (fit .onCourse))
+
+-- ---- by what becomes of the following
+module _ (h : Homing) (b line : List Float) (p : Point) (now : ℕ) where
+  abbrev rule : ℕ → State → Done Event
+  rule C = update C (courseOf h line) p now
+
   abbrev begunState : State
-  begunState = begun p now (stateOf h entry)
+  begunState = begun p now (stateOf h b)
 
-  told : (t : Bool) → (onLine (b .follow .line) && leb 2 (followedLen b)) ≡ t → leads 0 (courseOf h line) p now (stateOf h entry) begunState ≡ t
-  told t e =
-      sym (ap (λ (x : State). onLine (x .follow .line) && leb 2 (length (followed (courseOf h line) x))) (c .same entry))
-      ∙ ap (λ (l : List Crumb). onLine (b .follow .line) && leb 2 (length (followed l (stateOf b entry)))) (sym (course-begun p now h b 0 0 c line))
-      ∙ ap (λ (n : ℕ). onLine (b .follow .line) && leb 2 n) (sym (followed-long b line entry))
-      ∙ e
+  abbrev by : Outcome → Done Event
+  by o = comesTo o (capacity (length b)) (courseOf h line) p now begunState
 
-  pub updated-on : (r : Told) → (onLine (b .follow .line) && leb 2 (followedLen b)) ≡ true → Updates (λ C. followOn C (courseOf b line) p now) b entry r exit
-      → Updates (λ C. update C (courseOf h line) p now) h entry r exit
-  updated-on r e u =
-      let C = capacity (length entry) in
-      updates-as (λ C. update C (courseOf h line) p now) (λ C s. followOn C (courseOf h line) p now (begun p now s)) h entry r exit
-      (follows-on C (courseOf h line) p now (stateOf h entry) (told true e))
-      (updates-from (begun p now) (λ C. followOn C (courseOf h line) p now) h b entry r exit c
-      (subst (λ (l : List Crumb). Updates (λ C. followOn C l p now) b entry r exit) (course-begun p now h b 0 0 c line) u))
+  module _ {f : Followed} {o : Outcome} (e : f ≡ followedHere h b line) (becomes : Becomes f b line p o) where
+    is : {x : Outcome} → o ≡ x → rule (capacity (length b)) (stateOf h b) ≡ by x
+    is told = becomes .does _ _ (followed-here h b line e) (capacity (length b)) now ∙ ap by told
 
-  pub updated-straight : trail.TrailFit (h .trail) (length entry) → (r : Told) → (onLine (b .follow .line) && leb 2 (followedLen b)) ≡ false → Tells (direct (courseOf b line) p) b entry r
-      → Updates (λ C. update C (courseOf h line) p now) h entry r entry
-  updated-straight f r e t =
-      let C = capacity (length entry) in
-      updates-as (λ C. update C (courseOf h line) p now) (λ C s. direct (courseOf h line) p (begun p now s)) h entry r entry
-      (goes-straight C (courseOf h line) p now (stateOf h entry) (told false e))
-      (updates-from (begun p now) (λ C. direct (courseOf h line) p) h b entry r entry c
-      (updates-still (direct (courseOf h line) p) b entry r (subst (λ (x : Trail). trail.TrailFit x (length entry)) (sym (c .trail)) f)
-      (subst (λ (l : List Crumb). Tells (direct l p) b entry r) (course-begun p now h b 0 0 c line) t)))
+    pub match-on : {near : Nearest} → o ≡ GoesOn near → (1 ≤ near .end) × (near .end < f .len)
+    match-on told = subst (λ (x : Outcome). MatchedIn (f .len) x) told (becomes .matched _ _ (followed-here h b line e))
+
+    pub goes-straight : trail.TrailFit (h .trail) (length b) → o ≡ Straight → (d : Display)
+        → direct (courseOf h line) p begunState ≡ displaying d begunState
+        → (r : Told) → Tells (λ s. displaying d (begun p now s)) h b r → Updates rule h b r b
+    unfolding comesTo
+    goes-straight fit told d shows r t =
+        let straight : State → Done Event = λ s. displaying d (begun p now s) in
+        updates-as rule (λ C. straight) h b r b (is told ∙ shows) (updates-still straight h b r fit t)
+
+    pub stays : trail.TrailFit (h .trail) (length b) → o ≡ Stays → (n : Homing) → Changes (begun p now) h n
+        → Updates rule h b (record { homing = n; event = event.Nothing }) b
+    unfolding comesTo
+    stays fit told n c =
+        let still : State → Done Event = λ s. done event.Nothing (begun p now s) in
+        updates-as rule (λ C. still) h b _ b (is told)
+        (updates-still still h b _ fit (tells still h b _ _ refl refl (c .same b) (c .trail)))
+
+    pub ends : {event : Event} → o ≡ Ends event → (n : Homing) → Changes (begun p now) h n → (r : Told) (exit : List Float)
+        → Updates (λ C. endedWith event C (courseOf n line) p now) n b r exit → Updates rule h b r exit
+    unfolding comesTo
+    ends {event} told n c r exit u =
+        let ending : ℕ → State → Done Event = λ C. endedWith event C (courseOf h line) p now in
+        let here = subst (λ (l : List Crumb). Updates (λ C. endedWith event C l p now) n b r exit) (course-begun p now h n 0 0 c line) u in
+        updates-as rule (λ C s. ending C (begun p now s)) h b r exit (is told) (updates-from (begun p now) ending h n b r exit c here)
+
+    pub goes-on : {near : Nearest} → trail.TrailFit (h .trail) (length b) → o ≡ GoesOn near → (d : Display)
+        → matchedAt (courseOf h line) p now near begunState ≡ displaying d (withCourse (courseMatched near p (h .course)) begunState)
+        → (m : Homing) → stateOf m b ≡ withCourse (courseMatched near p (h .course)) (stateOf h b) → m .trail ≡ h .trail
+        → (r : Told) → Tells (λ s. displaying d (begun p now s)) m b r → Updates rule h b r b
+    unfolding comesTo begun
+    goes-on {near} fit told d shows m same trail r t =
+        let onward : State → Done Event = λ s. displaying d (begun p now (withCourse (courseMatched near p (h .course)) s)) in
+        let matched = ap (λ (s : State). displaying d (begun p now s)) (sym same) in
+        updates-as rule (λ C. onward) h b r b (is told ∙ shows)
+        (updates-still onward h b r fit (tells onward h b r _ matched (t .told) (t .same) (t .trail ∙ trail)))

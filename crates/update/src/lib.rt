@@ -1,29 +1,144 @@
 // The guide after a fix.
 
+use crumbs::along;
+use guide::Display;
+use guide::Standing;
 use guide::Told;
 use matching::followed;
+use matching::followed::Followed;
 use plane::Point;
-use search::Range;
 use segments::Best;
 use segments::costs;
 use segments::costs::Nearest;
 use state::Event;
 use state::Homing;
+use state::Line;
+use state::Shown;
 ghost use mathlib.Core.Path.{_≡_};
 ghost use mathlib.Core.Bool.{true, _&&_};
 ghost use lib.Dec.{leb};
 ghost use mathlib.Core.List.{List};
-ghost use Prim.Native.Nat.{_≤_};
+ghost use Prim.Native.Nat.{ℕ, _≤_, _<_};
 ghost use lib.ListN.{length};
 ghost use lib.Ieee.{Float};
-ghost use Rattle.state.specs.State.{stateOf};
+ghost use Rattle.crumbs.specs.declared.Crumb.{Crumb};
+ghost use Rattle.crumbs.specs.Crumb.{capacity};
+ghost use Rattle.state.specs.State.{State, withCourse};
 ghost use Rattle.follow.specs.View.{HomingFit, courseOf, Changes};
-ghost use Rattle.segments.specs.Inner.{InLine};
-ghost use Rattle.matching.specs.Match.{onLine};
-ghost use Rattle.update.specs.Update.{begun, matchedAt, atCourseEnd, endedWith, matchedTo, matchFrom, followOn, update};
-ghost use Rattle.matching.specs.View.{Room, followedLen, OnFollowed};
-ghost use Rattle.guide.specs.View.{Tells};
-ghost use Rattle.update.specs.View.{Updates};
+ghost use Rattle.matching.specs.Match.{onLine, courseMatched};
+ghost use Rattle.matching.specs.View.{lineIn, Lent, IsFollowed, WhereFollowed};
+ghost use Rattle.guide.specs.View.{Tells, courseHeld, displaying, WhereStanding};
+ghost use Rattle.update.specs.Update.{begun, matchedAt, atCourseEnd, endedWith, matchedTo, followOn, update};
+ghost use Rattle.update.specs.View.{Updates, comesTo, MatchedIn, Becomes};
+
+// What becomes of a following.
+enum Outcome {
+    // Nothing is followed that leads on: straight to the start.
+    Straight,
+    // No segment is in reach: the guide stays as it was.
+    Stays,
+    // Following ends, and this is told.
+    Ends(Event),
+    // It goes on from this match.
+    GoesOn(Nearest),
+}
+
+// ---- what becomes of a following
+
+// On the course, and close enough to its end.
+fn at_course_end(on: Line, near: Nearest) -> bool
+    ensures { λ r. ⌜ ((s : State) → s .follow .line ≡ on → r ≡ atCourseEnd s near) ⌝ }
+{
+    if matching::on_course(on) {
+        if near.off <= costs::ON_M {
+            return near.along < guide::ARRIVE_M;
+        }
+    }
+    false
+}
+
+// Dropped, at the course's end, or matched.
+fn matched_to(on: Line, near: Nearest) -> Outcome
+    ensures { λ r. ⌜ ((C at : ℕ) (course : List Crumb) (p : Point) (s : State) → s .follow .line ≡ on
+        → matchedTo C course p at near s ≡ comesTo r C course p at s) ⌝ }
+    ensures { λ r. ⌜ ((len : ℕ) → (1 ≤ near .end) × (near .end < len) → MatchedIn len r) ⌝ }
+{
+    if near.off > segments::DROP_M {
+        return Outcome::Ends(Event::Dropped);
+    }
+    if at_course_end(on, near) {
+        return Outcome::Ends(Event::CourseEnd);
+    }
+    Outcome::GoesOn(near)
+}
+
+fn follow_on(f: Followed, crumbs: &[f32], line: &[f32], p: Point) -> Outcome
+    requires { ⌜ Lent f (length (now crumbs)) (length (now line)) ⌝ }
+    requires { ⌜ (2 ≤ f .len) × (f .segment < f .len) ⌝ }
+    ensures { λ r. ⌜ WhereFollowed f (now (crumbs .entry)) (now (line .entry))
+        (λ course s. ((C at : ℕ) → followOn C course p at s ≡ comesTo r C course p at s) × MatchedIn (f .len) r) ⌝ }
+{
+    let best = followed::matched(f, crumbs, line, p);
+    let Best::Found(near) = best else {
+        return Outcome::Stays;
+    };
+    let on = f.on;
+    matched_to(on, near)
+}
+
+// Whether a line is followed that has a segment.
+fn leads_on(on: Line, len: usize) -> bool
+    ensures { λ r. ⌜ r ≡ (onLine on && leb 2 len) ⌝ }
+{
+    if matching::on_line(on) {
+        return 2 <= len;
+    }
+    false
+}
+
+// What becomes of a following at a fix at p.
+fn outcome_at(f: Followed, crumbs: &[f32], line: &[f32], p: Point) -> Outcome
+    requires { ⌜ Lent f (length (now crumbs)) (length (now line)) ⌝ }
+    requires { ⌜ (onLine (f .on) ≡ true → f .segment < f .len) ⌝ }
+    ensures { λ r. ⌜ Becomes f (now (crumbs .entry)) (now (line .entry)) p r ⌝ }
+{
+    let on = f.on;
+    if leads_on(on, f.len) {
+        return follow_on(f, crumbs, line, p);
+    }
+    Outcome::Straight
+}
+
+// ---- what is shown
+
+// Matched: the guide along the line.
+fn matched_at(
+    x: Standing,
+    f: Followed,
+    crumbs: &[f32],
+    line: &[f32],
+    p: Point,
+    now_ms: u64,
+    near: Nearest,
+) -> Display
+    requires { ⌜ (x .held ≤ capacity (length (now crumbs))) × (x .placed ≤ capacity (length (now line))) ⌝ }
+    requires { ⌜ (Lent f (length (now crumbs)) (length (now line))) × (1 ≤ near .end) × (near .end < f .len) ⌝ }
+    ensures { λ r. ⌜ WhereStanding x (now (crumbs .entry))
+        (λ s. IsFollowed f (lineIn f (now (crumbs .entry)) (now (line .entry))) (courseHeld x (now (line .entry))) s
+        → matchedAt (courseHeld x (now (line .entry))) p «now_ms» near s
+        ≡ displaying r (withCourse (courseMatched near p (s .course)) s)) ⌝ }
+{
+    let was = x.follow;
+    let off = matching::off_now(was.off, near.off);
+    let e = matching::off_event(was.off, off, matching::due(was, now_ms));
+    let w = followed::way_on(f, crumbs, line, off, near);
+    let follow = matching::follow_matched(near, off, e, now_ms, was);
+    let matched = Standing { follow, ..x };
+    let start = along::start(crumbs, x.held, p);
+    guide::finished(matched, crumbs, line, start, p, w, e)
+}
+
+// ---- the state after it
 
 // Every update begins so: it is timed, and the lap is stepped.
 fn begun(h: Homing, p: Point, now_ms: u64) -> Homing
@@ -38,117 +153,48 @@ fn begun(h: Homing, p: Point, now_ms: u64) -> Homing
     next
 }
 
-// Matched: the guide along the line.
-fn matched_at(h: Homing, crumbs: &[f32], line: &[f32], p: Point, now_ms: u64, near: Nearest) -> Told
-    requires { ⌜ Room h (length (now crumbs)) (length (now line)) ⌝ }
-    requires { ⌜ OnFollowed h near ⌝ }
-    ensures { λ r. ⌜ Tells (matchedAt (courseOf h (now (line .entry))) p «now_ms» near) h (now (crumbs .entry)) r ⌝ }
+// Begun so and with the guide shown, built in one step.
+fn shown(h: Homing, p: Point, now_ms: u64, d: Display) -> Told
+    ensures { λ r. ⌜ ((b : List Float) → Tells (λ s. displaying d (begun p «now_ms» s)) h b r) ⌝ }
 {
-    let f = h.follow;
-    let off = matching::off_now(f.off, near.off);
-    let e = matching::off_event(f.off, off, matching::due(f, now_ms));
-    let w = followed::way_on(h, crumbs, line, off, near);
-    let c = h.course;
-    let mut matched = h;
-    matched.follow = matching::follow_matched(near, off, e, now_ms, f);
-    matched.course = matching::course_matched(near, p, c);
-    guide::finished(matched, crumbs, line, p, w, e)
+    let m = h.motion;
+    let heading = m.heading;
+    let was = h.lap;
+    let a = d.arrival;
+    let follow = a.follow;
+    let guide = d.guide;
+    let event = a.event;
+    let homing = Homing {
+        lap: lap::step_pass(was, p, heading),
+        updated_ms: now_ms,
+        follow,
+        arrived: a.arrived,
+        guide: Shown::Guide(guide),
+        ..h
+    };
+    Told { homing, event }
 }
 
 // Following ends, and the guide is made anew without it.
 fn ended_with(e: Event, h: Homing, crumbs: &mut [f32], line: &[f32], p: Point, now_ms: u64) -> Told
     requires { ⌜ HomingFit h (length (now crumbs)) (length (now line)) ⌝ }
-    ensures { λ r. ⌜ Updates (λ C. endedWith e C (courseOf h (now (line .entry))) p «now_ms») h (now (crumbs .entry)) r (now (crumbs .exit)) ⌝ }
+    ensures { λ r. ⌜ Updates (λ C. endedWith e C (courseOf h (now (line .entry))) p «now_ms») h (now (crumbs .entry)) r
+        (now (crumbs .exit)) ⌝ }
 {
     let stopped = follow::stop_following(h, crumbs);
-    let again = begun(stopped, p, now_ms);
-    let last = guide::direct(again, crumbs, line, p);
+    let follow = stopped.follow;
+    let m = stopped.motion;
+    let heading = m.heading;
+    let x = Standing {
+        follow,
+        arrived: stopped.arrived,
+        heading,
+        held: stopped.trail.len,
+        placed: stopped.course.line_len,
+    };
+    let last = shown(stopped, p, now_ms, guide::direct(x, crumbs, line, p));
     let homing = last.homing;
     Told { homing, event: e }
-}
-
-fn at_course_end(h: Homing, near: Nearest) -> bool
-    ensures { λ r. ⌜ ((b : List Float) → r ≡ atCourseEnd (stateOf h b) near) ⌝ }
-{
-    let f = h.follow;
-    let on = f.line;
-    if matching::on_course(on) {
-        if near.off <= costs::ON_M {
-            return near.along < guide::ARRIVE_M;
-        }
-    }
-    false
-}
-
-// Dropped, at the course's end, or matched.
-fn matched_to(
-    h: Homing,
-    crumbs: &mut [f32],
-    line: &[f32],
-    p: Point,
-    now_ms: u64,
-    near: Nearest,
-) -> Told
-    requires { ⌜ HomingFit h (length (now crumbs)) (length (now line)) ⌝ }
-    requires { ⌜ OnFollowed h near ⌝ }
-    ensures { λ r. ⌜ Updates (λ C. matchedTo C (courseOf h (now (line .entry))) p «now_ms» near) h (now (crumbs .entry)) r (now (crumbs .exit)) ⌝ }
-{
-    if near.off > segments::DROP_M {
-        return ended_with(Event::Dropped, h, crumbs, line, p, now_ms);
-    }
-    if at_course_end(h, near) {
-        return ended_with(Event::CourseEnd, h, crumbs, line, p, now_ms);
-    }
-    matched_at(h, crumbs, line, p, now_ms, near)
-}
-
-// Where no segment is in reach the guide stays as it was.
-fn match_from(
-    best: Best,
-    h: Homing,
-    crumbs: &mut [f32],
-    line: &[f32],
-    p: Point,
-    now_ms: u64,
-) -> Told
-    requires { ⌜ HomingFit h (length (now crumbs)) (length (now line)) ⌝ }
-    requires { ⌜ (2 ≤ followedLen h) × InLine (followedLen h) best ⌝ }
-    ensures { λ r. ⌜ Updates (λ C. matchFrom best C (courseOf h (now (line .entry))) p «now_ms») h (now (crumbs .entry)) r (now (crumbs .exit)) ⌝ }
-{
-    let Best::Found(first) = best else {
-        return Told {
-            homing: h,
-            event: Event::Nothing,
-        };
-    };
-    let near = followed::widened(h, crumbs, line, p, first);
-    matched_to(h, crumbs, line, p, now_ms, near)
-}
-
-fn follow_on(h: Homing, crumbs: &mut [f32], line: &[f32], p: Point, now_ms: u64) -> Told
-    requires { ⌜ HomingFit h (length (now crumbs)) (length (now line)) ⌝ }
-    requires { ⌜ (2 ≤ followedLen h) × (onLine (h .follow .line) ≡ true) ⌝ }
-    ensures { λ r. ⌜ Updates (λ C. followOn C (courseOf h (now (line .entry))) p «now_ms») h (now (crumbs .entry)) r (now (crumbs .exit)) ⌝ }
-{
-    let segment = h.follow.segment;
-    let ends = Range {
-        from: matching::search_from(segment),
-        to: matching::search_to(segment, followed::followed_len(h)),
-    };
-    let best = followed::nearest(h, crumbs, line, p, ends);
-    match_from(best, h, crumbs, line, p, now_ms)
-}
-
-// Whether a line is followed that has a segment.
-fn leads_on(h: Homing) -> bool
-    ensures { λ r. ⌜ r ≡ (onLine (h .follow .line) && leb 2 (followedLen h)) ⌝ }
-{
-    let f = h.follow;
-    let on = f.line;
-    if matching::on_line(on) {
-        return 2 <= followed::followed_len(h);
-    }
-    false
 }
 
 // The guide after a fix at p.
@@ -156,9 +202,36 @@ pub fn update(h: Homing, crumbs: &mut [f32], line: &[f32], p: Point, now_ms: u64
     requires { ⌜ HomingFit h (length (now crumbs)) (length (now line)) ⌝ }
     ensures { λ r. ⌜ Updates (λ C. update C (courseOf h (now (line .entry))) p «now_ms») h (now (crumbs .entry)) r (now (crumbs .exit)) ⌝ }
 {
-    let t = begun(h, p, now_ms);
-    if leads_on(t) {
-        return follow_on(t, crumbs, line, p, now_ms);
+    let follow = h.follow;
+    let course = h.course;
+    let m = h.motion;
+    let heading = m.heading;
+    let held = h.trail.len;
+    let f = followed::followed_by(follow, course, heading, held);
+    let x = Standing {
+        follow,
+        arrived: h.arrived,
+        heading,
+        held,
+        placed: course.line_len,
+    };
+    let o = outcome_at(f, crumbs, line, p);
+    match o {
+        Outcome::Straight => shown(h, p, now_ms, guide::direct(x, crumbs, line, p)),
+        Outcome::Stays => Told {
+            homing: begun(h, p, now_ms),
+            event: Event::Nothing,
+        },
+        Outcome::Ends(e) => ended_with(e, begun(h, p, now_ms), crumbs, line, p, now_ms),
+        Outcome::GoesOn(near) => {
+            let mut matched = h;
+            matched.course = matching::course_matched(near, p, course);
+            shown(
+                matched,
+                p,
+                now_ms,
+                matched_at(x, f, crumbs, line, p, now_ms, near),
+            )
+        }
     }
-    guide::direct(t, crumbs, line, p)
 }

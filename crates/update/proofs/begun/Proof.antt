@@ -1,5 +1,5 @@
 -- `update::begun` meets its contract. Assumes nothing.
-use mathlib.Core.Path.{_≡_, refl, sym, ap, _∙_}
+use mathlib.Core.Path.{refl, ap}
 use Rattle.lap.specs.declared.Lap.{Lap}
 use Rattle.state.specs.State.{stateOf, withLap, withUpdatedMs}
 use Rattle.update.specs.Update.{begun}

@@ -1,8 +1,8 @@
 -- `update::ended_with` meets its contract. Assumes nothing.
 use denote.Ref.{now}
-use mathlib.Core.Path.{_≡_, refl, sym, ap, _∙_, subst}
 use native.Mathlib.Omega.{arith}
-use Rattle.update.proofs.Ending.{room-after, ends-with}
+use Rattle.update.proofs.Updating.{stands-begun}
+use Rattle.update.proofs.Ending.{placed-after, ends-with}
 use borrow.Author.Needs.{needs}
 use Rattle.update.proofs.ended_with.Statement.{statement}
 use Rattle.update.proofs.ended_with.Tie as tie
@@ -10,31 +10,34 @@ use Rattle.update.proofs.ended_with.Tie as tie
 stop-following-requires : tie.Need-stop-following-requires
 stop-following-requires c κs = let f = c .before .before .before .pre in (f .trail, λ e. omega (arith, f .onTrail e .1))
 
-begun-requires : tie.Need-begun-requires
-begun-requires c κs = search needs
-
 direct-requires : tie.Need-direct-requires
 direct-requires c κs =
-    let s = c .before .before .before .before .before .before .before .before in
-    let g = s .args in
-    let k = c .before .before .before .before .stop-following in
-    room-after (g .h) (k .result) (c .before .begun .result) (now (g .crumbs)) (k .last .1 .0) (now (g .line)) (g .p) (g .now-ms) (k .ensures) (c .before .begun .ensures) (s .pre .course)
+    let stopped = c .before .before .before .before .before in
+    let k = stopped .stop-following in
+    let start = stopped .before .before .before .before in
+    let g = start .args in
+    let placed = placed-after (g .h) (k .result) (now (g .crumbs)) (k .last .1 .0) (now (g .line)) (k .ensures) (start .pre .course) in
+    (k .ensures .fit .held, placed)
+
+shown-requires : tie.Need-shown-requires
+shown-requires c κs = search needs
 
 same-length : tie.Need-same-length
 same-length c = search needs
 
 returns : tie.Need-returns
 returns c =
-    let g = c .before .before .before .before .before .before .before .before .before .before .args in
-    let k = c .before .before .before .before .before .before .stop-following in
-    ends-with (g .h) (k .result) (c .before .before .before .begun .result) (now (g .crumbs)) (k .last .1 .0) (now (g .line)) (g .p) (g .now-ms) (k .ensures) (c .before .before .before .begun .ensures) (g .e) (c .before .direct .result) (c .before .direct .ensures)
+    let stopped = c .before .before .before .before .before .before .before .before in
+    let k = stopped .stop-following in
+    let g = stopped .before .before .before .before .args in
+    let exit = k .last .1 .0 in
+    let line = now (g .line) in
+    let direct = c .before .before .direct in
+    let shown = c .before .shown in
+    let shows = direct .ensures _ (stands-begun (k .result) exit line (g .p) (g .now-ms)) in
+    ends-with (g .h) (k .result) (now (g .crumbs)) exit line (k .ensures) (g .p) (g .now-ms) (g .e)
+    (direct .result) (shown .result) shows (shown .ensures exit)
 
 pub ended-with-spec : {M : Type 1} → statement M
 ended-with-spec =
-    tie.close
-    (tie.spec
-    stop-following-requires
-    begun-requires
-    direct-requires
-    same-length
-    returns)
+    tie.close (tie.spec stop-following-requires direct-requires shown-requires same-length returns)

@@ -1,12 +1,7 @@
 -- `update::matched_at` meets its contract. Assumes nothing.
-use denote.Ref.{now}
-use mathlib.Core.Path.{_≡_, refl, sym, ap, _∙_, subst}
-use Prim.Native.Nat.{ℕ, _≤_}
+use mathlib.Core.Path.{refl, ap, _∙_}
 use mathlib.Core.Bool.{Bool}
-use lib.ListN.{length}
-use Rattle.crumbs.specs.Crumb.{capacity}
-use Rattle.state.specs.declared.Course.{Course}
-use Rattle.matching.specs.Match.{offEvent, courseMatched}
+use Rattle.matching.specs.Match.{offEvent, due}
 use Rattle.update.proofs.Matching.{matches}
 use borrow.Author.Needs.{needs}
 use Rattle.update.proofs.matched_at.Statement.{statement}
@@ -27,29 +22,25 @@ way-on-requires c κs = search needs
 follow-matched-requires : tie.Need-follow-matched-requires
 follow-matched-requires c κs = search needs
 
-course-matched-requires : tie.Need-course-matched-requires
-course-matched-requires c κs = search needs
+start-requires : tie.Need-start-requires
+start-requires c κs = search needs
 
 finished-requires : tie.Need-finished-requires
-unfolding courseMatched
-finished-requires c κs =
-    let s = c .before .before .before .before .before .before .before .before .before .before in
-    record {
-      held = s .pre .0 .held;
-      placed = subst (λ (x : Course). x .«line_len» ≤ capacity (length (now (s .args .line)))) (sym (c .course-matched .ensures)) (s .pre .0 .placed);
-    }
+finished-requires c κs = search needs
 
 returns : tie.Need-returns
-returns c =
-    let g = c .before .before .before .before .before .before .before .before .before .before .before .args in
-    matches (g .h) (now (g .crumbs)) (now (g .line)) (g .p) (g .now-ms) (g .near)
-    (c .before .before .before .before .before .before .before .off-now .result) (c .before .before .before .before .before .off-event .result) (c .before .before .before .before .way-on .result) (c .before .before .follow-matched .result) (c .before .course-matched .result)
-    (c .before .before .before .before .before .before .before .off-now .ensures)
-    (c .before .before .before .before .before .off-event .ensures ∙ ap (λ (x : Bool). offEvent (g .h .follow .off) (c .before .before .before .before .before .before .before .off-now .result) x) (c .before .before .before .before .before .before .due .ensures))
-    (c .before .before .before .before .way-on .ensures)
+returns c = λ s x i.
+    let told = c .before .before .before .before in
+    let off = told .before .before in
+    let g = off .before .before .before .before .args in
+    let was = g .x .follow in
+    let isDue = ap (λ (y : Bool). offEvent (was .off) (off .off-now .result) y) (told .before .due .ensures) in
+    matches _ (g .p) (g .now-ms) (g .near) s x i
+    (off .off-now .ensures)
+    (told .off-event .ensures ∙ isDue)
+    (c .before .before .before .way-on .ensures)
     (c .before .before .follow-matched .ensures)
-    (c .before .course-matched .ensures)
-    _ refl refl (c .finished .result) (c .finished .ensures)
+    ∙ c .finished .ensures _ (record { follow = refl; arrived = x .arrived; heading = x .heading; crumbs = x .crumbs })
 
 pub matched-at-spec : {M : Type 1} → statement M
 matched-at-spec =
@@ -60,6 +51,6 @@ matched-at-spec =
     off-event-requires
     way-on-requires
     follow-matched-requires
-    course-matched-requires
+    start-requires
     finished-requires
     returns)

@@ -1,57 +1,168 @@
 -- `update::update` meets its contract. Assumes nothing.
 use denote.Ref.{now}
-use mathlib.Core.Path.{_≡_, refl, sym, ap, _∙_, subst}
-use lib.ListN.{length}
-use Rattle.crumbs.specs.Crumb.{capacity}
-use Rattle.state.specs.State.{stateOf}
-use Rattle.follow.specs.View.{courseOf}
-use Rattle.update.proofs.Updating.{roomy, fit-begun, line-followed, updated-on, updated-straight}
+use mathlib.Core.Path.{refl, ap}
+use Rattle.state.specs.declared.Course.{Course}
+use Rattle.state.specs.State.{stateOf, withCourse}
+use Rattle.update.specs.Update.{begun}
+use Rattle.update.proofs.Deciding.{begun-followed}
+use Rattle.update.proofs.Updating.{fit-begun, stands-begun, followed-here, lent-here, last-here}
+use Rattle.update.proofs.Updating.{match-on, goes-straight, stays, ends, goes-on}
 use borrow.Author.Needs.{needs}
 use Rattle.update.proofs.update.Statement.{statement}
 use Rattle.update.proofs.update.Tie as tie
 
+followed-by-requires : tie.Need-followed-by-requires
+followed-by-requires c κs = search needs
+
+outcome-at-requires : tie.Need-outcome-at-requires
+outcome-at-requires c κs =
+    let start = c .before .before .before .before .before .before .before in
+    let g = start .args in
+    let f = c .before .followed-by .ensures in
+    (lent-here (g .h) (now (g .crumbs)) (now (g .line)) f (start .pre), last-here (g .h) (now (g .crumbs)) (now (g .line)) f (start .pre))
+
+enum-told : tie.Need-enum-told
+enum-told c = search needs
+
+direct-requires : tie.Need-direct-requires
+direct-requires c κs = search needs
+
+shown-requires : tie.Need-shown-requires
+shown-requires c κs = search needs
+
+enum-told-2 : tie.Need-enum-told-2
+enum-told-2 c = search needs
+
 begun-requires : tie.Need-begun-requires
 begun-requires c κs = search needs
 
-leads-on-requires : tie.Need-leads-on-requires
-leads-on-requires c κs = search needs
+enum-known-o : tie.Need-enum-known-o
+enum-known-o c = search needs
 
-follow-on-requires : tie.Need-follow-on-requires
-follow-on-requires c κs =
-    let s = c .before .before .before .before .before .before in
-    let g = s .args in
-    (fit-begun (g .p) (g .now-ms) (g .h) (c .before .before .before .begun .result) _ _ (c .before .before .before .begun .ensures) (s .pre), line-followed (c .before .before .before .begun .result) (sym (c .before .before .leads-on .ensures) ∙ c .before .if1 .taken))
+begun-requires-2 : tie.Need-begun-requires-2
+begun-requires-2 c κs = search needs
+
+ended-with-requires : tie.Need-ended-with-requires
+ended-with-requires c κs =
+    let start = c .before .before .before .before .before .before .before .before .before .before .before .before .before in
+    let g = start .args in
+    let begun = c .before .begun2 in
+    fit-begun (g .p) (g .now-ms) (g .h) (begun .result) _ _ (begun .ensures) (start .pre)
+
+enum-known-o-2 : tie.Need-enum-known-o-2
+enum-known-o-2 c = search needs
+
+course-matched-requires : tie.Need-course-matched-requires
+course-matched-requires c κs = search needs
+
+matched-at-requires : tie.Need-matched-at-requires
+matched-at-requires c κs =
+    let became = c .before .before .before .before .before in
+    let start = became .before .before .before .before .before .before .before .before in
+    let followed = became .before .before .followed-by .ensures in
+    let becomes = became .outcome-at .ensures in
+    let g = start .args in
+    let b = now (g .crumbs) in
+    let line = now (g .line) in
+    let near = match-on (g .h) b line (g .p) (g .now-ms) followed becomes (c .before .before .before .o2 .given .1) in
+    ((start .pre .trail .held, start .pre .course), (lent-here (g .h) b line followed (start .pre), near .0, near .1))
+
+shown-requires-2 : tie.Need-shown-requires-2
+shown-requires-2 c κs = search needs
 
 same-length : tie.Need-same-length
 same-length c = search needs
 
 returns : tie.Need-returns
 returns c =
-    let g = c .before .before .before .before .before .before .before .before .before .args in
-    let k = c .before .before .follow-on in
-    updated-on (g .h) (c .before .before .before .before .before .before .begun .result) (now (g .crumbs)) (k .last .1 .0) (now (g .line)) (g .p) (g .now-ms) (c .before .before .before .before .before .before .begun .ensures) (k .result) (sym (c .before .before .before .before .before .leads-on .ensures) ∙ c .before .before .before .before .if1 .taken) (k .ensures)
-
-direct-requires : tie.Need-direct-requires
-direct-requires c κs = let s = c .before .before .before .before .before .before in let g = s .args in roomy (c .before .before .before .begun .result) _ _ (fit-begun (g .p) (g .now-ms) (g .h) (c .before .before .before .begun .result) _ _ (c .before .before .before .begun .ensures) (s .pre))
+    let became = c .before .before .before .before .before in
+    let start = became .before .before .before .before .before .before .before .before in
+    let followed = became .before .before .followed-by .ensures in
+    let becomes = became .outcome-at .ensures in
+    let g = start .args in
+    let b = now (g .crumbs) in
+    let line = now (g .line) in
+    let shows = c .before .direct .ensures _ (stands-begun (g .h) b line (g .p) (g .now-ms)) in
+    let told = c .before .before .before .enum-told .given .1 in
+    goes-straight (g .h) b line (g .p) (g .now-ms) followed becomes (start .pre .trail) told
+    (c .before .direct .result) shows (c .shown .result) (c .shown .ensures b)
 
 same-length-2 : tie.Need-same-length-2
 same-length-2 c = search needs
 
 returns-2 : tie.Need-returns-2
 returns-2 c =
-    let s = c .before .before .before .before .before .before .before in
-    let g = s .args in
-    updated-straight (g .h) (c .before .before .before .before .begun .result) (now (g .crumbs)) (now (g .crumbs)) (now (g .line)) (g .p) (g .now-ms) (c .before .before .before .before .begun .ensures) (s .pre .trail) (c .direct .result) (sym (c .before .before .before .leads-on .ensures) ∙ c .before .before .if1 .left) (c .direct .ensures)
+    let became = c .before .before .before in
+    let start = became .before .before .before .before .before .before .before .before in
+    let followed = became .before .before .followed-by .ensures in
+    let becomes = became .outcome-at .ensures in
+    let g = start .args in
+    let b = now (g .crumbs) in
+    let line = now (g .line) in
+    stays (g .h) b line (g .p) (g .now-ms) followed becomes (start .pre .trail) (c .before .enum-told2 .given .1)
+    (c .begun .result) (c .begun .ensures)
+
+same-length-3 : tie.Need-same-length-3
+same-length-3 c = search needs
+
+returns-3 : tie.Need-returns-3
+returns-3 c =
+    let became = c .before .before .before .before .before .before .before .before in
+    let start = became .before .before .before .before .before .before .before .before in
+    let followed = became .before .before .followed-by .ensures in
+    let becomes = became .outcome-at .ensures in
+    let g = start .args in
+    let b = now (g .crumbs) in
+    let line = now (g .line) in
+    let ended = c .before .before .ended-with in
+    let begun = c .before .before .before .before in
+    ends (g .h) b line (g .p) (g .now-ms) followed becomes (begun .before .before .o .given .1)
+    (begun .begun2 .result) (begun .begun2 .ensures) (ended .result) (ended .last .1 .1 .0) (ended .ensures)
+
+same-length-4 : tie.Need-same-length-4
+same-length-4 c = search needs
+
+returns-4 : tie.Need-returns-4
+unfolding begun
+returns-4 c =
+    let became = c .before .before .before .before .before .before .before in
+    let start = became .before .before .before .before .before .before .before .before in
+    let followed = became .before .before .followed-by .ensures in
+    let becomes = became .outcome-at .ensures in
+    let g = start .args in
+    let b = now (g .crumbs) in
+    let line = now (g .line) in
+    let matched = c .before .matched-at in
+    let i = begun-followed (followed-here (g .h) b line followed) (g .p) (g .now-ms) in
+    let same = ap (λ (x : Course). withCourse x (stateOf (g .h) b)) (c .before .before .before .course-matched .ensures) in
+    let shows = matched .ensures _ (stands-begun (g .h) b line (g .p) (g .now-ms)) i in
+    let told = c .before .before .before .before .before .o2 .given .1 in
+    goes-on (g .h) b line (g .p) (g .now-ms) followed becomes (start .pre .trail) told
+    (matched .result) shows _ same refl (c .shown2 .result) (c .shown2 .ensures b)
 
 pub update-spec : {M : Type 1} → statement M
 update-spec =
     tie.close
     (tie.spec
+    followed-by-requires
+    outcome-at-requires
+    enum-told
+    direct-requires
+    shown-requires
+    enum-told-2
     begun-requires
-    leads-on-requires
-    follow-on-requires
+    enum-known-o
+    begun-requires-2
+    ended-with-requires
+    enum-known-o-2
+    course-matched-requires
+    matched-at-requires
+    shown-requires-2
     same-length
     returns
-    direct-requires
     same-length-2
-    returns-2)
+    returns-2
+    same-length-3
+    returns-3
+    same-length-4
+    returns-4)
