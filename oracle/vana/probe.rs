@@ -1,6 +1,6 @@
 /// What is private above, for the comparison. Follows the copy of homing.rs; see build.rs.
 pub mod probe {
-    use super::{Homing, Line, Point};
+    use super::{Crumb, Homing, Line, Point};
     use crate::state::State;
 
     pub fn distance(a: Point, b: Point) -> f32 {
@@ -37,6 +37,18 @@ pub mod probe {
         homing.origin = Some(origin);
         homing.east_per_e7 = east_per_e7;
         homing.frame(lat, lon)
+    }
+
+    /// Another guide as this one is, over buffers as long as its own. Turns are not measured: it has no
+    /// room for them.
+    pub fn again<'a>(
+        homing: &'a Homing,
+        crumbs: &'a mut [Crumb],
+        line: &'a mut [Crumb],
+    ) -> Homing<'a> {
+        crumbs.copy_from_slice(homing.crumbs);
+        line.copy_from_slice(homing.line);
+        Homing { crumbs, line, turns: &mut [], ..*homing }
     }
 
     pub fn state(homing: &Homing) -> State {

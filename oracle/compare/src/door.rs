@@ -2,7 +2,7 @@
 use crate::guide::Guide;
 use crate::script::{Call, Question, Script};
 use crate::transcript::{self, Ahead, Answer, Answers, Patterns, patterns};
-use cittumay::{Event, Homing, Mode, Refusal, STRIDE};
+use cittumay::{Event, Homing, Mode, NUMBERS, Refusal, STRIDE, WORDS};
 
 /// What is lent to a script's guide.
 pub struct Lent {
@@ -19,6 +19,17 @@ impl Lent {
     /// A script's buffers are of the sizes that question 1 asks for.
     pub fn guide(&mut self) -> Homing<'_> {
         Homing::new(&mut self.crumbs).expect("a script's buffers").with_line(&mut self.line)
+    }
+
+    /// A guide whose state was stored, over these buffers.
+    pub fn resumed(&mut self, (words, numbers): ([u64; WORDS], [f32; NUMBERS])) -> Homing<'_> {
+        Homing::resumed(words, numbers, &mut self.crumbs).with_line(&mut self.line)
+    }
+
+    /// The buffers of a guide of the same script.
+    pub fn copy_from(&mut self, other: &Self) {
+        self.crumbs.copy_from_slice(&other.crumbs);
+        self.line.copy_from_slice(&other.line);
     }
 }
 

@@ -11,6 +11,8 @@ pub mod guide;
 pub mod homing;
 pub mod inputs;
 pub mod lines;
+pub mod longest;
+pub mod measure;
 pub mod options;
 pub mod original;
 pub mod prepared;
@@ -28,6 +30,7 @@ pub mod step;
 pub mod stored;
 pub mod thinning;
 pub mod transcript;
+pub mod trials;
 pub mod value;
 pub mod words;
 
@@ -37,3 +40,11 @@ pub type Point = (f32, f32);
 pub type Place = (i32, i32);
 /// The origin, its east factor, and the place to put into its frame.
 pub type Framing = (Place, f32, Place);
+
+/// A number with commas between its thousands.
+pub fn grouped(number: usize) -> String {
+    match number {
+        0..1_000 => number.to_string(),
+        _ => format!("{},{:03}", grouped(number / 1_000), number % 1_000),
+    }
+}

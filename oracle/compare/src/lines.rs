@@ -101,8 +101,19 @@ fn places(count: usize, random: &mut Random) -> Vec<Point> {
     places
 }
 
+/// The lines whose thinning is measured: a word, a title, and the places.
+pub fn measured(count: usize) -> [(&'static str, &'static str, Vec<Point>); 5] {
+    [
+        ("road", "winding road", road(count, &mut Random::new(1, 0))),
+        ("east", "straight line east", straight(count, (10.0, 0.0))),
+        ("slanted", "slanted straight line", straight(count, (7.3, 4.1))),
+        ("zigzag", "zigzag of 300,000 m", zigzag(count, 300_000.0)),
+        ("far-zigzag", "zigzag of 10,000,000 m", zigzag(count, 10_000_000.0)),
+    ]
+}
+
 /// A winding road, a place every few metres.
-pub fn road(count: usize, random: &mut Random) -> Vec<Point> {
+fn road(count: usize, random: &mut Random) -> Vec<Point> {
     let (mut east, mut north) = (random.within(1 << 20), random.within(1 << 20));
     let (mut speed_east, mut speed_north) = (random.within(40), random.within(40));
     let mut next = || {
