@@ -1,7 +1,10 @@
-//! Measuring the proved code beside the Rust: the time of rounds, run by run.
+//! Measuring the proved code beside the Rust: the time of rounds, run by run; the stack that a call
+//! reaches; the bytes that it stores.
 pub mod machine;
 pub mod plot;
 pub mod rows;
+pub mod stack;
+pub mod trace;
 
 use std::time::{Duration, Instant};
 
