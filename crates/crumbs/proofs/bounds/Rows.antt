@@ -1,11 +1,10 @@
 -- Rows of crumbs: one filled with a crumb, one that lies between two others, those passed from the front on. Assumes nothing.
 use Prim.Native.Nat.{ℕ, _+_, _-_, _*_, _≤_, _<_}
 use mathlib.Core.Path.{_≡_, refl, sym, ap, _∙_, subst}
-use mathlib.Core.Bool.{Bool, true, false, _&&_}
+use mathlib.Core.Bool.{Bool, true, false, _&&_, false≢true}
 use mathlib.Core.List.{List}
 use native.Mathlib.Omega.{arith}
 use native.Mathlib.Decide.{ℕ-discrete, decLt}
-use lib.Dec.{T}
 use lib.ListN.{length, getD}
 use lib.Ieee.{Float, nan, le}
 use Rattle.crumbs.specs.declared.Crumb.{Crumb}
@@ -38,15 +37,10 @@ pub filled-end : {c : Crumb} {row : List Float} {i : ℕ} → Filled c row i →
 filled-end f h = record { each = λ k less. f .each k (omega arith) }
 
 -- ---- a row between two
-never : {A : Type 0} → false ≡ true → A
-never e = absurd (subst T (sym e) tt)
-
-pub both : (a b : Bool) → (a && b) ≡ true → (a ≡ true) × (b ≡ true)
-both true b h = (refl, h)
-both false b h = never h
-
-three : (a b c : Bool) → ((a && b) && c) ≡ true → (a ≡ true) × (b ≡ true) × (c ≡ true)
-three a b c h = let p = both (a && b) c h in let q = both a b (p .0) in (q .0, q .1, p .1)
+three : (a b c : Bool) → (a && b && c) ≡ true → (a ≡ true) × (b ≡ true) × (c ≡ true)
+three true true c h = (refl, refl, h)
+three true false c h = absurd (false≢true h)
+three false b c h = absurd (false≢true h)
 
 module _ (least most b : List Float) (at : ℕ) where
   -- number j of the row that begins at number `at`: not below that of `least`, not above that of `most`
