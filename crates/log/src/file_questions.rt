@@ -1,15 +1,13 @@
 // The questions put to a chain file and to its entries. Each `asks` answers the number of the first one
 // that says no, 0 where none does.
 
-use crate::Entry;
 use crate::RECORD;
-use crate::Sample;
 use questions::globe;
 use state::Place;
 ghost use mathlib.Core.Path.{_≡_};
 ghost use Prim.Native.Nat.{_≤_};
 ghost use Rattle.calls.specs.Calls.{asksPlace};
-ghost use Rattle.log.specs.Entry.{recordCount, used, chain};
+ghost use Rattle.log.specs.Entry.{recordCount, countOf, entryAt, used, chain};
 ghost use Rattle.log.specs.Questions.{question6 as question6Of, question7 as question7Of, question8 as question8Of, asksSamples, asksEntry, asksRecord, asksRecords, asksFile};
 
 // The samples of an entry.
@@ -29,38 +27,31 @@ fn asks_place(place: Place) -> u8
     }
 }
 
-fn asks_sample(sample: Sample) -> u8
-    ensures { λ r. ⌜ r ≡ asksPlace (sample .place) ⌝ }
-{
-    let place = sample.place;
-    asks_place(place)
-}
-
 // The places of the samples that are used.
-fn asks_used(e: Entry) -> u8
-    requires { ⌜ e .count ≤ 4 ⌝ }
-    ensures { λ r. ⌜ r ≡ asksSamples (used e) ⌝ }
+fn asks_used(file: &[u8], index: u32, count: u8) -> u8
+    requires { ⌜ (count ≡ countOf (now file) index) × (count ≤ 4) ⌝ }
+    ensures { λ r. ⌜ r ≡ asksSamples (used (entryAt (now (file .entry)) index)) ⌝ }
 {
-    let n = e.count as usize;
-    let mut i = 0;
-    while i < n {
-        let asked = asks_sample(e.samples[i]);
+    let mut k = 0;
+    while k < count {
+        let asked = asks_place(crate::place_of(file, index, k));
         if asked != 0 {
             return asked;
         }
-        i += 1;
+        k += 1;
     }
     0
 }
 
 // An entry of any kind is asked about its count, then about its places.
-pub fn asks_entry(e: Entry) -> u8
-    ensures { λ r. ⌜ r ≡ asksEntry e ⌝ }
+fn asks_entry(file: &[u8], index: u32) -> u8
+    ensures { λ r. ⌜ r ≡ asksEntry (entryAt (now (file .entry)) index) ⌝ }
 {
-    if SAMPLES < e.count {
+    let count = crate::count_of(file, index);
+    if SAMPLES < count {
         return 5;
     }
-    asks_used(e)
+    asks_used(file, index, count)
 }
 
 // ---- the questions put to a file
@@ -105,7 +96,7 @@ fn asks_record(file: &[u8], index: u32) -> u8
     if !question8(crate::kind_number(file, index)) {
         return 8;
     }
-    asks_entry(crate::entry_at(file, index))
+    asks_entry(file, index)
 }
 
 // The records along the chain, in its order.

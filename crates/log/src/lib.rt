@@ -5,8 +5,8 @@ pub mod file_questions;
 
 use state::Place;
 ghost use mathlib.Core.Path.{_≡_};
-ghost use Prim.Native.Nat.{_*_, _^_, _<_};
-ghost use Rattle.log.specs.Entry.{byteAt, u32At, u64At, signed as signedOf, i32At, nextOf, rideOf, kindNumber, countOf, kindOf, hasPlace, hasUtc, placeAt, utcAt, sampleAt, sampleOf, samplesOf, entryAt, recovered as recoveredOf};
+ghost use Prim.Native.Nat.{_+_, _*_, _^_, _<_};
+ghost use Rattle.log.specs.Entry.{byteAt, u32At, u64At, signed as signedOf, i32At, nextOf, rideOf, kindNumber, countOf, sampleStart, kindOf, hasPlace, hasUtc, placeAt, utcAt, sampleAt, sampleOf, samplesOf, entryAt, recovered as recoveredOf};
 
 // What an entry is, 1 to 7.
 pub enum Kind {
@@ -56,15 +56,26 @@ fn byte_at(file: &[u8], at: usize) -> u8
     0
 }
 
+fn four(b0: u8, b1: u8, b2: u8, b3: u8) -> u32
+    ensures { λ r. ⌜ r ≡ b0 + 2 ^ 8 * b1 + 2 ^ 16 * b2 + 2 ^ 24 * b3 ⌝ }
+{
+    (b0 as u32) + 256 * (b1 as u32) + 65536 * (b2 as u32) + 16777216 * (b3 as u32)
+}
+
+// One test for a number that the file has whole.
 fn u32_at(file: &[u8], at: usize) -> u32
     requires { ⌜ at < 2 ^ 42 ⌝ }
     ensures { λ r. ⌜ r ≡ u32At (now (file .entry)) at ⌝ }
 {
-    let b0 = byte_at(file, at) as u32;
-    let b1 = byte_at(file, at + 1) as u32;
-    let b2 = byte_at(file, at + 2) as u32;
-    let b3 = byte_at(file, at + 3) as u32;
-    b0 + 256 * b1 + 65536 * b2 + 16777216 * b3
+    if at + 4 <= file.len() {
+        return four(file[at], file[at + 1], file[at + 2], file[at + 3]);
+    }
+    four(
+        byte_at(file, at),
+        byte_at(file, at + 1),
+        byte_at(file, at + 2),
+        byte_at(file, at + 3),
+    )
 }
 
 fn u64_at(file: &[u8], at: usize) -> u64
@@ -172,13 +183,29 @@ fn sample_at(file: &[u8], at: usize) -> Sample
     }
 }
 
+// Where sample `k` begins.
+fn sample_start(index: u32, k: u8) -> usize
+    requires { ⌜ k < 4 ⌝ }
+    ensures { λ r. ⌜ (r ≡ sampleStart index k) × (r < 2 ^ 40) ⌝ }
+{
+    start_of(index) + HEAD + SAMPLE * (k as usize)
+}
+
+// The place of sample `k`.
+fn place_of(file: &[u8], index: u32, k: u8) -> Place
+    requires { ⌜ k < 4 ⌝ }
+    ensures { λ r. ⌜ r ≡ sampleAt (now (file .entry)) (sampleStart index k) .place ⌝ }
+{
+    place_at(file, sample_start(index, k))
+}
+
 // Sample `k`, where the record's count reaches it.
 fn sample_of(file: &[u8], index: u32, k: u8) -> Sample
     requires { ⌜ k < 4 ⌝ }
     ensures { λ r. ⌜ r ≡ sampleOf (now (file .entry)) index k ⌝ }
 {
     if k < count_of(file, index) {
-        return sample_at(file, start_of(index) + HEAD + SAMPLE * (k as usize));
+        return sample_at(file, sample_start(index, k));
     }
     Sample {
         place: Place::Missing,

@@ -7,11 +7,11 @@ use mathlib.Core.List.{List, [], _∷_}
 use native.Mathlib.Nat.{sub-zero}
 use native.Mathlib.Numerals.{add-one}
 use native.Mathlib.Omega.{arith}
-use borrow.Author.Tests.{ne-eqb, lt-ltb, le-ltb, leb-true, not-true, not-false}
+use borrow.Author.Tests.{ne-eqb, lt-ltb, le-ltb, lt-leb, le-leb, leb-true, not-true, not-false}
 use lib.Dec.{leb, eqb}
 use lib.ListN.{length, getD, take, drop}
 use lib.Seq.{drop-cons}
-use lib.IntN.{ℤ, pos}
+use lib.IntN.{ℤ}
 use lib.Signed.{mag}
 use mir.Syntax.{w32}
 use mir.Val.{toZ, ofZ}
@@ -19,10 +19,7 @@ use mir.ValLaws.{toZ-ofZ}
 use Rattle.state.specs.declared.Place.{Place}
 use Rattle.state.specs.declared.Place.the-variants as place
 use Rattle.calls.specs.Questions.{asksFix, _orElse_}
-use Rattle.log.specs.declared.Utc.the-variants as utc
-use Rattle.log.specs.declared.Sample.{Sample}
-use Rattle.log.specs.declared.Entry.{Entry}
-use Rattle.log.specs.Entry.{nextOf, recordCount, recordsFrom, chain, used, kindNumber, entryAt}
+use Rattle.log.specs.Entry.{nextOf, recordCount, recordsFrom, chain, countOf, sampleStart, sampleAt, noSample, sampleIf, sampleOf, samplesOf, used, kindNumber, entryAt}
 use Rattle.calls.specs.Calls.{asksPlace}
 use Rattle.log.specs.Questions.{question6, question7, question8, asksSamples, asksEntry, asksRecord, asksRecords, asksChain, asksFile}
 use Rattle.log.proofs.file_questions.Chain.{and-left, and-right, ends, steps-are}
@@ -136,37 +133,58 @@ place-asked p lat lon is x y e =
     ∙ sym (ap asksPlace is)
 
 -- ---- the samples that are used
--- what stands in for a sample behind the last
-abbrev pub blank : Sample
-blank = record { place = place.At (pos 0) (pos 0); utc = utc.At 0 }
+module _ (f : List ℕ) (r : ℕ) {count : ℕ} (told : count ≡ countOf f r) where
+  sample-there : (k : ℕ) → count ≤ 4 → k < count → getD (samplesOf f r) k noSample ≡ sampleAt f (sampleStart r k)
+  unfolding samplesOf sampleOf sampleIf
+  sample-there zero most h = rw (← told, lt-ltb 0 count h)
+  sample-there (suc zero) most h = rw (← told, lt-ltb 1 count h)
+  sample-there (suc (suc zero)) most h = rw (← told, lt-ltb 2 count h)
+  sample-there (suc (suc (suc zero))) most h = rw (← told, lt-ltb 3 count h)
+  sample-there (suc (suc (suc (suc k)))) most h = absurd (omega arith)
 
-pub record Using (e : Entry) (i : ℕ) : Type 0 where
-  pub rest : asksSamples (take (e .count - i) (drop i (e .samples))) ≡ asksSamples (used e)
+  all-used : take count (samplesOf f r) ≡ used (entryAt f r)
+  unfolding used entryAt
+  all-used = ap (λ n. take n (samplesOf f r)) told
 
-pub using-start : (e : Entry) → Using e 0
-unfolding used
-using-start e = record { rest = ap (λ n. asksSamples (take n (e .samples))) (sub-zero (e .count)) }
+-- after the first k
+pub record Using (f : List ℕ) (r count k : ℕ) : Type 0 where
+  pub rest : asksSamples (take (count - k) (drop k (samplesOf f r))) ≡ asksSamples (take count (samplesOf f r))
 
-module _ {e : Entry} {i : ℕ} (before : Using e i) where
-  module _ {n : ℕ} (four : length (e .samples) ≡ 4) (most : e .count ≤ 4) (more : i < e .count) (asked : n ≡ asksPlace (getD (e .samples) i blank .place)) where
-    sample-split : (n orElse asksSamples (take (e .count - (i + 1)) (drop (i + 1) (e .samples)))) ≡ asksSamples (used e)
-    unfolding asksSamples
+pub using-start : (f : List ℕ) (r count : ℕ) → Using f r count 0
+using-start f r count = record { rest = ap (λ n. asksSamples (take n (samplesOf f r))) (sub-zero count) }
+
+module _ {f : List ℕ} {r count k : ℕ} (before : Using f r count k) (told : count ≡ countOf f r) where
+  module _ {n : ℕ} {p : Place} (most : count ≤ 4) (more : k < count) (read : p ≡ sampleAt f (sampleStart r k) .place)
+      (asked : n ≡ asksPlace p) where
+    sample-split : (n orElse asksSamples (take (count - (k + 1)) (drop (k + 1) (samplesOf f r)))) ≡ asksSamples (take count (samplesOf f r))
+    unfolding asksSamples samplesOf
     sample-split =
-        let left : e .count - i ≡ suc (e .count - (i + 1)) = omega arith in
-        let room : i < length (e .samples) = omega arith in
-        sym (rw (left, drop-cons (e .samples) i blank room, ← asked, add-one i)) ∙ before .rest
+        let left : count - k ≡ suc (count - (k + 1)) = omega arith in
+        let room : k < length (samplesOf f r) = omega arith in
+        let first = drop-cons (samplesOf f r) k noSample room in
+        sym (rw (left, first, sample-there f r told k most more, ← read, ← asked, add-one k)) ∙ before .rest
 
-    pub using-no : n ≢ 0 → n ≡ asksSamples (used e)
-    using-no ne = sym (rw (ne-eqb n 0 ne)) ∙ sample-split
+    pub using-no : n ≢ 0 → n ≡ asksSamples (used (entryAt f r))
+    using-no ne = sym (rw (ne-eqb n 0 ne)) ∙ sample-split ∙ ap asksSamples (all-used f r told)
 
-    pub using-next : n ≡ 0 → Using e (i + 1)
+    pub using-next : n ≡ 0 → Using f r count (k + 1)
     using-next z = record { rest = sym (rw z) ∙ sample-split }
 
-  pub using-end : e .count ≤ i → 0 ≡ asksSamples (used e)
+  pub using-end : count ≤ k → 0 ≡ asksSamples (used (entryAt f r))
   unfolding asksSamples
   using-end h =
-      let none : e .count - i ≡ 0 = omega arith in
-      sym (rw none) ∙ before .rest
+      let none : count - k ≡ 0 = omega arith in
+      sym (rw none) ∙ before .rest ∙ ap asksSamples (all-used f r told)
+
+-- ---- an entry's count, then its places
+module _ (f : List ℕ) (r : ℕ) {count : ℕ} (told : count ≡ countOf f r) where
+  pub entry-count : 4 < count → 5 ≡ asksEntry (entryAt f r)
+  unfolding asksEntry entryAt
+  entry-count h = sym (rw (← told, lt-leb count 4 h))
+
+  pub entry-places : {n : ℕ} → count ≤ 4 → n ≡ asksSamples (used (entryAt f r)) → n ≡ asksEntry (entryAt f r)
+  unfolding asksEntry entryAt
+  entry-places h asked = asked ∙ sym (rw (← told, le-leb count 4 h))
 
 -- ---- a record's kind, then its entry
 module _ (f : List ℕ) (r : ℕ) {kind : ℕ} {fits : Bool} (number : kind ≡ kindNumber f r) (known : fits ≡ question8 kind) where
@@ -177,9 +195,9 @@ module _ (f : List ℕ) (r : ℕ) {kind : ℕ} {fits : Bool} (number : kind ≡ 
   unfolding asksRecord
   record-kind h = sym (rw (told, not-true fits h))
 
-  pub record-entry : {e : Entry} {n : ℕ} → not fits ≡ false → e ≡ entryAt f r → n ≡ asksEntry e → n ≡ asksRecord f r
+  pub record-entry : {n : ℕ} → not fits ≡ false → n ≡ asksEntry (entryAt f r) → n ≡ asksRecord f r
   unfolding asksRecord
-  record-entry h is asked = asked ∙ ap asksEntry is ∙ sym (rw (told, not-false fits h))
+  record-entry h asked = asked ∙ sym (rw (told, not-false fits h))
 
 -- ---- the file: its size, its chain, its records
 module _ (f : List ℕ) where

@@ -13,22 +13,15 @@ question8-requires c κs = search needs
 returns : tie.Need-returns
 returns c = record-kind _ _ (c .before .before .kind-number .ensures) (c .before .question8 .ensures) (c .if1 .taken)
 
-entry-at-requires : tie.Need-entry-at-requires
-entry-at-requires c κs = search needs
-
 asks-entry-requires : tie.Need-asks-entry-requires
 asks-entry-requires c κs = search needs
 
 returns-2 : tie.Need-returns-2
-returns-2 c = record-entry _ _ (c .before .before .before .before .kind-number .ensures) (c .before .before .before .question8 .ensures) (c .before .before .if1 .left) (c .before .entry-at .ensures) (c .asks-entry .ensures)
+returns-2 c =
+    let kind = c .before .before in
+    record-entry _ _ (kind .before .kind-number .ensures) (kind .question8 .ensures) (c .before .if1 .left) (c .asks-entry .ensures)
 
 pub asks-record-spec : {M : Type 1} → statement M
 asks-record-spec =
     tie.close
-    (tie.spec
-    kind-number-requires
-    question8-requires
-    returns
-    entry-at-requires
-    asks-entry-requires
-    returns-2)
+    (tie.spec kind-number-requires question8-requires returns asks-entry-requires returns-2)
