@@ -1,13 +1,13 @@
 -- What storing writes, and what it promises. Assumes nothing.
 use Prim.Native.Nat.{ℕ, _+_, _-_, _≤_}
 use mathlib.Core.Path.{_≡_, refl, ap, _∙_}
-use mathlib.Core.List.{List, _++_}
+use mathlib.Core.List.{List, _++_, append-assoc}
 use native.Mathlib.Omega.{arith}
 use lib.ListN.{length, take, drop, length-append, length-drop}
-use lib.Seq.{paste, take-length, drop-drop}
+use lib.Seq.{paste, length-take-le, take-length, drop-at, drop-drop}
 use lib.Ieee.{Float}
 use Rattle.state.specs.declared.Homing.{Homing}
-use Rattle.stored.specs.Parts.{wordCount, numberCount}
+use Rattle.stored.specs.Parts.{wordCount, numberCount, windowAt}
 use Rattle.stored.specs.Stored.{stored, wordsOf, headOf, numbersOf, StateFits, Stores, HoldsStored}
 use Rattle.stored.proofs.ReadBack.{read-back}
 use Rattle.stored.proofs.fields.Copying.{in-front}
@@ -32,25 +32,22 @@ words-front h w w₁ s e f p =
     ∙ ap (λ x. paste (take 22 (wordsOf h) ++ drop 22 w) 22 x (length x)) f
     ∙ ap (λ x. wordsOf h ++ x) (drop-drop 23 22 w)
 
-pub head-front : (h : Homing) (n s : List Float) {n′ : List Float} → s ≡ headOf h → n′ ≡ paste n 0 s (length s) → n′ ≡ headOf h ++ drop 14 n
-unfolding headOf
-head-front h n s e p = p ∙ in-front n s (headOf h) e
+-- the window, then the numbers before it
+module _ (h : Homing) (n : List Float) {n₁ : List Float} (room : numberCount ≤ length n) (long : length (h .window) ≡ 96)
+    (put : n₁ ≡ paste n windowAt (h .window) (length (h .window))) where
+  behind-head : drop windowAt n₁ ≡ h .window ++ drop numberCount n
+  behind-head =
+      let w = h .window in
+      let d = drop (windowAt + length w) n in
+      ap (drop windowAt) (put ∙ append-assoc (take windowAt n) (take (length w) w) d)
+      ∙ drop-at (take windowAt n) (take (length w) w ++ d) windowAt (length-take-le windowAt n (omega (arith, room)))
+      ∙ ap (λ x. x ++ d) (take-length w)
+      ∙ ap (λ k. w ++ drop (windowAt + k) n) long
 
-pub length-head : (h : Homing) (n s : List Float) {n′ : List Float} → s ≡ headOf h → n′ ≡ paste n 0 s (length s) → 110 ≤ length n → length n′ ≡ length n
-unfolding headOf
-length-head h n s e p l =
-    let d : length (drop 14 n) ≡ length n - 14 = length-drop 14 n in
-    let k : length (headOf h) ≡ 14 = refl in
-    ap length (head-front h n s e p) ∙ length-append (headOf h) (drop 14 n) ∙ ap (λ j. j + length (drop 14 n)) k ∙ omega (arith, d, l)
-
-pub numbers-front : (h : Homing) (n n₁ : List Float) {n′ : List Float} → length (h .window) ≡ 96 → n₁ ≡ headOf h ++ drop 14 n
-    → n′ ≡ paste n₁ 14 (h .window) (length (h .window)) → n′ ≡ numbersOf h ++ drop numberCount n
-unfolding numbersOf headOf
-numbers-front h n n₁ long e p =
-    p ∙ ap (λ x. paste x 14 (h .window) (length (h .window))) e
-    ∙ ap (λ x. headOf h ++ x ++ drop (14 + length (h .window)) (headOf h ++ drop 14 n)) (take-length (h .window))
-    ∙ ap (λ k. headOf h ++ h .window ++ drop (14 + k) (headOf h ++ drop 14 n)) long
-    ∙ ap (λ x. headOf h ++ h .window ++ x) (drop-drop 96 14 n)
+  pub numbers-front : (s : List Float) {n′ : List Float} → s ≡ headOf h → n′ ≡ paste n₁ 0 s (length s)
+      → n′ ≡ numbersOf h ++ drop numberCount n
+  unfolding numbersOf headOf
+  numbers-front s e p = p ∙ in-front n₁ s (headOf h) e ∙ ap (λ x. headOf h ++ x) behind-head
 
 -- ---- the promises
 pub stores : {h : Homing} {w : List ℕ} {n : List Float} {w′ : List ℕ} {n′ : List Float} → StateFits h → w′ ≡ wordsOf h ++ drop wordCount w

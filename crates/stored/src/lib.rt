@@ -138,13 +138,6 @@ fn holds(words: &[u64], numbers: &[f32]) -> bool
     (words[0] == state_words::MARK) & (NUMBERS <= numbers.len())
 }
 
-// A state of zeros.
-fn nothing() -> Homing {
-    let words = [0; 45];
-    let numbers = [0.0; 110];
-    homing_at(&words, &numbers)
-}
-
 // The state that the slices hold.
 pub fn load(words: &[u64], numbers: &[f32]) -> Held
     ensures { λ r. ⌜ Loads (now (words .entry)) (now (numbers .entry)) (r .homing) (r .held) ⌝ }
@@ -156,7 +149,7 @@ pub fn load(words: &[u64], numbers: &[f32]) -> Held
         };
     }
     Held {
-        homing: nothing(),
+        homing: steer::new(),
         held: false,
     }
 }
@@ -213,17 +206,17 @@ fn store_numbers(h: Homing, numbers: &mut [f32])
     requires { ⌜ numberCount ≤ length (now numbers) ⌝ }
     ensures { λ _. ⌜ now (numbers .exit) ≡ numbersOf h ++ drop numberCount (now (numbers .entry)) ⌝ }
 {
-    let head = head_of(h);
-    fields::put_numbers(&head, numbers, 0);
     let window = h.window;
     fields::put_numbers(&window, numbers, parts::WINDOW_AT);
+    let head = head_of(h);
+    fields::put_numbers(&head, numbers, 0);
 }
 
-// The state `h` in the slices, in front of what lies behind.
+// The state `h` in the slices, in front of what lies behind. The window is written first, from where it stands.
 pub fn store(h: Homing, words: &mut [u64], numbers: &mut [f32])
     requires { ⌜ (wordCount ≤ length (now words)) × (numberCount ≤ length (now numbers)) ⌝ }
     ensures { λ _. ⌜ Stores h (now (words .entry)) (now (numbers .entry)) (now (words .exit)) (now (numbers .exit)) ⌝ }
 {
-    store_words(h, words);
     store_numbers(h, numbers);
+    store_words(h, words);
 }

@@ -14,12 +14,12 @@ homing-at-requires c κs = loads-room _ _ (sym (c .before .holds .ensures) ∙ c
 returns : tie.Need-returns
 returns c = loads-there _ _ (sym (c .before .before .holds .ensures) ∙ c .before .if1 .taken) (c .homing-at .ensures)
 
-nothing-requires : tie.Need-nothing-requires
-nothing-requires c κs = search needs
+new-requires : tie.Need-new-requires
+new-requires c κs = search needs
 
 returns-2 : tie.Need-returns-2
 returns-2 c = loads-nothing _ _ _ (sym (c .before .before .holds .ensures) ∙ c .before .if1 .left)
 
 pub load-spec : {M : Type 1} → statement M
 load-spec =
-    tie.close (tie.spec holds-requires homing-at-requires returns nothing-requires returns-2)
+    tie.close (tie.spec holds-requires homing-at-requires returns new-requires returns-2)

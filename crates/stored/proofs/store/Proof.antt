@@ -18,10 +18,10 @@ same-length-2 c = search needs
 
 returns : tie.Need-returns
 returns c =
-    stores (c .before .before .before .before .before .before .store-words .ensures .1) (c .before .before .before .before .before .before .store-words .ensures .0)
-    (c .before .before .store-numbers .ensures)
+    let words = c .before .before .store-words .ensures in
+    stores (words .1) (words .0) (c .before .before .before .before .before .before .store-numbers .ensures)
 
 pub store-spec : {M : Type 1} → statement M
 store-spec =
     tie.close
-    (tie.spec store-words-requires store-numbers-requires same-length same-length-2 returns)
+    (tie.spec store-numbers-requires store-words-requires same-length same-length-2 returns)

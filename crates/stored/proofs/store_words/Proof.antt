@@ -1,10 +1,7 @@
 -- `stored::store_words` meets its contract. Assumes nothing.
 use Rattle.stored.proofs.Storing.{first-front, length-first, words-front}
 use Rattle.stored.proofs.Placing.{words-fit}
-use lib.ListN.{length}
 use denote.Ref.{now}
-use mathlib.Core.Path.{_≡_}
-use Prim.Native.Nat.{_≤_}
 use native.Mathlib.Omega.{arith}
 use borrow.Author.Needs.{needs}
 use Rattle.stored.proofs.store_words.Statement.{statement}
@@ -26,13 +23,28 @@ slice-aggregate-put-words-2 : tie.Need-slice-aggregate-put-words-2
 slice-aggregate-put-words-2 c = search needs
 
 put-words-requires-2 : tie.Need-put-words-requires-2
-put-words-requires-2 c κs = let pre : 45 ≤ length (now (c .before .before .before .before .before .before .before .before .before .before .args .words)) = c .before .before .before .before .before .before .before .before .before .before .pre in let size : _ = length-first _ _ _ (c .before .before .before .before .before .before .before .before .front-words .ensures .0) (c .before .before .before .before .before .put-words .ensures) pre in omega (arith, pre, size)
+put-words-requires-2 c κs =
+    let front = c .before .before .before .before .before in
+    let start = front .before .before .before .before .before in
+    let size = length-first _ _ _ (front .before .before .before .front-words .ensures .0) (front .put-words .ensures) (start .pre) in
+    omega (arith, start .pre, size)
 
 same-length : tie.Need-same-length
 same-length c = search needs
 
 returns : tie.Need-returns
-returns c = (words-front (c .before .before .before .before .before .before .before .before .before .before .before .before .before .args .h) (now (c .before .before .before .before .before .before .before .before .before .before .before .before .before .args .words)) (c .before .before .before .before .before .before .before .before .put-words .last .1 .0) (c .before .before .before .before .before .back-words .result) (first-front (c .before .before .before .before .before .before .before .before .before .before .before .before .before .args .h) (now (c .before .before .before .before .before .before .before .before .before .before .before .before .before .args .words)) (c .before .before .before .before .before .before .before .before .before .before .before .front-words .result) (c .before .before .before .before .before .before .before .before .before .before .before .front-words .ensures .0) (c .before .before .before .before .before .before .before .before .put-words .ensures)) (c .before .before .before .before .before .back-words .ensures .0) (c .before .before .put-words2 .ensures), words-fit (c .before .before .before .before .before .before .before .before .before .before .before .before .before .args .h) (c .before .before .before .before .before .before .before .before .before .before .before .front-words .ensures .1) (c .before .before .before .before .before .back-words .ensures .1) (c .before .before .before .before .before .before .before .before .before .before .before .front-words .ensures .2) (c .before .before .before .before .before .before .before .before .before .before .before .front-words .ensures .3) (c .before .before .before .before .before .before .before .before .before .before .before .front-words .ensures .4))
+returns c =
+    let back = c .before .before .before .before .before in
+    let front = back .before .before .before in
+    let first = front .before .before .before .front-words in
+    let start = front .before .before .before .before .before in
+    let h = start .args .h in
+    let w = now (start .args .words) in
+    let put = first-front h w (first .result) (first .ensures .0) (front .put-words .ensures) in
+    let last = back .back-words .ensures in (
+      words-front h w (front .put-words .last .1 .0) (back .back-words .result) put (last .0) (c .before .before .put-words2 .ensures),
+      words-fit h (first .ensures .1) (last .1) (first .ensures .2) (first .ensures .3) (first .ensures .4),
+    )
 
 pub store-words-spec : {M : Type 1} → statement M
 store-words-spec =
