@@ -20,7 +20,7 @@ use Rattle.search.specs.declared.Range.{Range}
 use Rattle.segments.specs.Segment.{meets, nearestOn, cheaper, considered, found}
 use Rattle.search.specs.Search.{rising, falling, count}
 use Rattle.search.specs.Theorems.{Met, FirstOfLeast, Finds}
-use Rattle.search.proofs.Order.{not-less, lt-irrefl, le-lt}
+use Rattle.binary32.proofs.roots.Order.{not-less, lt-irrefl, le-lt}
 
 -- whatever is found is where p meets a segment tried
 abbrev pub OnlyMet : List Crumb → Point → Range → Best → Type 0

@@ -1,7 +1,6 @@
 -- Facts that the functions' proofs share.
 pub mod Choosing
 pub mod Sharing
-pub mod Order
 pub mod Searching
 pub mod Theorems
 pub mod Walking
