@@ -20,8 +20,13 @@ fn may_retrace(h: Homing, crumbs: &mut [f32], line: &[f32], p: Point, now_ms: u6
     ensures { λ r. ⌜ Updates (λ C. mayRetrace (h .«auto_follow») C (courseOf h (now (line .entry))) p «now_ms») h (now (crumbs .entry)) r (now (crumbs .exit)) ⌝ }
 {
     if h.auto_follow {
-        let b = joining::retracing(h, crumbs, p);
-        let after = b.homing;
+        let t = h.trail;
+        let m = h.motion;
+        let heading = m.heading;
+        let b = joining::retracing(t, heading, crumbs, p);
+        let trail = b.trail;
+        let mut after = h;
+        after.trail = trail;
         if b.yes {
             return recording::retraced(after, crumbs, line, p, now_ms);
         }
@@ -36,8 +41,13 @@ fn unfollowed(h: Homing, crumbs: &mut [f32], line: &[f32], p: Point, now_ms: u64
     requires { ⌜ h .follow .line ≡ lines.Nothing ⌝ }
     ensures { λ r. ⌜ Updates (λ C. fixOn lines.Nothing C (courseOf h (now (line .entry))) p «now_ms») h (now (crumbs .entry)) r (now (crumbs .exit)) ⌝ }
 {
-    let j = joining::joining(h, line, p);
-    let after = j.homing;
+    let c = h.course;
+    let m = h.motion;
+    let heading = m.heading;
+    let j = joining::joining(h.auto_follow, c, heading, line, p);
+    let course = j.course;
+    let mut after = h;
+    after.course = course;
     if j.yes {
         return recording::joined_course(after, crumbs, line, p, now_ms);
     }

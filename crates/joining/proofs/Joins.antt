@@ -8,28 +8,38 @@ use lib.Ieee.{Float}
 use Rattle.plane.specs.declared.Point.{Point}
 use Rattle.plane.specs.declared.Heading.{Heading}
 use Rattle.plane.specs.declared.Heading.the-variants.{Known, Unknown}
+use Rattle.crumbs.specs.declared.Crumb.{Crumb}
+use Rattle.crumbs.specs.Crumb.{crumbs}
 use Rattle.crumbs.proofs.Crumbs.{length-crumbs}
+use Rattle.search.specs.declared.Join.{Join}
 use Rattle.search.specs.declared.Join.the-variants.{NoSegment}
 use Rattle.search.specs.Course.{joined}
-use Rattle.state.specs.declared.Homing.{Homing}
-use Rattle.state.specs.State.{stateOf}
+use Rattle.state.specs.declared.Course.{Course}
+use Rattle.state.specs.State.{State, withCourse, withAutoFollow}
 use Rattle.joining.specs.Join.{mayJoin, joinWith}
-use Rattle.follow.specs.View.{courseOf}
 
-module _ (h : Homing) (line b : List Float) (p : Point) (heading : Heading) where
-  pub unknown : heading ≡ Unknown → NoSegment ≡ joinWith heading (courseOf h line) p (stateOf h b)
+module _ (auto : Bool) (c : Course) (line : List Float) (s : State) (p : Point) (heading : Heading) where
+  abbrev course : List Crumb
+  course = crumbs (c .«line_len») line
+
+  abbrev by : Heading → Join
+  by x = joinWith x course p (withCourse c (withAutoFollow auto s))
+
+  pub unknown : heading ≡ Unknown → NoSegment ≡ by heading
   unfolding joinWith
-  unknown told = sym (ap (λ (x : Heading). joinWith x (courseOf h line) p (stateOf h b)) told)
+  unknown told = sym (ap (λ (x : Heading). by x) told)
 
-  module _ (known : ℕ) (told : heading ≡ Known known) (may : Bool) (asked : may ≡ (h .«auto_follow» && not (h .course .held) && leb 2 (h .course .«line_len»))) where
-    is : mayJoin (courseOf h line) (stateOf h b) ≡ may
+  module _ (known : ℕ) (told : heading ≡ Known known) (may : Bool) (asked : may ≡ (auto && not (c .held) && leb 2 (c .«line_len»))) where
+    is : mayJoin course (withCourse c (withAutoFollow auto s)) ≡ may
     unfolding mayJoin
     is = simp length-crumbs (sym asked)
 
-    pub found : may ≡ true → joined (courseOf h line) p known ≡ joinWith heading (courseOf h line) p (stateOf h b)
+    so : (b : Bool) → may ≡ b → by heading ≡ cond b (joined course p known) NoSegment
     unfolding joinWith
-    found e = sym (ap (λ (x : Heading). joinWith x (courseOf h line) p (stateOf h b)) told ∙ ap (λ (x : Bool). cond x (joined (courseOf h line) p known) NoSegment) (is ∙ e))
+    so b e = ap (λ (x : Heading). by x) told ∙ ap (λ (x : Bool). cond x (joined course p known) NoSegment) (is ∙ e)
 
-    pub none : may ≡ false → NoSegment ≡ joinWith heading (courseOf h line) p (stateOf h b)
-    unfolding joinWith
-    none e = sym (ap (λ (x : Heading). joinWith x (courseOf h line) p (stateOf h b)) told ∙ ap (λ (x : Bool). cond x (joined (courseOf h line) p known) NoSegment) (is ∙ e))
+    pub found : may ≡ true → joined course p known ≡ by heading
+    found e = sym (so true e)
+
+    pub none : may ≡ false → NoSegment ≡ by heading
+    none e = sym (so false e)

@@ -1,2 +1,3 @@
 pub mod Join
 pub mod Retrace
+pub mod View

@@ -27,11 +27,14 @@ use Rattle.state.specs.declared.Line.the-variants as lines
 use Rattle.state.specs.declared.Follow.{Follow}
 use Rattle.state.specs.declared.Course.{Course}
 use Rattle.state.specs.declared.Homing.{Homing}
-use Rattle.state.specs.State.{State, stateOf, withTrack}
+use Rattle.state.specs.State.{State, stateOf, withTrack, withCourse, withAutoFollow}
 use Rattle.state.specs.Rule.{Done, done}
 use Rattle.follow.specs.declared.Answered.{Answered}
 use Rattle.follow.specs.Parts.{courseFrom, leads}
 use Rattle.follow.specs.Engage.{engageAt, engage}
+use Rattle.joining.specs.declared.Joined.{Joined}
+use Rattle.joining.specs.declared.Retraced.{Retraced}
+use Rattle.joining.specs.View.{Joins, Retraces}
 use Rattle.joining.specs.Join.{joinedTo, joinOn, mayJoin, joinWith, joining, retraceFixes, withRetrace, retracing}
 use Rattle.joining.specs.Retrace.{ridesBack, lenBefore}
 use Rattle.follow.specs.View.{HomingFit, courseOf, SameHeld, Asks}
@@ -127,6 +130,48 @@ module _ (course : List Crumb) (p : Point) where
   pub joining-auto : (s : State) → joining course p s .state .autoFollow ≡ s .autoFollow
   unfolding joining
   joining-auto s = join-auto _ s
+
+-- ---- a part of the state that changed, in the whole state
+-- with this course, and this breadcrumb
+abbrev pub partly : Homing → Course → Trail → Homing
+partly h c t =
+    record {
+      trail = t;
+      window = h .window;
+      frame = h .frame;
+      fed = h .fed;
+      here = h .here;
+      «here_ms» = h .«here_ms»;
+      motion = h .motion;
+      follow = h .follow;
+      course = c;
+      «auto_follow» = h .«auto_follow»;
+      arrived = h .arrived;
+      lap = h .lap;
+      «updated_ms» = h .«updated_ms»;
+      guide = h .guide;
+    }
+
+abbrev pub joinedAs : Homing → Joined → Answered
+joinedAs h j = record { homing = partly h (j .course) (h .trail); yes = j .yes }
+
+pub asks-joining : (h : Homing) (b line : List Float) (p : Point) (j : Joined)
+    → ((s : State) → s .motion .heading ≡ h .motion .heading
+    → Joins (joining (courseOf h line) p) (withCourse (h .course) (withAutoFollow (h .«auto_follow») s)) j)
+    → Asks (joining (courseOf h line) p) h b (joinedAs h j)
+asks-joining h b line p j promised =
+    let a = promised (stateOf h b) refl in
+    record { answered = a .answered; same = a .same; held = record { len = refl; tolerance = refl; waiting = refl } }
+
+abbrev pub retracedAs : Homing → Retraced → Answered
+retracedAs h x = record { homing = partly h (h .course) (x .trail); yes = x .yes }
+
+pub asks-retracing : (h : Homing) (b : List Float) (p : Point) (x : Retraced)
+    → ((w : List Float) (s : State) → s .motion .heading ≡ h .motion .heading → Retraces (retracing p) (h .trail) w b s x)
+    → Asks (retracing p) h b (retracedAs h x)
+asks-retracing h b p x promised =
+    let a = promised (h .window) (stateOf h b) refl in
+    record { answered = a .answered; same = a .same; held = a .held }
 
 module _ (h : Homing) (b line : List Float) (p : Point) (r : Answered) (a : Asks (joining (courseOf h line) p) h b r) where
   pub join-length : r .homing .course .«line_len» ≡ h .course .«line_len»

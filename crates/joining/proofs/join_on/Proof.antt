@@ -19,11 +19,13 @@ enum-told c = search needs
 
 returns : tie.Need-returns
 unfolding joinOn joinedTo
-returns c = λ b. record { answered = simp (c .before .before .before .before .join .given .1, ← c .before .before .one-more .ensures); same = simp (c .before .before .before .before .join .given .1, ← c .before .before .one-more .ensures); held = record { len = refl; tolerance = refl; waiting = refl } }
+returns c = λ s.
+    let told = c .before .before .join .given .1 in
+    record { answered = simp (told, ← c .one-more .ensures); same = simp (told, ← c .one-more .ensures) }
 
 returns-2 : tie.Need-returns-2
 unfolding joinOn joinedTo
-returns-2 c = λ b. record { answered = simp (c .before .enum-told .given .1); same = simp (c .before .enum-told .given .1); held = record { len = refl; tolerance = refl; waiting = refl } }
+returns-2 c = λ s. record { answered = simp (c .enum-told .given .1); same = simp (c .enum-told .given .1) }
 
 pub join-on-spec : {M : Type 1} → statement M
 join-on-spec = tie.close (tie.spec enum-known-join one-more-requires enum-told returns returns-2)

@@ -13,7 +13,7 @@ enum-told : tie.Need-enum-told
 enum-told c = search needs
 
 returns : tie.Need-returns
-returns c = λ b. let g = c .before .before .before .before .args in unknown (g .h) (now (g .line)) b (g .p) (g .h .motion .heading) (c .enum-told .given .1)
+returns c = λ s. let g = c .before .before .before .args in unknown (g .auto-follow) (g .c) (now (g .line)) s (g .p) (g .heading) (c .enum-told .given .1)
 
 may-join-requires : tie.Need-may-join-requires
 may-join-requires c κs = search needs
@@ -22,10 +22,21 @@ joined-requires : tie.Need-joined-requires
 joined-requires c κs = search needs
 
 returns-2 : tie.Need-returns-2
-returns-2 c = λ b. let k = c .before .before .before .before .before in let g = k .before .before .before .before .args in c .joined .ensures ∙ found (g .h) (now (g .line)) b (g .p) (g .h .motion .heading) (k .heading .given .0 .0) (k .heading .given .1) (c .before .before .before .may-join .result) (c .before .before .before .may-join .ensures) (c .before .before .if1 .taken)
+returns-2 c = λ s.
+    let may = c .before .before in
+    let told = may .before .before .heading .given in
+    let g = may .before .before .before .before .before .args in
+    c .joined .ensures
+    ∙ found (g .auto-follow) (g .c) (now (g .line)) s (g .p) (g .heading) (told .0 .0) (told .1) (may .may-join .result)
+    (may .may-join .ensures) (c .before .if1 .taken)
 
 returns-3 : tie.Need-returns-3
-returns-3 c = λ b. let k = c .before .before .before in let g = k .before .before .before .before .args in none (g .h) (now (g .line)) b (g .p) (g .h .motion .heading) (k .heading .given .0 .0) (k .heading .given .1) (c .before .may-join .result) (c .before .may-join .ensures) (c .if1 .left)
+returns-3 c = λ s.
+    let may = c .before in
+    let told = may .before .before .heading .given in
+    let g = may .before .before .before .before .before .args in
+    none (g .auto-follow) (g .c) (now (g .line)) s (g .p) (g .heading) (told .0 .0) (told .1) (may .may-join .result)
+    (may .may-join .ensures) (c .if1 .left)
 
 pub join-with-spec : {M : Type 1} → statement M
 join-with-spec =

@@ -1,9 +1,12 @@
 -- `joining::joining` meets its contract. Assumes nothing.
-use mathlib.Core.Path.{_≡_, refl, sym, ap, _∙_, subst}
+use denote.Ref.{now}
+use mathlib.Core.Path.{_≡_, sym, ap, _∙_, subst}
+use Rattle.plane.specs.declared.Heading.{Heading}
+use Rattle.crumbs.specs.Crumb.{crumbs}
 use Rattle.search.specs.declared.Join.{Join}
-use Rattle.state.specs.State.{stateOf}
-use Rattle.follow.specs.View.{Asks}
-use Rattle.joining.specs.Join.{joinOn, joining}
+use Rattle.state.specs.State.{State, withCourse, withAutoFollow}
+use Rattle.joining.specs.Join.{joinOn, joinWith, joining}
+use Rattle.joining.specs.View.{Joins}
 use borrow.Author.Needs.{needs}
 use Rattle.joining.proofs.joining.Statement.{statement}
 use Rattle.joining.proofs.joining.Tie as tie
@@ -16,9 +19,14 @@ join-on-requires c κs = search needs
 
 returns : tie.Need-returns
 unfolding joining
-returns c = λ b.
-    let a = subst (λ (j : Join). Asks (joinOn j) (c .before .before .before .args .h) b (c .join-on .result)) (c .before .join-with .ensures b) (c .join-on .ensures b) in
-    record { answered = a .answered; same = a .same; held = a .held }
+returns c = λ s same.
+    let g = c .before .before .before .args in
+    let course = crumbs (g .c .«line_len») (now (g .line)) in
+    let at : State = withCourse (g .c) (withAutoFollow (g .auto-follow) s) in
+    let is : c .before .join-with .result ≡ joinWith (s .motion .heading) course (g .p) at =
+    c .before .join-with .ensures s ∙ ap (λ (x : Heading). joinWith x course (g .p) at) (sym same) in
+    let a = subst (λ (j : Join). Joins (joinOn j) at (c .join-on .result)) is (c .join-on .ensures (withAutoFollow (g .auto-follow) s)) in
+    record { answered = a .answered; same = a .same }
 
 pub joining-spec : {M : Type 1} → statement M
 joining-spec = tie.close (tie.spec join-with-requires join-on-requires returns)
