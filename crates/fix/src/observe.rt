@@ -7,6 +7,7 @@ use state::Homing;
 use state::Place;
 ghost use mathlib.Core.Path.{_≡_};
 ghost use lib.ListN.{length};
+ghost use Rattle.state.specs.State.{withHereMs};
 ghost use Rattle.follow.specs.View.{HomingFit, courseOf};
 ghost use Rattle.update.specs.View.{Updates};
 ghost use Rattle.calls.specs.Fix.{sameFix, stillAt, newFix, seen};
@@ -52,10 +53,11 @@ fn still_at(h: Homing, crumbs: &mut [f32], line: &[f32], here: Spot, now_ms: u64
     update::update(on, crumbs, line, p, now_ms)
 }
 
-// The fix is the new place, in the frame that the ride's first fix gave, and the heading goes by it.
+// The fix is the new place, seen now, in the frame that the ride's first fix gave, and the heading goes by it.
 fn new_fix(h: Homing, crumbs: &mut [f32], line: &[f32], lat: i32, lon: i32, now_ms: u64) -> Told
     requires { ⌜ Ready h (length (now crumbs)) (length (now line)) ⌝ }
-    ensures { λ r. ⌜ Updates (λ C. newFix C (courseOf h (now (line .entry))) (record { lat = lat; lon = lon }) «now_ms») h (now (crumbs .entry)) r (now (crumbs .exit)) ⌝ }
+    ensures { λ r. ⌜ Updates (λ C s. newFix C (courseOf h (now (line .entry))) (record { lat = lat; lon = lon }) «now_ms» (withHereMs «now_ms» s)) h
+        (now (crumbs .entry)) r (now (crumbs .exit)) ⌝ }
 {
     let was = h.frame;
     let frame = course::located(was, lat, lon);
@@ -64,6 +66,7 @@ fn new_fix(h: Homing, crumbs: &mut [f32], line: &[f32], lat: i32, lon: i32, now_
     let motion = motion::track_heading(m, p, now_ms);
     let there = Homing {
         here: Spot::At(p),
+        here_ms: now_ms,
         fed: Place::At(lat, lon),
         frame,
         motion,
@@ -77,12 +80,12 @@ pub fn seen(h: Homing, crumbs: &mut [f32], line: &[f32], lat: i32, lon: i32, now
     requires { ⌜ Ready h (length (now crumbs)) (length (now line)) ⌝ }
     ensures { λ r. ⌜ Updates (λ C. seen C (courseOf h (now (line .entry))) (record { lat = lat; lon = lon }) «now_ms») h (now (crumbs .entry)) r (now (crumbs .exit)) ⌝ }
 {
-    let mut on = h;
-    on.here_ms = now_ms;
     let fed = h.fed;
     if same_fix(fed, lat, lon) {
         let here = h.here;
+        let mut on = h;
+        on.here_ms = now_ms;
         return still_at(on, crumbs, line, here, now_ms);
     }
-    new_fix(on, crumbs, line, lat, lon, now_ms)
+    new_fix(h, crumbs, line, lat, lon, now_ms)
 }

@@ -70,16 +70,16 @@ words-eq a b f g = by (eqb (ofZ w32 a) (ofZ w32 b)) refl
     by true e = sym (eqZ-same a b (words-same a b f g (eqb-true _ _ e)))
     by false e = sym (eqZ-other a b (λ h. eqb-false _ _ e (ap (λ z. ofZ w32 z) h)))
 
--- the state at a new fix, by its frame, its place and its motion
-abbrev pub movedTo : Homing → Fix → Frame → Point → Motion → Homing
-movedTo h x f p m =
+-- the state at a new fix, by the clock, its frame, its place and its motion
+abbrev pub movedTo : Homing → Fix → ℕ → Frame → Point → Motion → Homing
+movedTo h x now f p m =
     record {
       trail = h .trail;
       window = h .window;
       frame = f;
       fed = place.At (x .lat) (x .lon);
       here = spot.At p;
-      «here_ms» = h .«here_ms»;
+      «here_ms» = now;
       motion = m;
       follow = h .follow;
       course = h .course;
@@ -90,13 +90,17 @@ movedTo h x f p m =
       guide = h .guide;
     }
 
+-- what a new fix makes of a state, the clock among it
+abbrev pub arrivedNow : Fix → ℕ → State → State
+arrivedNow x now s = arrivedAt x now (withHereMs now s)
+
 pub arrives : (h : Homing) (x : Fix) (now : ℕ) {f : Frame} {p : Point} {m : Motion} → f ≡ located x (h .frame) → p ≡ framed f x
-    → m ≡ trackHeading (h .motion) p now → Changes (arrivedAt x now) h (movedTo h x f p m)
+    → m ≡ trackHeading (h .motion) p now → Changes (arrivedNow x now) h (movedTo h x now f p m)
 unfolding arrivedAt headed
 arrives h x now {f} {p} {m} ef ep em =
     record {
       same = λ b.
-          let s = stateOf h b in
+          let s = withHereMs now (stateOf h b) in
           let at : Frame → Point → State = λ g q. headed q now (withHere (spot.At q) (withFrame g (withFed (place.At (x .lat) (x .lon)) s))) in
           ap (λ (n : Motion). withMotion n (withHere (spot.At p) (withFrame f (withFed (place.At (x .lat) (x .lon)) s)))) em
           ∙ ap (λ (q : Point). at f q) ep
@@ -202,27 +206,27 @@ module _ (p : Point) (now : ℕ) where
   pub headed-fit : (h r : Homing) (room lineRoom : ℕ) → Changes (headed p now) h r → HomingFit h room lineRoom → HomingFit r room lineRoom
   headed-fit h r room lineRoom c = changed-fit (headed p now) h r c headed-follows headed-courses room lineRoom
 
-module _ (x : Fix) (now : ℕ) (h r : Homing) (c : Changes (arrivedAt x now) h r) where
-  arrived-follows : (s : State) → arrivedAt x now s .follow ≡ s .follow
+module _ (x : Fix) (now : ℕ) (h r : Homing) (c : Changes (arrivedNow x now) h r) where
+  arrived-follows : (s : State) → arrivedNow x now s .follow ≡ s .follow
   unfolding arrivedAt headed
   arrived-follows s = refl
 
-  arrived-courses : (s : State) → arrivedAt x now s .course ≡ s .course
+  arrived-courses : (s : State) → arrivedNow x now s .course ≡ s .course
   unfolding arrivedAt headed
   arrived-courses s = refl
 
   pub arrived-ready : (room lineRoom : ℕ) → Ready h room lineRoom → Ready r room lineRoom
-  arrived-ready = changed-ready (arrivedAt x now) h r c arrived-follows arrived-courses
+  arrived-ready = changed-ready (arrivedNow x now) h r c arrived-follows arrived-courses
 
   pub arrived-course : (line : List Float) → courseOf r line ≡ courseOf h line
-  arrived-course = changed-line (arrivedAt x now) h r c arrived-follows arrived-courses
+  arrived-course = changed-line (arrivedNow x now) h r c arrived-follows arrived-courses
 
   pub arrived-line : r .follow .line ≡ h .follow .line
-  arrived-line = ap (λ (f : Follow). f .line) (changed-follow (arrivedAt x now) h r c arrived-follows arrived-courses)
+  arrived-line = ap (λ (f : Follow). f .line) (changed-follow (arrivedNow x now) h r c arrived-follows arrived-courses)
 
   -- what is done at the fix, from the state before it
   pub new-fix : (line b : List Float) (p : Point) → p ≡ framed (r .frame) x → r .frame ≡ located x (h .frame) → (C : ℕ)
-      → newFix C (courseOf h line) x now (stateOf h b) ≡ fixOn (r .follow .line) C (courseOf r line) p now (stateOf r b)
+      → newFix C (courseOf h line) x now (withHereMs now (stateOf h b)) ≡ fixOn (r .follow .line) C (courseOf r line) p now (stateOf r b)
   unfolding newFix
   new-fix line b p ep ef C =
       sym

@@ -3,7 +3,7 @@ use denote.Ref.{now}
 use mathlib.Core.Path.{_≡_, refl, sym, ap, _∙_}
 use lib.ListN.{length}
 use Rattle.crumbs.specs.Crumb.{capacity}
-use Rattle.state.specs.State.{stateOf}
+use Rattle.state.specs.State.{stateOf, withHereMs}
 use Rattle.follow.specs.View.{courseOf}
 use Rattle.course.specs.Fix.{Fix}
 use Rattle.course.proofs.Fixes.{handed}
@@ -46,13 +46,13 @@ returns c =
     let l = courseOf (g .h) (now (g .line)) in
     let C = capacity (length b) in
     let y : Fix = record { lat = handed (g .lat); lon = handed (g .lon) } in
-    let r = movedTo (g .h) y (placed .before .located .result) (placed .framed .result) (headed .track-heading .result) in
+    let r = movedTo (g .h) y (g .now-ms) (placed .before .located .result) (placed .framed .result) (headed .track-heading .result) in
     let same = handed-fix (g .lat) (g .lon) (s .fits .lat .sfits) (s .fits .lon .sfits) in
     let ef = placed .before .located .ensures in
     let there = arrives (g .h) y (g .now-ms) ef (placed .framed .ensures) (headed .track-heading .ensures) in
-    updates-after (λ C. newFix C l (record { lat = g .lat; lon = g .lon }) (g .now-ms)) (λ C. fixOn (g .h .follow .line) C l (placed .framed .result) (g .now-ms)) (g .h) r b (u .fix-on .last .1 .0) (u .fix-on .result)
+    updates-after (λ C s. newFix C l (record { lat = g .lat; lon = g .lon }) (g .now-ms) (withHereMs (g .now-ms) s)) (λ C. fixOn (g .h .follow .line) C l (placed .framed .result) (g .now-ms)) (g .h) r b (u .fix-on .last .1 .0) (u .fix-on .result)
     (same-len (g .h) r refl)
-    (sym (ap (λ (y : Fix). newFix C l y (g .now-ms) (stateOf (g .h) b)) same)
+    (sym (ap (λ (y : Fix). newFix C l y (g .now-ms) (withHereMs (g .now-ms) (stateOf (g .h) b))) same)
     ∙ new-fix y (g .now-ms) (g .h) r there (now (g .line)) b (placed .framed .result) (placed .framed .ensures) ef C)
     (u .fix-on .ensures)
 

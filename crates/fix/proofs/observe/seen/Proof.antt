@@ -37,7 +37,7 @@ returns c =
     (u .ensures)
 
 new-fix-requires : tie.Need-new-fix-requires
-new-fix-requires c κs = let s = c .before .before .before .before .before in ready-same (s .args .h) _ _ _ (s .pre) refl refl refl
+new-fix-requires c κs = search needs
 
 same-length-2 : tie.Need-same-length-2
 same-length-2 c = search needs
@@ -52,7 +52,7 @@ returns-2 c =
     let u = c .before .before .new-fix in
     let C = capacity (length (now (g .crumbs))) in
     let t = withHereMs (g .now-ms) (stateOf (g .h) (now (g .crumbs))) in
-    updates-after (λ C. seen C l x (g .now-ms)) (λ C. newFix C l _ (g .now-ms)) (g .h) _ (now (g .crumbs)) (u .last .1 .0) (u .result) (omega arith)
+    updates-after (λ C. seen C l x (g .now-ms)) (λ C s. newFix C l _ (g .now-ms) (withHereMs (g .now-ms) s)) (g .h) (g .h) (now (g .crumbs)) (u .last .1 .0) (u .result) (omega arith)
     (seen-new C l x (g .now-ms) (stateOf (g .h) (now (g .crumbs))) (sym (c .before .before .before .before .before .same-fix .ensures ∙ ap (λ (y : Fix). sameFix (g .h .fed) y) same) ∙ c .before .before .before .before .if1 .left)
     ∙ sym (ap (λ (y : Fix). newFix C l y (g .now-ms) t) same))
     (u .ensures)
