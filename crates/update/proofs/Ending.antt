@@ -14,7 +14,7 @@ use Rattle.state.specs.declared.Line.{Line}
 use Rattle.state.specs.declared.Line.the-variants as line
 use Rattle.state.specs.declared.Event.{Event}
 use Rattle.state.specs.declared.Homing.{Homing}
-use Rattle.state.specs.State.{State, stateOf}
+use Rattle.state.specs.State.{State, stateOf, withCourse}
 use Rattle.state.specs.Rule.{Done}
 use Rattle.follow.specs.Record.{recordedIn, recorded, keepIn}
 use Rattle.follow.specs.Parts.{heldOff}
@@ -57,7 +57,7 @@ module _ (h st : Homing) (entry exit line : List Float) (stops : Follows stop h 
 
   pub ends-with : (p : Point) (now : ℕ) (e : Event) (d : Display) (last : Told)
       → direct (courseOf st line) p (begun p now (stateOf st exit)) ≡ displaying d (begun p now (stateOf st exit))
-      → Tells (λ s. displaying d (begun p now s)) st exit last
+      → Tells (λ s. displaying d (begun p now (withCourse (st .course) s))) st exit last
       → Updates (λ C. endedWith e C (courseOf h line) p now) h entry (record { homing = last .homing; event = e }) exit
   unfolding endedWith
   ends-with p now e d last shows t =

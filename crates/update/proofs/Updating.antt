@@ -183,10 +183,10 @@ module _ (h : Homing) (b line : List Float) (p : Point) (now : ℕ) where
 
     pub goes-straight : trail.TrailFit (h .trail) (length b) → o ≡ Straight → (d : Display)
         → direct (courseOf h line) p begunState ≡ displaying d begunState
-        → (r : Told) → Tells (λ s. displaying d (begun p now s)) h b r → Updates rule h b r b
+        → (r : Told) → Tells (λ s. displaying d (begun p now (withCourse (h .course) s))) h b r → Updates rule h b r b
     unfolding comesTo
     goes-straight fit told d shows r t =
-        let straight : State → Done Event = λ s. displaying d (begun p now s) in
+        let straight : State → Done Event = λ s. displaying d (begun p now (withCourse (h .course) s)) in
         updates-as rule (λ C. straight) h b r b (is told ∙ shows) (updates-still straight h b r fit t)
 
     pub stays : trail.TrailFit (h .trail) (length b) → o ≡ Stays → (n : Homing) → Changes (begun p now) h n
@@ -207,11 +207,10 @@ module _ (h : Homing) (b line : List Float) (p : Point) (now : ℕ) where
 
     pub goes-on : {near : Nearest} → trail.TrailFit (h .trail) (length b) → o ≡ GoesOn near → (d : Display)
         → matchedAt (courseOf h line) p now near begunState ≡ displaying d (withCourse (courseMatched near p (h .course)) begunState)
-        → (m : Homing) → stateOf m b ≡ withCourse (courseMatched near p (h .course)) (stateOf h b) → m .trail ≡ h .trail
-        → (r : Told) → Tells (λ s. displaying d (begun p now s)) m b r → Updates rule h b r b
+        → {c : Course} → c ≡ courseMatched near p (h .course)
+        → (r : Told) → Tells (λ s. displaying d (begun p now (withCourse c s))) h b r → Updates rule h b r b
     unfolding comesTo begun
-    goes-on {near} fit told d shows m same trail r t =
-        let onward : State → Done Event = λ s. displaying d (begun p now (withCourse (courseMatched near p (h .course)) s)) in
-        let matched = ap (λ (s : State). displaying d (begun p now s)) (sym same) in
-        updates-as rule (λ C. onward) h b r b (is told ∙ shows)
-        (updates-still onward h b r fit (tells onward h b r _ matched (t .told) (t .same) (t .trail ∙ trail)))
+    goes-on {near} fit told d shows {c} same r t =
+        let onward : Course → State → Done Event = λ x s. displaying d (begun p now (withCourse x s)) in
+        updates-as rule (λ C. onward c) h b r b (is told ∙ shows ∙ ap (λ (x : Course). onward x (stateOf h b)) (sym same))
+        (updates-still (onward c) h b r fit t)

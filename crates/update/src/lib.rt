@@ -10,6 +10,7 @@ use plane::Point;
 use segments::Best;
 use segments::costs;
 use segments::costs::Nearest;
+use state::Course;
 use state::Event;
 use state::Homing;
 use state::Line;
@@ -153,9 +154,9 @@ fn begun(h: Homing, p: Point, now_ms: u64) -> Homing
     next
 }
 
-// Begun so and with the guide shown, built in one step.
-fn shown(h: Homing, p: Point, now_ms: u64, d: Display) -> Told
-    ensures { λ r. ⌜ ((b : List Float) → Tells (λ s. displaying d (begun p «now_ms» s)) h b r) ⌝ }
+// Begun so, with this course, and with the guide shown: built in one step.
+fn shown(h: Homing, course: Course, p: Point, now_ms: u64, d: Display) -> Told
+    ensures { λ r. ⌜ ((b : List Float) → Tells (λ s. displaying d (begun p «now_ms» (withCourse course s))) h b r) ⌝ }
 {
     let m = h.motion;
     let heading = m.heading;
@@ -168,6 +169,7 @@ fn shown(h: Homing, p: Point, now_ms: u64, d: Display) -> Told
         lap: lap::step_pass(was, p, heading),
         updated_ms: now_ms,
         follow,
+        course,
         arrived: a.arrived,
         guide: Shown::Guide(guide),
         ..h
@@ -192,7 +194,14 @@ fn ended_with(e: Event, h: Homing, crumbs: &mut [f32], line: &[f32], p: Point, n
         held: stopped.trail.len,
         placed: stopped.course.line_len,
     };
-    let last = shown(stopped, p, now_ms, guide::direct(x, crumbs, line, p));
+    let course = stopped.course;
+    let last = shown(
+        stopped,
+        course,
+        p,
+        now_ms,
+        guide::direct(x, crumbs, line, p),
+    );
     let homing = last.homing;
     Told { homing, event: e }
 }
@@ -217,21 +226,18 @@ pub fn update(h: Homing, crumbs: &mut [f32], line: &[f32], p: Point, now_ms: u64
     };
     let o = outcome_at(f, crumbs, line, p);
     match o {
-        Outcome::Straight => shown(h, p, now_ms, guide::direct(x, crumbs, line, p)),
+        Outcome::Straight => shown(h, course, p, now_ms, guide::direct(x, crumbs, line, p)),
         Outcome::Stays => Told {
             homing: begun(h, p, now_ms),
             event: Event::Nothing,
         },
         Outcome::Ends(e) => ended_with(e, begun(h, p, now_ms), crumbs, line, p, now_ms),
-        Outcome::GoesOn(near) => {
-            let mut matched = h;
-            matched.course = matching::course_matched(near, p, course);
-            shown(
-                matched,
-                p,
-                now_ms,
-                matched_at(x, f, crumbs, line, p, now_ms, near),
-            )
-        }
+        Outcome::GoesOn(near) => shown(
+            h,
+            matching::course_matched(near, p, course),
+            p,
+            now_ms,
+            matched_at(x, f, crumbs, line, p, now_ms, near),
+        ),
     }
 }

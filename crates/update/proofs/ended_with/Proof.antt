@@ -12,7 +12,7 @@ stop-following-requires c κs = let f = c .before .before .before .pre in (f .tr
 
 direct-requires : tie.Need-direct-requires
 direct-requires c κs =
-    let stopped = c .before .before .before .before .before in
+    let stopped = c .before .before .before .before .before .before in
     let k = stopped .stop-following in
     let start = stopped .before .before .before .before in
     let g = start .args in
@@ -27,7 +27,7 @@ same-length c = search needs
 
 returns : tie.Need-returns
 returns c =
-    let stopped = c .before .before .before .before .before .before .before .before in
+    let stopped = c .before .before .before .before .before .before .before .before .before in
     let k = stopped .stop-following in
     let g = stopped .before .before .before .before .args in
     let exit = k .last .1 .0 in

@@ -1,7 +1,7 @@
 -- `update::shown` meets its contract. Assumes nothing.
 use mathlib.Core.Path.{refl, ap}
 use Rattle.lap.specs.declared.Lap.{Lap}
-use Rattle.state.specs.State.{State, stateOf, withLap, withUpdatedMs}
+use Rattle.state.specs.State.{State, stateOf, withLap, withCourse, withUpdatedMs}
 use Rattle.guide.specs.View.{displaying}
 use Rattle.update.specs.Update.{begun}
 use Rattle.update.proofs.Updating.{tells}
@@ -15,10 +15,10 @@ step-pass-requires c κs = search needs
 returns : tie.Need-returns
 unfolding begun
 returns c = λ b.
-    let stepped = c .before .before .before .before .before in
+    let stepped = c .before .before .before .before in
     let g = stepped .before .before .before .before .before .before .args in
-    let after : Lap → State = λ l. displaying (g .d) (withUpdatedMs (g .now-ms) (withLap l (stateOf (g .h) b))) .state in
-    tells (λ s. displaying (g .d) (begun (g .p) (g .now-ms) s)) (g .h) b _ _ refl refl (ap after (stepped .step-pass .ensures)) refl
+    let after : Lap → State = λ l. displaying (g .d) (withUpdatedMs (g .now-ms) (withLap l (withCourse (g .course) (stateOf (g .h) b)))) .state in
+    tells (λ s. displaying (g .d) (begun (g .p) (g .now-ms) (withCourse (g .course) s))) (g .h) b _ _ refl refl (ap after (stepped .step-pass .ensures)) refl
 
 pub shown-spec : {M : Type 1} → statement M
 shown-spec = tie.close (tie.spec step-pass-requires returns)

@@ -1,8 +1,5 @@
 -- `update::update` meets its contract. Assumes nothing.
 use denote.Ref.{now}
-use mathlib.Core.Path.{refl, ap}
-use Rattle.state.specs.declared.Course.{Course}
-use Rattle.state.specs.State.{stateOf, withCourse}
 use Rattle.update.specs.Update.{begun}
 use Rattle.update.proofs.Deciding.{begun-followed}
 use Rattle.update.proofs.Updating.{fit-begun, stands-begun, followed-here, lent-here, last-here}
@@ -134,11 +131,10 @@ returns-4 c =
     let line = now (g .line) in
     let matched = c .before .matched-at in
     let i = begun-followed (followed-here (g .h) b line followed) (g .p) (g .now-ms) in
-    let same = ap (λ (x : Course). withCourse x (stateOf (g .h) b)) (c .before .before .before .course-matched .ensures) in
     let shows = matched .ensures _ (stands-begun (g .h) b line (g .p) (g .now-ms)) i in
     let told = c .before .before .before .before .before .o2 .given .1 in
     goes-on (g .h) b line (g .p) (g .now-ms) followed becomes (start .pre .trail) told
-    (matched .result) shows _ same refl (c .shown2 .result) (c .shown2 .ensures b)
+    (matched .result) shows (c .before .before .before .course-matched .ensures) (c .shown2 .result) (c .shown2 .ensures b)
 
 pub update-spec : {M : Type 1} → statement M
 update-spec =
