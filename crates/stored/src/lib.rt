@@ -1,8 +1,9 @@
 // A guide's state in slices that the caller lends: words, and numbers beside them. The layout is the table in
-// specs/Stored.antt. Word 0 is a mark. `fields` has one field, `parts` the groups, `state_words` all words;
-// `stored_rebuild` is the same for a rebuild.
+// specs/Stored.antt, and `layout` has its positions. Word 0 is a mark. `fields` has one field, `parts` the groups,
+// `state_words` all words; `stored_rebuild` is the same for a rebuild.
 
 mod fields;
+mod layout;
 mod parts;
 mod state_words;
 mod stored_rebuild;
@@ -24,9 +25,6 @@ pub use stored_rebuild::store_rebuild;
 pub const WORDS: usize = 45;
 
 pub const NUMBERS: usize = 110;
-
-// The word at which the course's begin.
-const COURSE_AT: usize = 22;
 
 // The most that each word may be, by its field's type.
 const MOST: [u64; 45] = [
@@ -91,16 +89,16 @@ fn homing_at(words: &[u64], numbers: &[f32]) -> Homing
         trail: parts::trail_at(words, numbers),
         window: parts::window_at(numbers),
         frame: parts::frame_at(words, numbers),
-        fed: fields::place_at(words, 8),
-        here: fields::spot_at(words, 11, numbers, 2),
-        here_ms: words[12],
+        fed: fields::place_at(words, layout::FED),
+        here: fields::spot_at(words, layout::HERE, numbers, layout::HERE_POINT),
+        here_ms: words[layout::HERE_MS],
         motion: parts::motion_at(words, numbers),
         follow: parts::follow_at(words, numbers),
         course: parts::course_at(words, numbers),
-        auto_follow: fields::flag_at(words, 28),
-        arrived: fields::flag_at(words, 29),
+        auto_follow: fields::flag_at(words, layout::AUTO_FOLLOW),
+        arrived: fields::flag_at(words, layout::ARRIVED),
         lap: parts::lap_at(words, numbers),
-        updated_ms: words[33],
+        updated_ms: words[layout::UPDATED_MS],
         guide: parts::shown_at(words),
     }
 }
@@ -135,7 +133,7 @@ fn holds(words: &[u64], numbers: &[f32]) -> bool
     if !within(words) {
         return false;
     }
-    (words[0] == state_words::MARK) & (NUMBERS <= numbers.len())
+    (words[layout::MARK] == state_words::MARK) & (NUMBERS <= numbers.len())
 }
 
 // The state that the slices hold.
@@ -199,7 +197,7 @@ fn store_words(h: Homing, words: &mut [u64])
     let front = state_words::front_words(h);
     fields::put_words(&front, words, 0);
     let back = state_words::back_words(h);
-    fields::put_words(&back, words, COURSE_AT);
+    fields::put_words(&back, words, layout::LINE_LEN);
 }
 
 fn store_numbers(h: Homing, numbers: &mut [f32])
@@ -207,7 +205,7 @@ fn store_numbers(h: Homing, numbers: &mut [f32])
     ensures { λ _. ⌜ now (numbers .exit) ≡ numbersOf h ++ drop numberCount (now (numbers .entry)) ⌝ }
 {
     let window = h.window;
-    fields::put_numbers(&window, numbers, parts::WINDOW_AT);
+    fields::put_numbers(&window, numbers, layout::WINDOW);
     let head = head_of(h);
     fields::put_numbers(&head, numbers, 0);
 }

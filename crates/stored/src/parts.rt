@@ -2,6 +2,7 @@
 // the table in crates/stored/specs/Stored.antt.
 
 use crate::fields;
+use crate::layout;
 use lap::Lap;
 use lap::StartPass;
 use motion::Motion;
@@ -21,9 +22,7 @@ ghost use lib.ListN.{length, take, drop};
 ghost use Rattle.stored.specs.Fields.{within, flagAt};
 ghost use Rattle.stored.specs.Parts.{wordCount, numberCount, windowAt, trailAt, frameAt, motionAt, followAt, courseAt, lapAt, guideRead, shownOf, blank as blankGuide, guideIn, shownFlag, placeWords, headingWords, motionWords, followWords, courseWords, lapWords, guideWords, placeMosts, headingMosts, motionMosts, followMosts, courseMosts, lapMosts, guideMosts, PlaceFits};
 
-// The number at which the window begins, and how many it has.
-pub const WINDOW_AT: usize = 14;
-
+// How many numbers the window has.
 const WINDOW: usize = 96;
 
 // ---- parts, read
@@ -34,7 +33,7 @@ pub fn window_at(numbers: &[f32]) -> [f32; 96]
 {
     let mut window = [0.0; 96];
     for i in 0..WINDOW {
-        window[i] = numbers[WINDOW_AT + i];
+        window[i] = numbers[layout::WINDOW + i];
     }
     window
 }
@@ -44,11 +43,11 @@ pub fn trail_at(words: &[u64], numbers: &[f32]) -> Trail
     ensures { λ r. ⌜ r ≡ trailAt (now (words .entry)) (now (numbers .entry)) ⌝ }
 {
     Trail {
-        len: fields::usize_at(words, 1),
-        tolerance: numbers[0],
-        window_len: fields::usize_at(words, 2),
-        retrace: fields::u8_at(words, 3),
-        retrace_len: fields::usize_at(words, 4),
+        len: fields::usize_at(words, layout::LEN),
+        tolerance: numbers[layout::TOLERANCE],
+        window_len: fields::usize_at(words, layout::WINDOW_LEN),
+        retrace: fields::u8_at(words, layout::RETRACE),
+        retrace_len: fields::usize_at(words, layout::RETRACE_LEN),
     }
 }
 
@@ -57,8 +56,8 @@ pub fn frame_at(words: &[u64], numbers: &[f32]) -> Frame
     ensures { λ r. ⌜ r ≡ frameAt (now (words .entry)) (now (numbers .entry)) ⌝ }
 {
     Frame {
-        origin: fields::place_at(words, 5),
-        east_per_e7: numbers[1],
+        origin: fields::place_at(words, layout::ORIGIN),
+        east_per_e7: numbers[layout::EAST_PER_E7],
     }
 }
 
@@ -67,9 +66,9 @@ pub fn motion_at(words: &[u64], numbers: &[f32]) -> Motion
     ensures { λ r. ⌜ r ≡ motionAt (now (words .entry)) (now (numbers .entry)) ⌝ }
 {
     Motion {
-        from: fields::spot_at(words, 13, numbers, 4),
-        heading: fields::heading_at(words, 14),
-        heading_ms: words[16],
+        from: fields::spot_at(words, layout::FROM, numbers, layout::FROM_POINT),
+        heading: fields::heading_at(words, layout::HEADING_KNOWN),
+        heading_ms: words[layout::HEADING_MS],
     }
 }
 
@@ -78,11 +77,11 @@ pub fn follow_at(words: &[u64], numbers: &[f32]) -> Follow
     ensures { λ r. ⌜ r ≡ followAt (now (words .entry)) (now (numbers .entry)) ⌝ }
 {
     Follow {
-        line: fields::line_of(words[17]),
-        segment: fields::usize_at(words, 18),
-        matched: fields::spot_at(words, 19, numbers, 6),
-        off: fields::flag_at(words, 20),
-        reminded_ms: words[21],
+        line: fields::line_of(words[layout::LINE]),
+        segment: fields::usize_at(words, layout::SEGMENT),
+        matched: fields::spot_at(words, layout::MATCHED, numbers, layout::MATCHED_POINT),
+        off: fields::flag_at(words, layout::OFF),
+        reminded_ms: words[layout::REMINDED_MS],
     }
 }
 
@@ -91,14 +90,14 @@ pub fn course_at(words: &[u64], numbers: &[f32]) -> Course
     ensures { λ r. ⌜ r ≡ courseAt (now (words .entry)) (now (numbers .entry)) ⌝ }
 {
     Course {
-        line_len: fields::usize_at(words, 22),
-        unplaced: fields::flag_at(words, 23),
-        held: fields::flag_at(words, 24),
-        join_fixes: fields::u8_at(words, 25),
-        join_end: fields::usize_at(words, 26),
-        along: numbers[8],
-        reached: numbers[9],
-        fix: fields::spot_at(words, 27, numbers, 10),
+        line_len: fields::usize_at(words, layout::LINE_LEN),
+        unplaced: fields::flag_at(words, layout::UNPLACED),
+        held: fields::flag_at(words, layout::HELD),
+        join_fixes: fields::u8_at(words, layout::JOIN_FIXES),
+        join_end: fields::usize_at(words, layout::JOIN_END),
+        along: numbers[layout::COURSE_ALONG],
+        reached: numbers[layout::COURSE_REACHED],
+        fix: fields::spot_at(words, layout::FIX, numbers, layout::FIX_POINT),
     }
 }
 
@@ -106,11 +105,11 @@ pub fn lap_at(words: &[u64], numbers: &[f32]) -> Lap
     requires { ⌜ (wordCount ≤ length (now words)) × (numberCount ≤ length (now numbers)) ⌝ }
     ensures { λ r. ⌜ r ≡ lapAt (now (words .entry)) (now (numbers .entry)) ⌝ }
 {
-    let stage = fields::pass_of(words[30]);
+    let stage = fields::pass_of(words[layout::PASS]);
     Lap {
         pass: StartPass { stage },
-        start: fields::spot_at(words, 31, numbers, 12),
-        passed: fields::flag_at(words, 32),
+        start: fields::spot_at(words, layout::START, numbers, layout::START_POINT),
+        passed: fields::flag_at(words, layout::PASSED),
     }
 }
 
@@ -119,15 +118,15 @@ fn guide_at(words: &[u64]) -> Guide
     ensures { λ r. ⌜ r ≡ guideRead (now (words .entry)) ⌝ }
 {
     Guide {
-        mode: fields::mode_of(words[35]),
-        following: fields::flag_at(words, 36),
-        course: fields::flag_at(words, 37),
-        course_near: fields::flag_at(words, 38),
-        direct_m: fields::u32_at(words, 39),
-        track_m: fields::u32_at(words, 40),
-        off_m: fields::u32_at(words, 41),
-        bearing: fields::u16_at(words, 42),
-        heading: fields::heading_at(words, 43),
+        mode: fields::mode_of(words[layout::MODE]),
+        following: fields::flag_at(words, layout::FOLLOWING),
+        course: fields::flag_at(words, layout::COURSE),
+        course_near: fields::flag_at(words, layout::COURSE_NEAR),
+        direct_m: fields::u32_at(words, layout::DIRECT_M),
+        track_m: fields::u32_at(words, layout::TRACK_M),
+        off_m: fields::u32_at(words, layout::OFF_M),
+        bearing: fields::u16_at(words, layout::BEARING),
+        heading: fields::heading_at(words, layout::GUIDE_HEADING_KNOWN),
     }
 }
 
@@ -135,7 +134,7 @@ pub fn shown_at(words: &[u64]) -> Shown
     requires { ⌜ wordCount ≤ length (now words) ⌝ }
     ensures { λ r. ⌜ r ≡ shownOf (flagAt (now (words .entry)) 34) (guideRead (now (words .entry))) ⌝ }
 {
-    if fields::flag_at(words, 34) {
+    if fields::flag_at(words, layout::SHOWN) {
         return Shown::Guide(guide_at(words));
     }
     Shown::Nothing

@@ -1,6 +1,7 @@
 // A rebuild's state in a slice of words that the caller lends. The layout is the table in specs/Rebuilt.antt. Word 0 is a mark.
 
 use crate::fields;
+use crate::layout;
 use log::Utc;
 use rebuild::Rebuild;
 use rebuild::Stage;
@@ -49,8 +50,8 @@ fn stage_at(words: &[u64]) -> Stage
     requires { ⌜ rebuildCount ≤ length (now words) ⌝ }
     ensures { λ r. ⌜ r ≡ pendingOf (flagAt (now (words .entry)) 3) (utcRead (now (words .entry)) 4) ⌝ }
 {
-    if fields::flag_at(words, 3) {
-        return Stage::Pending(utc_at(words, 4));
+    if fields::flag_at(words, layout::PENDING) {
+        return Stage::Pending(utc_at(words, layout::UTC_KNOWN));
     }
     Stage::Decided
 }
@@ -59,12 +60,12 @@ fn rebuild_at(words: &[u64]) -> Rebuild
     requires { ⌜ rebuildCount ≤ length (now words) ⌝ }
     ensures { λ r. ⌜ r ≡ rebuildAt (now (words .entry)) ⌝ }
 {
-    let slot = fields::usize_at(words, 2);
+    let slot = fields::usize_at(words, layout::SLOT);
     Rebuild {
-        recovered: fields::u32_at(words, 1),
+        recovered: fields::u32_at(words, layout::RECOVERED),
         walk: Walk { slot },
         stage: stage_at(words),
-        clock_ms: words[6],
+        clock_ms: words[layout::CLOCK],
     }
 }
 
@@ -88,7 +89,7 @@ fn holds_rebuild(words: &[u64]) -> bool
     if !rebuild_within(words) {
         return false;
     }
-    words[0] == REBUILD_MARK
+    words[layout::MARK] == REBUILD_MARK
 }
 
 // The rebuild that the words hold.
