@@ -20,7 +20,7 @@ use Rattle.state.specs.declared.Homing.{Homing}
 use Rattle.state.specs.State.{stateOf}
 use Rattle.calls.specs.Ask.{Back, len, wayBackFrom}
 use Rattle.calls.specs.Questions.{asksCrumbs, asksLine}
-use Rattle.calls.specs.Calls.{asks}
+use Rattle.calls.specs.Calls.{asksLent, asks}
 use Rattle.calls.specs.Promises.{refused, gives, answer}
 use Rattle.questions.proofs.Given.{crumbs-given, line-given}
 use Rattle.answers.specs.Promises.{ReturnsCrumbs, ReturnsCourse}
@@ -61,24 +61,24 @@ back-held p n b ne direct track d t = ap₂ metres d t ∙ held p n b ne
 -- ---- a part that is returned
 module _ {n : ℕ} (h : Homing) (b : List Float) (told : n ≡ asksCrumbs (length b) (stateOf h b)) where
   pub crumbs-refused : n ≢ 0 → ReturnsCrumbs h b n []
-  unfolding asks
+  unfolding asks asksLent
   crumbs-refused ne =
       record { asked = told; numbers = λ e. absurd (ne e); held = λ e. absurd (ne e); empty = λ _. refl }
 
   pub crumbs-returned : {r : List Float} → n ≡ 0 → Front (h .trail .len) b r → ReturnsCrumbs h b n r
-  unfolding asks
+  unfolding asks asksLent
   crumbs-returned passed front =
       let fits = crumbs-given (length b) h b (sym told ∙ passed) .trail .held in
       record { asked = told; numbers = λ _. front .numbers fits; held = λ _. front .held fits; empty = λ ne. absurd (ne passed) }
 
 module _ {n : ℕ} (h : Homing) (line : List Float) (told : (b : List Float) → n ≡ asksLine line 0 (stateOf h b)) where
   pub course-refused : n ≢ 0 → ReturnsCourse h line n []
-  unfolding asks
+  unfolding asks asksLent
   course-refused ne =
       record { asked = told; numbers = λ e. absurd (ne e); held = λ e. absurd (ne e); empty = λ _. refl }
 
   pub course-returned : {r : List Float} → n ≡ 0 → Front (h .course .«line_len») line r → ReturnsCourse h line n r
-  unfolding asks
+  unfolding asks asksLent
   course-returned passed front =
       let fits = line-given line 0 h [] (sym (told []) ∙ passed) .1 .placed in
       record { asked = told; numbers = λ _. front .numbers fits; held = λ _. front .held fits; empty = λ ne. absurd (ne passed) }

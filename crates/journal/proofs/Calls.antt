@@ -24,7 +24,7 @@ use Rattle.state.specs.Rule.{Done}
 use Rattle.course.specs.Fix.{Fix}
 use Rattle.calls.specs.Follow.{updateHere, brought, engagedOr, wayHome, follow, nearHere, followFrom, setFollowing, autoOff, setAutoFollow}
 use Rattle.calls.specs.Line.{reset, offCourse, setCourse}
-use Rattle.calls.specs.Calls.{Call, Reset, Len, Following, FollowingCourse, CourseAhead, Crumbs, WayBack, Heading, RouteHome, Guide, EndReplay, Course, SetCourse, SetAutoFollow, Observe, Replay, SetFollowing, silent, courseIn, asks, performs, afterCall}
+use Rattle.calls.specs.Calls.{Call, Ask, Reset, EndReplay, SetCourse, SetAutoFollow, Observe, Replay, SetFollowing, silent, courseIn, asks, performs, afterCall}
 use Rattle.journal.proofs.Trace as trace
 use Rattle.journal.proofs.Sound.{Holds, Ran, Good, Quiet, still, quiet, then, either, resumed}
 use Rattle.journal.proofs.Recording.{flush-good}
@@ -122,16 +122,7 @@ module _ (C : ℕ) (least : 3 ≤ C) where
   performs-good (Replay x now) s h = replay-good C least x now s h
   performs-good EndReplay s h = end-replay-good s h
   performs-good (SetFollowing b on now) s h = silenced _ (set-following C least (courseIn b s) now on s h)
-  performs-good Len s h = still tt s h
-  performs-good Following s h = still tt s h
-  performs-good FollowingCourse s h = still tt s h
-  performs-good CourseAhead s h = still tt s h
-  performs-good Crumbs s h = still tt s h
-  performs-good WayBack s h = still tt s h
-  performs-good Heading s h = still tt s h
-  performs-good RouteHome s h = still tt s h
-  performs-good Guide s h = still tt s h
-  performs-good (Course b) s h = still tt s h
+  performs-good (Ask q) s h = still tt s h
 
   -- on a buffer with room for C crumbs
   pub turn-good : (c : Call) (size : ℕ) → capacity size ≡ C → Good C (afterCall size c)

@@ -12,8 +12,8 @@ use Rattle.state.specs.declared.Place.the-variants as place
 use Rattle.state.specs.State.{State}
 use Rattle.course.specs.Fix.{Fix}
 use Rattle.calls.specs.Questions.{question1}
-use Rattle.calls.specs.Calls.{Call, Reset, Replay}
-use Rattle.taken.specs.Taken.{FixOnGlobe, PlaceOnGlobe, Own, called}
+use Rattle.calls.specs.Calls.{Call, pointOf, Reset, Replay}
+use Rattle.taken.specs.Taken.{FixOnGlobe, FixesOnGlobe, Own, called}
 use Rattle.taken.proofs.Refusals.{NoneRefused}
 use Rattle.taken.proofs.Taken.{taken}
 use Rattle.journal.specs.Journal.{run}
@@ -42,7 +42,7 @@ module _ (size : ℕ) (room : question1 size ≡ true) where
   pub none-refused : {s : State} {l : List Crumb} {cs : List Call} → Own size s l → Rebuilding cs → NoneRefused size s cs
   none-refused own nothing = tt
   none-refused own (reset m) = (taken size room _ _ own Reset tt tt, none-refused (called own Reset tt tt) m)
-  none-refused own (replay x now on m) = (taken size room _ _ own (Replay x now) tt on, none-refused (called own (Replay x now) tt on) m)
+  none-refused own (replay x now on m) = (taken size room _ _ own (Replay x now) tt (on, tt), none-refused (called own (Replay x now) tt (on, tt)) m)
 
 -- ---- a rebuild makes no others
 both : {xs ys : List Call} → Rebuilding xs → Rebuilding ys → Rebuilding (xs ++ ys)
@@ -53,7 +53,7 @@ both (replay x now on l) m = replay x now on (both l m)
 -- every place that is used is in range
 abbrev pub SamplesOnGlobe : List Sample → Type 0
 SamplesOnGlobe [] = Unit {0}
-SamplesOnGlobe (x ∷ xs) = PlaceOnGlobe (x .place) × SamplesOnGlobe xs
+SamplesOnGlobe (x ∷ xs) = FixesOnGlobe (pointOf (x .place)) × SamplesOnGlobe xs
 
 abbrev pub SlotOnGlobe : Option Entry → Type 0
 SlotOnGlobe none = Unit {0}
@@ -81,9 +81,9 @@ fix-makes x later t r on = by (skips (r .stage) later)
     by true = nothing
     by false = both (meets-makes (r .stage) later t r) (replay x _ on nothing)
 
-place-makes : (p : Place) (later : Bool) (t : Utc) (r : Rebuild) → PlaceOnGlobe p → Rebuilding (visitPlace p later t r .calls)
+place-makes : (p : Place) (later : Bool) (t : Utc) (r : Rebuild) → FixesOnGlobe (pointOf p) → Rebuilding (visitPlace p later t r .calls)
 unfolding visitPlace
-place-makes (place.At lat lon) later t r on = fix-makes (record { lat = lat; lon = lon }) later t r on
+place-makes (place.At lat lon) later t r on = fix-makes (record { lat = lat; lon = lon }) later t r (on .0)
 place-makes place.Missing later t r on = nothing
 
 samples-make : (later : Bool) (xs : List Sample) (r : Rebuild) → SamplesOnGlobe xs → Rebuilding (visitSamples later xs r .calls)

@@ -17,9 +17,9 @@ use Rattle.state.specs.State.{State, stateOf}
 use Rattle.state.specs.Rule.{Done}
 use Rattle.calls.specs.Line as rule
 use Rattle.calls.specs.Questions.{unless, asksState, asksCrumbs}
-use Rattle.calls.specs.Calls.{Call, Reset, Replay, asks, asksPlace, afterCall}
+use Rattle.calls.specs.Calls.{Call, Reset, Replay, pointOf, asks, asksPlace, afterCall}
 use Rattle.questions.proofs.Given.{fix-given}
-use Rattle.taken.specs.Taken.{PlaceOnGlobe}
+use Rattle.taken.specs.Taken.{FixesOnGlobe}
 use Rattle.taken.proofs.Refusals.{NoneRefused}
 use Rattle.taken.proofs.Tests.{either, one-of}
 use Rattle.taken.proofs.Asking.{fix-asked, or-else-none}
@@ -54,11 +54,11 @@ use Rattle.restart.proofs.Slots.{before-at}
 use Rattle.restart.proofs.Calling.{step-crumbs, step-file}
 
 -- ---- a file that no question refuses has its places in range
-place-globe : (p : Place) → asksPlace p ≡ 0 → PlaceOnGlobe p
+place-globe : (p : Place) → asksPlace p ≡ 0 → FixesOnGlobe (pointOf p)
 unfolding asksPlace
 place-globe (place.At lat lon) e =
     let l = fix-given (record { lat = lat; lon = lon }) e in
-    record { latitude = l .latitude; longitude = l .longitude }
+    (record { latitude = l .latitude; longitude = l .longitude }, tt)
 place-globe place.Missing e = tt
 
 samples-globe : (xs : List Sample) → asksSamples xs ≡ 0 → SamplesOnGlobe xs

@@ -14,7 +14,7 @@ use Rattle.state.specs.declared.Homing.{Homing}
 use Rattle.state.specs.State.{State, stateOf}
 use Rattle.state.specs.Rule.{Done}
 use Rattle.calls.specs.Questions.{question1, asksState}
-use Rattle.calls.specs.Calls.{Call, Reset, WayBack, Replay, asks}
+use Rattle.calls.specs.Calls.{Call, Ask, Reset, WayBack, Replay, asksLent, asks}
 use Rattle.taken.specs.Taken.{InRange, Lent, Own, start, called as own-called}
 use Rattle.taken.proofs.Tests.{both}
 use Rattle.taken.proofs.Asking.{or-else-none}
@@ -56,7 +56,7 @@ own-run : {size : ℕ} {s : State} {l : List Crumb} {ks : List Call} → Own siz
 unfolding run
 own-run own nothing = own
 own-run own (reset m) = own-run (own-called own Reset tt tt) m
-own-run own (replay x now on m) = own-run (own-called own (Replay x now) tt on) m
+own-run own (replay x now on m) = own-run (own-called own (Replay x now) tt (on, tt)) m
 
 record Owned (h : Homing) (b : List Float) (l : List Crumb) : Type 0 where
   own : Own (length b) (stateOf h b) l
@@ -109,7 +109,7 @@ module _ (C : ℕ) (least : 8 ≤ C) (most : C ≤ 4096) where
 
 -- ---- demand 1
 pub never-refused : EveryTakenWithRebuilds
-unfolding asksStep asks
+unfolding asksStep asks asksLent
 never-refused C least most h b l run =
     let n = length b in
     let s = stateOf h b in
@@ -117,7 +117,7 @@ never-refused C least most h b l run =
     λ c lent range. taken n (room C least most n (long run)) s l (owned C least most run .own) c lent range in
     record {
       guide = guide;
-      step = λ file a. or-else-none _ _ (guide WayBack tt tt) a;
+      step = λ file a. or-else-none _ _ (guide (Ask WayBack) tt tt) a;
       settle = guide Reset tt tt;
     }
 

@@ -13,9 +13,9 @@ use Rattle.state.specs.State.{stateOf}
 use Rattle.course.specs.Fix.{Fix}
 use Rattle.calls.specs.Line as rule
 use Rattle.calls.specs.Questions.{asksState}
-use Rattle.calls.specs.Calls.{Call, SetCourse, asks}
+use Rattle.calls.specs.Calls.{lineForCourse, Call, SetCourse, asks}
 use Rattle.calls.specs.Promises.{Called}
-use Rattle.taken.specs.Taken.{given, InRange, Lent, lineAfter, BufferAfter}
+use Rattle.taken.specs.Taken.{InRange, Lent, lineAfter, BufferAfter}
 use Rattle.homing.specs.declared.Changed.{Changed}
 use Rattle.homing.specs.Promises.{SetsCourse}
 use Rattle.log.specs.declared.Utc.{Utc}
@@ -58,4 +58,4 @@ abbrev pub EveryCourseLeft : Type 0
 EveryCourseLeft =
     (xs : List Fix) (h : Homing) (entry : List Float) (r : Changed) (exit : List Float) → SetsCourse xs h entry r exit
     → (b : List Float) → asks (length b) (SetCourse entry xs) (stateOf h b) ≡ 0
-    → BufferAfter (stateOf h b) (given (SetCourse entry xs)) entry exit
+    → BufferAfter (stateOf h b) (lineForCourse entry xs) entry exit

@@ -19,7 +19,7 @@ use Rattle.state.specs.declared.Homing.{Homing}
 use Rattle.state.specs.State.{State, stateOf}
 use Rattle.calls.specs.Line as guide
 use Rattle.calls.specs.Questions.{question1, question4, asksCrumbs}
-use Rattle.calls.specs.Calls.{Crumbs, asks}
+use Rattle.calls.specs.Calls.{Ask, Crumbs, asksLent, asks}
 use Rattle.calls.specs.Promises.{Answer, refused, gives, answer}
 use Rattle.answers.specs.declared.Verdict.{Verdict}
 use Rattle.answers.specs.declared.Verdict.the-variants as verdict
@@ -44,8 +44,8 @@ use Rattle.retelling.proofs.Theorems.{retold-refused}
 
 -- ---- a new guide
 new-taken : asksCrumbs 1536 guide.new ≡ 0
-unfolding asks question1 question4
-new-taken = taken 1536 refl _ _ start Crumbs tt tt
+unfolding asks asksLent question1 question4
+new-taken = taken 1536 refl _ _ start (Ask Crumbs) tt tt
 
 -- it holds no crumb
 new-len : (h : Homing) (b : List Float) → stateOf h b ≡ guide.new → h .trail .len ≡ 0

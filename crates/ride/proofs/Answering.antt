@@ -13,22 +13,13 @@ use Rattle.state.specs.declared.Homing.{Homing}
 use Rattle.state.specs.State.{State, stateOf}
 use Rattle.state.specs.Rule.{Done, done}
 use Rattle.course.specs.Fix.{Fix}
-use Rattle.calls.specs.Calls.{Call, Reset, Len, Following, FollowingCourse, CourseAhead, Crumbs, WayBack, Heading, RouteHome, Guide, EndReplay, Course, SetCourse, SetAutoFollow, Observe, Replay, SetFollowing, asks, performs, afterCall}
+use Rattle.calls.specs.Calls.{Call, Ask, Len, Reset, EndReplay, SetCourse, SetAutoFollow, Observe, Replay, SetFollowing, asks, performs, afterCall}
 use Rattle.calls.specs.Promises.{Called}
 use Rattle.ride.specs.Script.{numbered, callOf}
 use Rattle.ride.proofs.Tests.{both, never}
 
 abbrev pub onlyAnswers : Call → Bool
-onlyAnswers Len = true
-onlyAnswers Following = true
-onlyAnswers FollowingCourse = true
-onlyAnswers (Course line) = true
-onlyAnswers CourseAhead = true
-onlyAnswers Crumbs = true
-onlyAnswers WayBack = true
-onlyAnswers Heading = true
-onlyAnswers RouteHome = true
-onlyAnswers Guide = true
+onlyAnswers (Ask q) = true
 onlyAnswers Reset = false
 onlyAnswers EndReplay = false
 onlyAnswers (SetCourse line points) = false
@@ -39,16 +30,7 @@ onlyAnswers (SetFollowing line on clock) = false
 
 does-nothing : (C : ℕ) (c : Call) (s : State) → onlyAnswers c ≡ true → performs C c s ≡ done tt s
 unfolding performs
-does-nothing C Len s e = refl
-does-nothing C Following s e = refl
-does-nothing C FollowingCourse s e = refl
-does-nothing C (Course line) s e = refl
-does-nothing C CourseAhead s e = refl
-does-nothing C Crumbs s e = refl
-does-nothing C WayBack s e = refl
-does-nothing C Heading s e = refl
-does-nothing C RouteHome s e = refl
-does-nothing C Guide s e = refl
+does-nothing C (Ask q) s e = refl
 does-nothing C Reset s e = absurd (never e refl)
 does-nothing C EndReplay s e = absurd (never e refl)
 does-nothing C (SetCourse line points) s e = absurd (never e refl)
@@ -73,7 +55,7 @@ abbrev all : List Call → Bool
 all [] = true
 all (c ∷ cs) = onlyAnswers c && all cs
 
-each : (cs : List Call) → all cs ≡ true → (n : ℕ) → onlyAnswers (getD cs n Len) ≡ true
+each : (cs : List Call) → all cs ≡ true → (n : ℕ) → onlyAnswers (getD cs n (Ask Len)) ≡ true
 each [] e n = refl
 each (c ∷ cs) e zero = both (onlyAnswers c) (all cs) e .0
 each (c ∷ cs) e (suc n) = each cs (both (onlyAnswers c) (all cs) e .1) n
@@ -83,7 +65,7 @@ pub answering : (op clock : ℕ) (line : List Float) (points : List Fix) → 9 �
 unfolding callOf numbered
 answering op clock line points h =
     let e : op ≡ 9 + (op - 9) = omega arith in
-    rw (e, ← getD-drop 9 (numbered clock line points) (op - 9) Len) (each (drop 9 (numbered clock line points)) refl (op - 9))
+    rw (e, ← getD-drop 9 (numbered clock line points) (op - 9) (Ask Len)) (each (drop 9 (numbered clock line points)) refl (op - 9))
 
 -- such a call promises what doing nothing to the state and the buffer does
 pub left-alone : (c : Call) (h : Homing) (b : List Float) → onlyAnswers c ≡ true → Called c h b h b

@@ -14,16 +14,30 @@ use lib.Seq.{take-append-seam, drop-append-seam}
 use Rattle.state.specs.declared.Place.the-variants.{At, Missing}
 use Rattle.course.specs.Fix.{Fix}
 use Rattle.course.specs.Course.{fixes}
-use Rattle.calls.specs.Calls.{Call, Reset, Len, Following, FollowingCourse, CourseAhead, Crumbs, WayBack, Heading, RouteHome, Guide, EndReplay, Course, SetCourse, SetAutoFollow, Observe, Replay, SetFollowing}
+use Rattle.calls.specs.Calls as call
+use Rattle.calls.specs.Calls.{Loan, Query, Call, Ask, Reset, EndReplay, SetCourse, SetAutoFollow, Observe, Replay, SetFollowing, arguments}
 use Rattle.ride.specs.Script.{CallEntry, callEntries, placeIn, fixIn, numbered, callOf, readable, decode}
-use Rattle.ride.specs.Theorems.{arguments, linesOf, pointsOf, Each, SliceOf, CallSlices, EveryListWritten}
+use Rattle.ride.specs.Theorems.{lineIn, linesOf, pointsOf, Each, SliceOf, CallSlices, EveryListWritten}
 
 -- ---- how a call is written
 abbrev onOff : ℕ → Bool → ℕ
 onOff off false = off
 onOff off true = off + 1
 
+abbrev queryOp : {loan : Loan} → Query loan → ℕ
+queryOp call.Len = 9
+queryOp call.Following = 10
+queryOp call.FollowingCourse = 11
+queryOp (call.Course line) = 12
+queryOp call.CourseAhead = 13
+queryOp call.Crumbs = 14
+queryOp call.WayBack = 15
+queryOp call.Heading = 16
+queryOp call.RouteHome = 17
+queryOp call.Guide = 18
+
 abbrev opOf : Call → ℕ
+opOf (Ask q) = queryOp q
 opOf Reset = 0
 opOf EndReplay = 1
 opOf (SetCourse line points) = 2
@@ -31,19 +45,12 @@ opOf (SetAutoFollow on) = onOff 3 on
 opOf (Observe line place clock) = 5
 opOf (Replay point clock) = 6
 opOf (SetFollowing line on clock) = onOff 7 on
-opOf Len = 9
-opOf Following = 10
-opOf FollowingCourse = 11
-opOf (Course line) = 12
-opOf CourseAhead = 13
-opOf Crumbs = 14
-opOf WayBack = 15
-opOf Heading = 16
-opOf RouteHome = 17
-opOf Guide = 18
+
+abbrev lentTo : Call → List Float
+lentTo c = lineIn (arguments c .loan)
 
 abbrev sizeOf : Call → ℕ
-sizeOf c = length (arguments c .line)
+sizeOf c = length (lentTo c)
 
 abbrev countOf : Call → ℕ
 countOf c = length (arguments c .points)
@@ -51,7 +58,7 @@ countOf c = length (arguments c .points)
 abbrev clockOf : Call → ℕ
 clockOf c = arguments c .clock
 
-again : (c : Call) → callOf (opOf c) (clockOf c) (arguments c .line) (arguments c .points) ≡ c
+again : (c : Call) → callOf (opOf c) (clockOf c) (lentTo c) (arguments c .points) ≡ c
 unfolding callOf numbered placeIn fixIn
 again Reset = refl
 again EndReplay = refl
@@ -63,16 +70,16 @@ again (Observe line Missing clock) = refl
 again (Replay point clock) = refl
 again (SetFollowing line false clock) = refl
 again (SetFollowing line true clock) = refl
-again Len = refl
-again Following = refl
-again FollowingCourse = refl
-again (Course line) = refl
-again CourseAhead = refl
-again Crumbs = refl
-again WayBack = refl
-again Heading = refl
-again RouteHome = refl
-again Guide = refl
+again (Ask call.Len) = refl
+again (Ask call.Following) = refl
+again (Ask call.FollowingCourse) = refl
+again (Ask (call.Course line)) = refl
+again (Ask call.CourseAhead) = refl
+again (Ask call.Crumbs) = refl
+again (Ask call.WayBack) = refl
+again (Ask call.Heading) = refl
+again (Ask call.RouteHome) = refl
+again (Ask call.Guide) = refl
 
 abbrev written : Call → CallEntry
 written c = record { op = opOf c; clock = clockOf c; size = sizeOf c; count = countOf c }
@@ -90,10 +97,10 @@ pairs [] = refl
 pairs (x ∷ points) = ap (λ l. x ∷ l) (pairs points)
 
 fits : (room : ℕ) (c : Call) (lines : List Float) (points : List Fix) → sizeOf c ≤ room
-    → readable (sizeOf c) (countOf c) room (length (arguments c .line ++ lines)) (length (arguments c .points ++ points)) ≡ true
+    → readable (sizeOf c) (countOf c) room (length (lentTo c ++ lines)) (length (arguments c .points ++ points)) ≡ true
 unfolding readable
 fits room c lines points h =
-    let a : sizeOf c ≤ length (arguments c .line ++ lines) = omega (arith, length-append (arguments c .line) lines) in
+    let a : sizeOf c ≤ length (lentTo c ++ lines) = omega (arith, length-append (lentTo c) lines) in
     let b : countOf c ≤ length (arguments c .points ++ points) = omega (arith, length-append (arguments c .points) points) in
     rw (le-leb (sizeOf c) room h, le-leb (sizeOf c) _ a, le-leb (countOf c) _ b)
 
@@ -104,7 +111,7 @@ LinesWithin room cs = Each (λ c. sizeOf c ≤ room) cs
 lines-within : (room : ℕ) (cs : List Call) → length (linesOf cs) ≤ room → LinesWithin room cs
 lines-within room [] h = tt
 lines-within room (c ∷ cs) h =
-    let e = length-append (arguments c .line) (linesOf cs) in
+    let e = length-append (lentTo c) (linesOf cs) in
     (omega (arith, e), lines-within room cs (omega (arith, e)))
 
 decoded : (room : ℕ) (cs : List Call) → LinesWithin room cs → decode room (map written cs) (linesOf cs) (pointsOf cs) ≡ cs
@@ -113,8 +120,8 @@ decoded room [] w = refl
 decoded room (c ∷ cs) w =
     rw (
       fits room c (linesOf cs) (pointsOf cs) (w .0),
-      take-append-seam (arguments c .line) (linesOf cs),
-      drop-append-seam (arguments c .line) (linesOf cs),
+      take-append-seam (lentTo c) (linesOf cs),
+      drop-append-seam (lentTo c) (linesOf cs),
       take-append-seam (arguments c .points) (pointsOf cs),
       drop-append-seam (arguments c .points) (pointsOf cs),
       again c,
@@ -138,7 +145,20 @@ few-on : (off : ℕ) (on : Bool) → off < 9 → Fits w8 (onOff off on)
 few-on off false h = record { fits = omega arith }
 few-on off true h = record { fits = omega arith }
 
+query-fits : {loan : Loan} (q : Query loan) → Fits w8 (queryOp q)
+query-fits call.Len = record { fits = lit< tt }
+query-fits call.Following = record { fits = lit< tt }
+query-fits call.FollowingCourse = record { fits = lit< tt }
+query-fits (call.Course line) = record { fits = lit< tt }
+query-fits call.CourseAhead = record { fits = lit< tt }
+query-fits call.Crumbs = record { fits = lit< tt }
+query-fits call.WayBack = record { fits = lit< tt }
+query-fits call.Heading = record { fits = lit< tt }
+query-fits call.RouteHome = record { fits = lit< tt }
+query-fits call.Guide = record { fits = lit< tt }
+
 op-fits : (c : Call) → Fits w8 (opOf c)
+op-fits (Ask q) = query-fits q
 op-fits Reset = record { fits = lit< tt }
 op-fits EndReplay = record { fits = lit< tt }
 op-fits (SetCourse line points) = record { fits = lit< tt }
@@ -146,16 +166,6 @@ op-fits (SetAutoFollow on) = few-on 3 on (lit< tt)
 op-fits (Observe line place clock) = record { fits = lit< tt }
 op-fits (Replay point clock) = record { fits = lit< tt }
 op-fits (SetFollowing line on clock) = few-on 7 on (lit< tt)
-op-fits Len = record { fits = lit< tt }
-op-fits Following = record { fits = lit< tt }
-op-fits FollowingCourse = record { fits = lit< tt }
-op-fits (Course line) = record { fits = lit< tt }
-op-fits CourseAhead = record { fits = lit< tt }
-op-fits Crumbs = record { fits = lit< tt }
-op-fits WayBack = record { fits = lit< tt }
-op-fits Heading = record { fits = lit< tt }
-op-fits RouteHome = record { fits = lit< tt }
-op-fits Guide = record { fits = lit< tt }
 
 -- what each call is given is no longer than what they are given together
 each-part : {A : Type 0} (f : Call → List A) (all : List Call → List A) → ((c : Call) (cs : List Call) → all (c ∷ cs) ≡ f c ++ all cs)
@@ -191,7 +201,7 @@ covers cs m =
         room = m .lines .1;
         ops = slice-map _ opOf 1 cs (every _ cs op-fits, omega (arith, few));
         clocks = slice-map _ clockOf 8 cs (m .clocks);
-        sizes = slice-map _ sizeOf 8 cs (each-part (λ c. arguments c .line) linesOf (λ c cs. refl) cs (m .lines .1), few);
+        sizes = slice-map _ sizeOf 8 cs (each-part (λ c. lentTo c) linesOf (λ c cs. refl) cs (m .lines .1), few);
         counts = slice-map _ countOf 8 cs (each-part (λ c. arguments c .points) pointsOf (λ c cs. refl) cs (m .lats .1), few);
         lines = m .lines;
         lats = slice-map _ (λ x. x .lat) 4 (pointsOf cs) (m .lats);

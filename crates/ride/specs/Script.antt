@@ -11,7 +11,8 @@ use Rattle.state.specs.declared.Place.{Place}
 use Rattle.state.specs.declared.Place.the-variants.{At, Missing}
 use Rattle.course.specs.Fix.{Fix}
 use Rattle.course.specs.Course.{fixes}
-use Rattle.calls.specs.Calls.{Call, Reset, Len, Following, FollowingCourse, CourseAhead, Crumbs, WayBack, Heading, RouteHome, Guide, EndReplay, Course, SetCourse, SetAutoFollow, Observe, Replay, SetFollowing}
+use Rattle.calls.specs.Calls as call
+use Rattle.calls.specs.Calls.{Call, Ask, Reset, EndReplay, SetCourse, SetAutoFollow, Observe, Replay, SetFollowing}
 
 -- what is written of a call: which it is, its clock, how many numbers the line has that it is lent, and how many points it is given
 pub record CallEntry : Type 0 where
@@ -51,21 +52,21 @@ numbered clock line points =
     ∷ Replay (fixIn points) clock
     ∷ SetFollowing line false clock
     ∷ SetFollowing line true clock
-    ∷ Len
-    ∷ Following
-    ∷ FollowingCourse
-    ∷ Course line
-    ∷ CourseAhead
-    ∷ Crumbs
-    ∷ WayBack
-    ∷ Heading
-    ∷ RouteHome
-    ∷ Guide
+    ∷ Ask call.Len
+    ∷ Ask call.Following
+    ∷ Ask call.FollowingCourse
+    ∷ Ask (call.Course line)
+    ∷ Ask call.CourseAhead
+    ∷ Ask call.Crumbs
+    ∷ Ask call.WayBack
+    ∷ Ask call.Heading
+    ∷ Ask call.RouteHome
+    ∷ Ask call.Guide
     ∷ []
 
 -- a number beyond these is `len`'s
 unfoldable pub callOf : ℕ → ℕ → List Float → List Fix → Call
-callOf op clock line points = getD (numbered clock line points) op Len
+callOf op clock line points = getD (numbered clock line points) op (Ask call.Len)
 
 -- whether there is room for the line a call is lent, and its numbers and its points are there
 unfoldable pub readable : ℕ → ℕ → ℕ → ℕ → ℕ → Bool

@@ -8,47 +8,21 @@ use lib.Dec.{T}
 use lib.IntN.{ℤ}
 use lib.ListN.{length}
 use lib.Ieee.{Float, binary32, fits}
-use Rattle.state.specs.declared.Place.{Place}
-use Rattle.state.specs.declared.Place.the-variants.{At, Missing}
 use Rattle.course.specs.Fix.{Fix}
-use Rattle.calls.specs.Calls.{Call, Reset, Len, Following, FollowingCourse, CourseAhead, Crumbs, WayBack, Heading, RouteHome, Guide, EndReplay, Course, SetCourse, SetAutoFollow, Observe, Replay, SetFollowing}
+use Rattle.calls.specs.Calls.{Loan, noBuffer, crumbBuffer, lineBuffer, bothBuffers, lineForCourse, Call, arguments}
 use Rattle.ride.specs.Script.{writtenCalls}
 
--- ---- what the calls are given
-pub record Arguments : Type 0 where
-  pub line : List Float
-  pub points : List Fix
-  pub clock : ℕ
-
-abbrev pub nothing : Arguments
-nothing = record { line = []; points = []; clock = 0 }
-
-abbrev pub pointOf : Place → List Fix
-pointOf (At lat lon) = record { lat = lat; lon = lon } ∷ []
-pointOf Missing = []
-
-abbrev pub arguments : Call → Arguments
-arguments Reset = nothing
-arguments Len = nothing
-arguments Following = nothing
-arguments FollowingCourse = nothing
-arguments CourseAhead = nothing
-arguments Crumbs = nothing
-arguments WayBack = nothing
-arguments Heading = nothing
-arguments RouteHome = nothing
-arguments Guide = nothing
-arguments EndReplay = nothing
-arguments (SetAutoFollow on) = nothing
-arguments (Course line) = record { line = line; points = []; clock = 0 }
-arguments (SetCourse line points) = record { line = line; points = points; clock = 0 }
-arguments (Observe line place clock) = record { line = line; points = pointOf place; clock = clock }
-arguments (Replay point clock) = record { line = []; points = point ∷ []; clock = clock }
-arguments (SetFollowing line on clock) = record { line = line; points = []; clock = clock }
+-- ---- the lines and the points that calls are given
+abbrev pub lineIn : Loan → List Float
+lineIn noBuffer = []
+lineIn crumbBuffer = []
+lineIn (lineBuffer b) = b
+lineIn (bothBuffers b) = b
+lineIn (lineForCourse b xs) = b
 
 abbrev pub linesOf : List Call → List Float
 linesOf [] = []
-linesOf (c ∷ cs) = arguments c .line ++ linesOf cs
+linesOf (c ∷ cs) = lineIn (arguments c .loan) ++ linesOf cs
 
 abbrev pub pointsOf : List Call → List Fix
 pointsOf [] = []

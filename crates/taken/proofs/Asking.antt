@@ -16,8 +16,8 @@ use Rattle.state.specs.declared.Line.the-variants as line
 use Rattle.state.specs.State.{State}
 use Rattle.course.specs.Fix.{Fix}
 use Rattle.calls.specs.Questions.{question1, segmentFits, followFits, countsFit, spotsFit, numbersFit, stateFits, heldFits, latitudeFits, longitudeFits, asksFix, _orElse_, asksFixes}
-use Rattle.calls.specs.Calls.{asksPlace}
-use Rattle.taken.specs.Taken.{FixOnGlobe, FixesOnGlobe, PlaceOnGlobe}
+use Rattle.calls.specs.Calls.{pointOf, asksPlace}
+use Rattle.taken.specs.Taken.{FixOnGlobe, FixesOnGlobe}
 use Rattle.taken.proofs.Tests.{both, and-left, and-right}
 use Rattle.taken.proofs.Bounds.{along-fits, factor-fits}
 use Rattle.taken.proofs.Laid.{most, laid-fits}
@@ -96,7 +96,7 @@ unfolding asksFixes
 fixes-asked [] g = refl
 fixes-asked (x ∷ xs) g = or-else-none (asksFix x) (asksFixes xs) (fix-asked x (g .0)) (fixes-asked xs (g .1))
 
-pub place-asked : (x : Fed) → PlaceOnGlobe x → asksPlace x ≡ 0
+pub place-asked : (x : Fed) → FixesOnGlobe (pointOf x) → asksPlace x ≡ 0
 unfolding asksPlace
-place-asked (fed.At lat lon) g = fix-asked (record { lat = lat; lon = lon }) g
+place-asked (fed.At lat lon) g = fix-asked (record { lat = lat; lon = lon }) (g .0)
 place-asked fed.Missing g = refl

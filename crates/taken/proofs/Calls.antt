@@ -32,7 +32,8 @@ use Rattle.update.specs.Update.{update}
 use Rattle.course.specs.Fix.{Fix, located}
 use Rattle.calls.specs.Fix.{fixLostMs, isAt, unfixed, cleared, missing, sameFix, headed, stillMs, stillAt, addUpdate, tellFollowing, joinedCourse, turnedBack, engagedBack, retraced, mayRetrace, joinedOrNot, fixOn, arrivedAt, newFix, seen, observe, passOnly, replay, unheaded, endReplay}
 use Rattle.calls.specs.Follow.{updateHere, brought, engagedOr, wayHome, follow, nearHere, followFrom, setFollowing, autoOff, setAutoFollow}
-use Rattle.taken.specs.Taken.{FixOnGlobe, PlaceOnGlobe}
+use Rattle.calls.specs.Calls.{pointOf}
+use Rattle.taken.specs.Taken.{FixOnGlobe, FixesOnGlobe}
 use Rattle.taken.proofs.Tests.{either, one-of}
 use Rattle.taken.proofs.Laid.{most}
 use Rattle.taken.proofs.Recording.{retrace-recorded, none-counted, more-counted}
@@ -228,7 +229,7 @@ module _ (C : ℕ) (least : 3 ≤ C) (room : C ≤ most) (course : List Crumb) (
       either (λ (d : Done Event). K (d .state)) (sameFix (s .fed) x) (λ t. still-at-kept (s .here) now _ (k .here) (kept-here-ms k))
       (λ t. new-fix-kept x now _ (kept-here-ms k) g)
 
-  pub observe-kept : (x : Fed) (now : ℕ) (s : State) → K s → PlaceOnGlobe x → K (observe C course x now s .state)
+  pub observe-kept : (x : Fed) (now : ℕ) (s : State) → K s → FixesOnGlobe (pointOf x) → K (observe C course x now s .state)
   unfolding observe
-  observe-kept (fed.At lat lon) now s k g = seen-kept (record { lat = lat; lon = lon }) now s k g
+  observe-kept (fed.At lat lon) now s k g = seen-kept (record { lat = lat; lon = lon }) now s k (g .0)
   observe-kept fed.Missing now s k g = missing-kept now s k

@@ -19,8 +19,8 @@ use Rattle.course.specs.Fix.{Fix}
 use Rattle.course.specs.Course.{points, lineOf}
 use Rattle.calls.specs.Questions.{question1, question4, stateFits, heldFits, lineFits, crumbsFit, unless, asksState, asksCrumbs, asksLine, asksBoth}
 use Rattle.calls.specs.Line.{new, setCourse}
-use Rattle.calls.specs.Calls.{Call, Reset, Len, Following, FollowingCourse, CourseAhead, Crumbs, WayBack, Heading, RouteHome, Guide, EndReplay, Course, SetCourse, SetAutoFollow, Observe, Replay, SetFollowing, asks, courseIn, performs, afterCall}
-use Rattle.taken.specs.Taken.{given, FixesOnGlobe, InRange, placedOf, Lendable, Lent, lineAfter, Own, start, called, refused, BufferAfter, EveryTaken, AnyLineAtFirst, EveryLineAgain}
+use Rattle.calls.specs.Calls.{Loan, noBuffer, crumbBuffer, lineBuffer, bothBuffers, lineForCourse, Query, Call, Ask, Reset, EndReplay, SetCourse, SetAutoFollow, Observe, Replay, SetFollowing, arguments, asksLent, asks, courseIn, performs, afterCall}
+use Rattle.taken.specs.Taken.{FixesOnGlobe, InRange, placedOf, Lendable, LendsLine, Lent, lineLeft, lineAfter, Own, start, called, refused, BufferAfter, EveryTaken, AnyLineAtFirst, EveryLineAgain}
 use Rattle.taken.proofs.Tests.{either, both, and-left, and-right}
 use Rattle.taken.proofs.Laid.{most, laid-fits}
 use Rattle.taken.proofs.State.{Lined, Kept}
@@ -126,24 +126,23 @@ module _ (size : ℕ) (passes : question1 size ≡ true) where
     both-asked lent =
         or-else-none _ _ (says-yes 1 passes) (or-else-none _ _ (says-yes 10 (both held (line-fits lent))) (says-yes 4 (lent .passes)))
 
+    lent-asked : (loan : Loan) → LendsLine l s loan → asksLent size loan s ≡ 0
+    unfolding asksLent
+    lent-asked noBuffer w = state-asked
+    lent-asked crumbBuffer w = crumbs-asked
+    lent-asked (lineBuffer b) w = line-asked w
+    lent-asked (bothBuffers b) w = both-asked w
+    lent-asked (lineForCourse b xs) w = line-asked w
+
     not-refused : (c : Call) → Lent l s c → InRange c → asks size c s ≡ 0
     unfolding asks
+    not-refused (Ask {loan = loan} q) w g = lent-asked loan w
     not-refused Reset w g = state-asked
-    not-refused Len w g = state-asked
-    not-refused Following w g = state-asked
-    not-refused FollowingCourse w g = state-asked
-    not-refused CourseAhead w g = state-asked
-    not-refused Heading w g = state-asked
-    not-refused RouteHome w g = state-asked
-    not-refused Guide w g = state-asked
     not-refused EndReplay w g = state-asked
-    not-refused Crumbs w g = crumbs-asked
-    not-refused WayBack w g = crumbs-asked
-    not-refused (SetAutoFollow on) w g = crumbs-asked
-    not-refused (Replay x now) w g = or-else-none _ _ crumbs-asked (fix-asked x g)
-    not-refused (Course b) w g = line-asked w
     not-refused (SetCourse b xs) w g = or-else-none _ _ (line-asked w) (fixes-asked xs g)
+    not-refused (SetAutoFollow on) w g = crumbs-asked
     not-refused (Observe b x now) w g = or-else-none _ _ (both-asked w) (place-asked x g)
+    not-refused (Replay x now) w g = or-else-none _ _ crumbs-asked (fix-asked x (g .0))
     not-refused (SetFollowing b on now) w g = both-asked w
 
     -- ---- what is done then
@@ -154,7 +153,7 @@ module _ (size : ℕ) (passes : question1 size ≡ true) where
 
     -- by a call
     abbrev By : Call → State → Type 0
-    By c t = Turned t (lineAfter l s c) (BufferAfter s (given c))
+    By c t = Turned t (lineAfter l s c) (BufferAfter s (arguments c .loan))
 
     -- nothing is written to the line
     abbrev Unwritten : State → Type 0
@@ -165,6 +164,14 @@ module _ (size : ℕ) (passes : question1 size ≡ true) where
 
     answered : Unwritten s
     answered = unwritten h (omega arith)
+
+    -- a call that only answers is lent no line to write to
+    asked : (loan : Loan) → Query loan → Turned s (lineLeft l s loan) (BufferAfter s loan)
+    asked noBuffer q = answered
+    asked crumbBuffer q = answered
+    asked (lineBuffer b) q = answered
+    asked (bothBuffers b) q = answered
+    asked (lineForCourse b xs) q = elim q [ ]
 
     stays : {t : State} → Kept (capacity size) (length (placedOf l s)) t → Unwritten t
     stays {t = t} k = unwritten (same-line (capacity size) t l s h k) (omega (arith, k .course .len, h .kept .course .len))
@@ -188,23 +195,14 @@ module _ (size : ℕ) (passes : question1 size ≡ true) where
 
     performed : (c : Call) → Lent l s c → InRange c → By c (performs (capacity size) c s .state)
     unfolding performs
+    performed (Ask {loan = loan} q) w g = asked loan q
     performed Reset w g = emptied (reset-kept (capacity size) _ s (h .kept))
-    performed Len w g = answered
-    performed Following w g = answered
-    performed FollowingCourse w g = answered
-    performed CourseAhead w g = answered
-    performed Crumbs w g = answered
-    performed WayBack w g = answered
-    performed Heading w g = answered
-    performed RouteHome w g = answered
-    performed Guide w g = answered
-    performed (Course b) w g = answered
     performed EndReplay w g = stays (end-replay-kept (capacity size) least most-room _ s (h .kept))
     performed (SetCourse b xs) w g = course-set b xs w g
     performed (SetAutoFollow on) w g = stays (auto-follow-kept (capacity size) least most-room _ on s (h .kept))
-    performed (Replay x now) w g = stays (replay-kept (capacity size) least most-room _ x now s (h .kept) g)
     performed (Observe b x now) w g =
         rw (w .placed) (stays (observe-kept (capacity size) least most-room (placedOf l s) (h .lined) x now s (h .kept) g))
+    performed (Replay x now) w g = stays (replay-kept (capacity size) least most-room _ x now s (h .kept) (g .0))
     performed (SetFollowing b on now) w g =
         rw (w .placed) (stays (following-kept (capacity size) least most-room (placedOf l s) (h .lined) on now s (h .kept)))
 

@@ -10,14 +10,12 @@ use lib.Ieee.{Float}
 use Rattle.plane.specs.Globe.{OnGlobe}
 use Rattle.crumbs.specs.declared.Crumb.{Crumb}
 use Rattle.crumbs.specs.Crumb.{capacity, crumbs}
-use Rattle.state.specs.declared.Place.{Place}
-use Rattle.state.specs.declared.Place.the-variants as place
 use Rattle.state.specs.State.{State}
 use Rattle.course.specs.Fix.{Fix}
 use Rattle.course.specs.Course.{lineOf}
 use Rattle.calls.specs.Questions.{question1, question4}
 use Rattle.calls.specs.Line.{new}
-use Rattle.calls.specs.Calls.{Call, Reset, Len, Following, FollowingCourse, CourseAhead, Crumbs, WayBack, Heading, RouteHome, Guide, EndReplay, Course, SetCourse, SetAutoFollow, Observe, Replay, SetFollowing, asks, courseIn, afterCall}
+use Rattle.calls.specs.Calls.{Loan, noBuffer, crumbBuffer, lineBuffer, bothBuffers, lineForCourse, Call, arguments, asks, courseIn, afterCall}
 
 -- "latitude within ±900,000,000", "longitude within ±1,800,000,000"
 abbrev pub FixOnGlobe : Fix → Type 0
@@ -27,47 +25,9 @@ abbrev pub FixesOnGlobe : List Fix → Type 0
 FixesOnGlobe [] = Unit {0}
 FixesOnGlobe (x ∷ xs) = FixOnGlobe x × FixesOnGlobe xs
 
-abbrev pub PlaceOnGlobe : Place → Type 0
-PlaceOnGlobe (place.At lat lon) = OnGlobe lat lon
-PlaceOnGlobe place.Missing = Unit {0}
-
--- ---- the calls by the line and the places they are given
-pub data Given : Type 0 where
-  neither : Given
-  line : List Float → Given
-  lineAndCourse : List Float → List Fix → Given
-  lineAndPlace : List Float → Place → Given
-  fix : Fix → Given
-
-abbrev pub given : Call → Given
-given Reset = neither
-given Len = neither
-given Following = neither
-given FollowingCourse = neither
-given CourseAhead = neither
-given Crumbs = neither
-given WayBack = neither
-given Heading = neither
-given RouteHome = neither
-given Guide = neither
-given EndReplay = neither
-given (SetAutoFollow on) = neither
-given (Course b) = line b
-given (SetFollowing b on now) = line b
-given (SetCourse b xs) = lineAndCourse b xs
-given (Observe b x now) = lineAndPlace b x
-given (Replay x now) = fix x
-
--- ---- every place that a call is given is in range
-abbrev pub PlacesInRange : Given → Type 0
-PlacesInRange neither = Unit {0}
-PlacesInRange (line b) = Unit {0}
-PlacesInRange (lineAndCourse b xs) = FixesOnGlobe xs
-PlacesInRange (lineAndPlace b x) = PlaceOnGlobe x
-PlacesInRange (fix x) = FixOnGlobe x
-
+-- every place that a call is given is in range
 abbrev pub InRange : Call → Type 0
-InRange c = PlacesInRange (given c)
+InRange c = FixesOnGlobe (arguments c .points)
 
 -- ---- the line that a call is lent. l is what `set_course` left in front of the buffer it was lent last, and no other call writes to one.
 -- what of l is placed: nothing after a reset
@@ -80,26 +40,26 @@ pub record Lendable (l : List Crumb) (s : State) (n : ℕ) (b : List Float) : Ty
   pub room : s .course .«line_len» ≤ capacity (length b)
   pub placed : courseIn b s ≡ placedOf l s
 
-abbrev pub LendsLine : List Crumb → State → Given → Type 0
-LendsLine l s neither = Unit {0}
-LendsLine l s (line b) = Lendable l s 0 b
-LendsLine l s (lineAndCourse b xs) = Lendable l s (length xs) b
-LendsLine l s (lineAndPlace b x) = Lendable l s 0 b
-LendsLine l s (fix x) = Unit {0}
+abbrev pub LendsLine : List Crumb → State → Loan → Type 0
+LendsLine l s noBuffer = Unit {0}
+LendsLine l s crumbBuffer = Unit {0}
+LendsLine l s (lineBuffer b) = Lendable l s 0 b
+LendsLine l s (bothBuffers b) = Lendable l s 0 b
+LendsLine l s (lineForCourse b xs) = Lendable l s (length xs) b
 
 abbrev pub Lent : List Crumb → State → Call → Type 0
-Lent l s c = LendsLine l s (given c)
-
-abbrev pub lineLeft : List Crumb → State → Given → List Crumb
-lineLeft l s neither = l
-lineLeft l s (line b) = l
-lineLeft l s (lineAndCourse b xs) = lineOf (s .frame) xs
-lineLeft l s (lineAndPlace b x) = l
-lineLeft l s (fix x) = l
+Lent l s c = LendsLine l s (arguments c .loan)
 
 -- what is left in front of the line after a call that was taken
+abbrev pub lineLeft : List Crumb → State → Loan → List Crumb
+lineLeft l s noBuffer = l
+lineLeft l s crumbBuffer = l
+lineLeft l s (lineBuffer b) = l
+lineLeft l s (bothBuffers b) = l
+lineLeft l s (lineForCourse b xs) = lineOf (s .frame) xs
+
 abbrev pub lineAfter : List Crumb → State → Call → List Crumb
-lineAfter l s c = lineLeft l s (given c)
+lineAfter l s c = lineLeft l s (arguments c .loan)
 
 -- ---- `Own size s l`: a guide on a crumb buffer of `size` numbers, made by `new` and called any number of times, may be in the state s, and
 -- its `set_course` has left the line l
@@ -118,13 +78,13 @@ EveryTaken =
 
 -- ---- Among those are the guides that are always lent the same buffer.
 -- the buffer b as a call leaves it: `set_course` puts its line in front of the one it is lent, p
-abbrev pub BufferAfter : State → Given → List Float → List Float → Type 0
-BufferAfter s neither b after = after ≡ b
-BufferAfter s (line p) b after = after ≡ b
-BufferAfter s (lineAndCourse p xs) b after =
+abbrev pub BufferAfter : State → Loan → List Float → List Float → Type 0
+BufferAfter s noBuffer b after = after ≡ b
+BufferAfter s crumbBuffer b after = after ≡ b
+BufferAfter s (lineBuffer p) b after = after ≡ b
+BufferAfter s (bothBuffers p) b after = after ≡ b
+BufferAfter s (lineForCourse p xs) b after =
     (length after ≡ length p) × (crumbs (length (lineOf (s .frame) xs)) after ≡ lineOf (s .frame) xs)
-BufferAfter s (lineAndPlace p x) b after = after ≡ b
-BufferAfter s (fix x) b after = after ≡ b
 
 -- any buffer that passes question 4 may be lent to a new guide, and one that may be lent may be lent again as the call leaves it
 abbrev pub AnyLineAtFirst : Type 0
@@ -133,5 +93,5 @@ AnyLineAtFirst = (b : List Float) → question4 (length b) 0 ≡ true → Lendab
 abbrev pub EveryLineAgain : Type 0
 EveryLineAgain =
     (size : ℕ) → question1 size ≡ true → (s : State) (l : List Crumb) → Own size s l
-    → (c : Call) → Lent l s c → InRange c → (b after : List Float) → Lendable l s 0 b → BufferAfter s (given c) b after
+    → (c : Call) → Lent l s c → InRange c → (b after : List Float) → Lendable l s 0 b → BufferAfter s (arguments c .loan) b after
     → Lendable (lineAfter l s c) (afterCall size c s .state) 0 after

@@ -1,7 +1,7 @@
 -- `answers::guide` meets its contract. Assumes nothing.
 use mathlib.Core.Path.{sym}
 use Rattle.calls.specs.Ask.{guide}
-use Rattle.calls.specs.Calls.{asks}
+use Rattle.calls.specs.Calls.{asksLent, asks}
 use Rattle.answers.specs.Answers.{saysShowing}
 use Rattle.answers.proofs.Answering.{no, yes}
 use borrow.Author.Needs.{needs}
@@ -12,7 +12,7 @@ asks-state-requires : tie.Need-asks-state-requires
 asks-state-requires c κs = search needs
 
 returns : tie.Need-returns
-unfolding saysShowing asks
+unfolding saysShowing asks asksLent
 returns c = record { says = λ b. no (c .before .asks-state .ensures b) _ (c .if1 .taken) }
 
 enum-known-shown : tie.Need-enum-known-shown
@@ -22,11 +22,11 @@ enum-told : tie.Need-enum-told
 enum-told c = search needs
 
 returns-2 : tie.Need-returns-2
-unfolding saysShowing asks guide
+unfolding saysShowing asks asksLent guide
 returns-2 c = record { says = λ b. yes (c .before .before .before .before .asks-state .ensures b) (c .before .before .before .if1 .left) (sym (c .before .shown .given .1)) }
 
 returns-3 : tie.Need-returns-3
-unfolding saysShowing asks guide
+unfolding saysShowing asks asksLent guide
 returns-3 c = record { says = λ b. yes (c .before .before .before .asks-state .ensures b) (c .before .before .if1 .left) (sym (c .enum-told .given .1)) }
 
 pub guide-spec : {M : Type 1} → statement M

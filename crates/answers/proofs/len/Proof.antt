@@ -1,5 +1,5 @@
 -- `answers::len` meets its contract. Assumes nothing.
-use Rattle.calls.specs.Calls.{asks}
+use Rattle.calls.specs.Calls.{asksLent, asks}
 use Rattle.answers.specs.Answers.{saysCount}
 use Rattle.answers.proofs.Answering.{no, yes, len-held}
 use borrow.Author.Needs.{needs}
@@ -10,11 +10,11 @@ asks-state-requires : tie.Need-asks-state-requires
 asks-state-requires c κs = search needs
 
 returns : tie.Need-returns
-unfolding saysCount asks
+unfolding saysCount asks asksLent
 returns c = record { says = λ b. no (c .before .asks-state .ensures b) _ (c .if1 .taken) }
 
 returns-2 : tie.Need-returns-2
-unfolding saysCount asks
+unfolding saysCount asks asksLent
 returns-2 c = record { says = λ b. yes (c .before .asks-state .ensures b) (c .if1 .left) (len-held (c .before .before .args .h) b) }
 
 pub len-spec : {M : Type 1} → statement M

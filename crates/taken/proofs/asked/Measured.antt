@@ -57,9 +57,9 @@ use Rattle.calls.specs.Fix.{fixLostMs, stillMs, isAt, cleared, missing, sameFix
 use Rattle.calls.specs.Follow.{updateHere, brought, engagedOr, wayHome, follow, nearHere, followFrom, setFollowing, autoOff, setAutoFollow}
 use Rattle.calls.specs.Line.{new, reset, offCourse, setCourse}
 use Rattle.calls.specs.Questions.{asksCrumbs, asksBoth, _orElse_}
-use Rattle.calls.specs.Calls.{Call, Reset, Len, Following, FollowingCourse, CourseAhead, Crumbs, WayBack, Heading, RouteHome, Guide, EndReplay, Course, SetCourse, SetAutoFollow, Observe, Replay, SetFollowing, asksPlace, asks, courseIn, performs, afterCall}
+use Rattle.calls.specs.Calls.{Call, Ask, Reset, EndReplay, SetCourse, SetAutoFollow, Observe, Replay, SetFollowing, pointOf, asksPlace, asks, courseIn, performs, afterCall}
 use Rattle.questions.proofs.Given.{fix-given}
-use Rattle.taken.specs.Taken.{FixOnGlobe, PlaceOnGlobe}
+use Rattle.taken.specs.Taken.{FixOnGlobe, FixesOnGlobe}
 use Rattle.taken.proofs.Tests.{either, one-of}
 use Rattle.taken.proofs.Moving.{Framed, located-framed}
 use Rattle.taken.proofs.asked.Recording.{Rounded}
@@ -310,9 +310,9 @@ module _ (C : ℕ) (least : 3 ≤ C) where
       unfolding missing cleared
       missing-measured s h = one-of Measured (isAt (s .here) && ltb fixLostMs (elapsed now (s .hereMs))) (λ _. h) (λ _. h)
 
-      observe-measured : (x : Place) → PlaceOnGlobe x → Keeps (observe C course x now)
+      observe-measured : (x : Place) → FixesOnGlobe (pointOf x) → Keeps (observe C course x now)
       unfolding observe
-      observe-measured (place.At lat lon) g s h = seen-measured (record { lat = lat; lon = lon }) g s h
+      observe-measured (place.At lat lon) g s h = seen-measured (record { lat = lat; lon = lon }) (g .0) s h
       observe-measured place.Missing g s h = missing-measured s h
 
       -- ---- following, by the rider
@@ -392,13 +392,13 @@ second : (a b : ℕ) → (a orElse b) ≡ 0 → b ≡ 0
 second zero b e = e
 second (suc a) b e = absurd (omega (arith, rw (eqb·suc-zero a) at e))
 
-place-globe : (x : Place) → asksPlace x ≡ 0 → PlaceOnGlobe x
+place-globe : (x : Place) → asksPlace x ≡ 0 → FixesOnGlobe (pointOf x)
 unfolding asksPlace
-place-globe (place.At lat lon) e = let l = fix-given (record { lat = lat; lon = lon }) e in record { latitude = l .latitude; longitude = l .longitude }
+place-globe (place.At lat lon) e = let l = fix-given (record { lat = lat; lon = lon }) e in (record { latitude = l .latitude; longitude = l .longitude }, tt)
 place-globe place.Missing e = tt
 
 fix-globe : (x : Fix) → asksPlace (place.At (x .lat) (x .lon)) ≡ 0 → FixOnGlobe x
-fix-globe x e = place-globe (place.At (x .lat) (x .lon)) e
+fix-globe x e = place-globe (place.At (x .lat) (x .lon)) e .0
 
 module _ (size : ℕ) (least : 3 ≤ capacity size) where
   performs-measured : (c : Call) (s : State) → asks size c s ≡ 0 → Measured s → M (performs (capacity size) c s)
@@ -410,16 +410,7 @@ module _ (size : ℕ) (least : 3 ≤ capacity size) where
   performs-measured (Replay x now) s e h = replay-measured (capacity size) least x now (fix-globe x (second (asksCrumbs size s) _ e)) s h
   performs-measured EndReplay s e h = h
   performs-measured (SetFollowing b on now) s e h = following-measured (capacity size) least (courseIn b s) now on s h
-  performs-measured Len s e h = h
-  performs-measured Following s e h = h
-  performs-measured FollowingCourse s e h = h
-  performs-measured CourseAhead s e h = h
-  performs-measured Crumbs s e h = h
-  performs-measured WayBack s e h = h
-  performs-measured Heading s e h = h
-  performs-measured RouteHome s e h = h
-  performs-measured Guide s e h = h
-  performs-measured (Course b) s e h = h
+  performs-measured (Ask q) s e h = h
 
   pub turn-measured : (c : Call) (s : State) → Measured s → M (afterCall size c s)
   unfolding afterCall
