@@ -14,6 +14,7 @@ use Rattle.state.specs.State.{State, withAutoFollow}
 use Rattle.state.specs.Rule.{Done, done, andThen}
 use Rattle.follow.specs.Record.{flushIn}
 use Rattle.follow.specs.Engage.{engageAt, engage, stop}
+use Rattle.matching.specs.Distances.{dropM}
 use Rattle.update.specs.Update.{update}
 
 -- the guide brought up to date where there is a place to show, and the answer yes
@@ -42,7 +43,7 @@ follow Nothing C course now s = wayHome C course now s
 
 unfoldable pub nearHere : Spot → List Crumb → Best
 nearHere spot.Nowhere course = Nothing
-nearHere (spot.At p) course = courseNear course p
+nearHere (spot.At p) course = courseNear course p dropM
 
 -- by the line that is followed already
 unfoldable pub followFrom : Line → ℕ → List Crumb → ℕ → State → Done Bool

@@ -20,6 +20,7 @@ use Rattle.state.specs.declared.Line.the-variants as line
 use Rattle.state.specs.declared.Mode.{Mode}
 use Rattle.state.specs.declared.Mode.the-variants as mode
 use Rattle.state.specs.declared.Course.{Course}
+use Rattle.matching.specs.Distances.{dropM}
 
 -- once the breadcrumb is this long
 unfoldable pub minTrackM : Float
@@ -52,6 +53,6 @@ foundAny (Found near) = true
 
 -- the course is near where nothing is followed and it lies within 500 m
 unfoldable pub nearCourse : Line → List Crumb → Point → Bool
-nearCourse line.Nothing course p = foundAny (courseNear course p)
+nearCourse line.Nothing course p = foundAny (courseNear course p dropM)
 nearCourse line.Breadcrumb course p = false
 nearCourse line.Course course p = false

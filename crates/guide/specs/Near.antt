@@ -5,7 +5,7 @@ use mathlib.Core.List.{List}
 use lib.Ieee.{le}
 use Rattle.plane.specs.declared.Point.{Point}
 use Rattle.crumbs.specs.declared.Crumb.{Crumb}
-use Rattle.segments.specs.Constants.{dropM}
+use Rattle.matching.specs.Distances.{dropM}
 use Rattle.segments.specs.Segment.{nearestOn}
 
 unfoldable pub liesNear : List Crumb → Point → ℕ → Bool

@@ -1,6 +1,7 @@
 // Where the rider is to arrive, and what the guide shows by it.
 
 use crumbs::along;
+use matching::distances;
 use plane::Point;
 use state::Line;
 use state::Mode;
@@ -11,11 +12,12 @@ ghost use Rattle.crumbs.specs.Crumb.{capacity, crumbs as heldCrumbs};
 ghost use Rattle.guide.specs.Goal.{goalOn, longEnough, modeOf, aim, foundAny, nearCourse};
 ghost use Rattle.guide.specs.Near.{liesNear, someNear};
 ghost use Rattle.search.specs.Course.{courseNear};
+ghost use Rattle.matching.specs.Distances.{dropM};
 
 // A breadcrumb this long can be ridden back to its start.
 const MIN_TRACK_M: f32 = 300.0;
 
-// The least square whose root is above `segments::DROP_M`.
+// The least square whose root is above `distances::DROP_M`.
 const BAR: f32 = 250000.015625;
 
 // Where the rider is to arrive: the course's end while it is followed, else the start.
@@ -65,14 +67,14 @@ pub fn aim(p: Point, goal: Point, target: Point) -> Point
     target
 }
 
-// Whether segment `end` of the course lies within `segments::DROP_M`. A square of `BAR` or more has a root above that.
+// Whether segment `end` of the course lies within `distances::DROP_M`. A square of `BAR` or more has a root above that.
 fn lies_near(line: &[f32], len: usize, p: Point, end: usize) -> bool
     requires { ⌜ (1 ≤ end) × (end < len) × (len ≤ capacity (length (now line))) ⌝ }
     ensures { λ r. ⌜ r ≡ liesNear (heldCrumbs len (now (line .entry))) p end ⌝ }
 {
     let square = segments::square_on(line, len, p, end);
     if square < BAR {
-        return binary32::sqrtf(square) <= segments::DROP_M;
+        return binary32::sqrtf(square) <= distances::DROP_M;
     }
     false
 }
@@ -95,7 +97,7 @@ fn some_near(line: &[f32], len: usize, p: Point) -> bool
 // Whether the course's nearest segment does: some segment, and the first tried is no NaN away.
 fn found_near(line: &[f32], len: usize, p: Point) -> bool
     requires { ⌜ len ≤ capacity (length (now line)) ⌝ }
-    ensures { λ r. ⌜ r ≡ foundAny (courseNear (heldCrumbs len (now (line .entry))) p) ⌝ }
+    ensures { λ r. ⌜ r ≡ foundAny (courseNear (heldCrumbs len (now (line .entry))) p dropM) ⌝ }
 {
     if len < 2 {
         return false;
@@ -107,7 +109,7 @@ fn found_near(line: &[f32], len: usize, p: Point) -> bool
     false
 }
 
-// The course is near where nothing is followed and it lies within `segments::DROP_M`.
+// The course is near where nothing is followed and it lies within `distances::DROP_M`.
 pub fn near_course(on: Line, line: &[f32], len: usize, p: Point) -> bool
     requires { ⌜ len ≤ capacity (length (now line)) ⌝ }
     ensures { λ r. ⌜ r ≡ nearCourse on (heldCrumbs len (now (line .entry))) p ⌝ }

@@ -13,7 +13,7 @@ use Rattle.segments.specs.declared.costs.Nearest.{Nearest}
 use Rattle.segments.specs.declared.Best.{Best}
 use Rattle.segments.specs.declared.Best.the-variants.{Nothing, Found}
 use Rattle.search.specs.declared.Range.{Range}
-use Rattle.segments.specs.Constants.{dropM}
+use Rattle.matching.specs.Distances.{offM, dropM}
 use Rattle.trail.proofs.Theorems.{holding}
 use Rattle.search.proofs.Theorems.{breadcrumb-met}
 use Rattle.search.proofs.course_match.Theorems.{course-met}
@@ -24,7 +24,7 @@ use Rattle.state.specs.declared.Event.the-variants as event
 use Rattle.state.specs.State.{State, withFollow, withArrived}
 use Rattle.state.specs.Rule.{Done, done}
 use Rattle.matching.specs.declared.followed.Way.{Way}
-use Rattle.matching.specs.Match.{onLine, aroundSegment, nearer, offM, followMatched}
+use Rattle.matching.specs.Match.{onLine, aroundSegment, nearer, followMatched}
 use Rattle.matching.specs.Followed.{followed, progress, nearest, widened}
 use Rattle.update.specs.Update.{begun, matchedAt, endedWith, atCourseEnd, matchedTo, matchFrom, followOn, update}
 use Rattle.guide.specs.Guide.{offCleared, arrivalFrom, finished, direct, leaveM, arriveM}

@@ -4,7 +4,7 @@ use mathlib.Core.Bool.{Bool, true, false, _||_}
 use mathlib.Core.List.{List}
 use lib.ListN.{length}
 use lib.Ieee.{Float, lt}
-use Rattle.binary32.specs.Arithmetic.{_⊕_, _⊖_, constant}
+use Rattle.binary32.specs.Arithmetic.{_⊕_, _⊖_}
 use Rattle.binary32.specs.Limits.{maxZero}
 use Rattle.plane.specs.declared.Point.{Point}
 use Rattle.crumbs.specs.declared.Crumb.{Crumb}
@@ -23,11 +23,8 @@ use Rattle.state.specs.declared.Mode.the-variants as mode
 use Rattle.state.specs.declared.Course.{Course}
 use Rattle.state.specs.State.{State}
 use Rattle.matching.specs.declared.followed.Way.{Way}
-use Rattle.matching.specs.Match.{nearer, offM}
-
--- the point steered to lies this far ahead, 40 m
-unfoldable pub lookaheadM : Float
-lookaheadM = constant 40 1
+use Rattle.matching.specs.Distances.{offM, lookaheadM}
+use Rattle.matching.specs.Match.{nearer}
 
 -- the crumbs of the line followed: the course while it is followed, else the breadcrumb
 unfoldable pub followedOn : Line → List Crumb → List Crumb → List Crumb

@@ -1,3 +1,4 @@
+pub mod Distances
 pub mod Match
 pub mod Followed
 pub mod View

@@ -3,7 +3,6 @@ use Prim.Native.Nat.{ℕ, _+_, _-_, min, max}
 use mathlib.Core.Bool.{Bool, true, false, _&&_, not, cond}
 use lib.Dec.{leb}
 use lib.Ieee.{Float, nan, inf, fin, lt, le}
-use Rattle.binary32.specs.Arithmetic.{constant}
 use Rattle.plane.specs.declared.Point.{Point}
 use Rattle.plane.specs.declared.Spot.the-variants.{At}
 use Rattle.crumbs.specs.Crumb.{point}
@@ -12,18 +11,13 @@ use Rattle.segments.specs.declared.costs.Nearest.{Nearest}
 use Rattle.segments.specs.declared.Best.{Best}
 use Rattle.segments.specs.declared.Best.the-variants.{Nothing, Found}
 use Rattle.search.specs.declared.Range.{Range}
-use Rattle.segments.specs.CostConstants.{onM}
 use Rattle.state.specs.declared.Line.{Line}
 use Rattle.state.specs.declared.Line.the-variants as line
 use Rattle.state.specs.declared.Event.{Event}
 use Rattle.state.specs.declared.Event.the-variants as event
 use Rattle.state.specs.declared.Follow.{Follow}
 use Rattle.state.specs.declared.Course.{Course}
-
--- ---- distances and times
--- "Off sets above 50 m"
-unfoldable pub offM : Float
-offM = constant 50 1
+use Rattle.matching.specs.Distances.{offM, onM}
 
 -- "A reminder comes after 60,000 ms, only on the breadcrumb."
 abbrev pub remindMs : ℕ

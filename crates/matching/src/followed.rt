@@ -1,5 +1,6 @@
 // The followed line: how long it is, the match of a fix on it, and the way on along it.
 
+use crate::distances;
 use plane::Heading;
 use plane::Point;
 use search::Range;
@@ -18,11 +19,9 @@ ghost use lib.ListN.{length};
 ghost use Rattle.binary32.specs.Arithmetic.{_⊖_};
 ghost use Rattle.binary32.specs.Limits.{maxZero};
 ghost use Rattle.search.specs.Along.{atAlong};
-ghost use Rattle.matching.specs.Followed.{nearest, widened, lookaheadM, wayOn};
+ghost use Rattle.matching.specs.Distances.{lookaheadM};
+ghost use Rattle.matching.specs.Followed.{nearest, widened, wayOn};
 ghost use Rattle.matching.specs.View.{lenOn, followedBy, lineIn, Lent, WhereFollowed, matchIn};
-
-// Following steers to the line this far ahead.
-const LOOKAHEAD_M: f32 = 40.0;
 
 // What is followed: which line, how many crumbs it has, the segment last matched, whether the rider was off the
 // line, and how far on the course.
@@ -132,7 +131,7 @@ fn ahead(f: Followed, crumbs: &[f32], line: &[f32], near: Nearest) -> Point
     requires { ⌜ (1 ≤ near .end) × (near .end < f .len) ⌝ }
     ensures { λ r. ⌜ r ≡ atAlong (lineIn f (now (crumbs .entry)) (now (line .entry))) (near .end) (maxZero (near .along ⊖ lookaheadM)) ⌝ }
 {
-    let along = binary32::max_zero(near.along - LOOKAHEAD_M);
+    let along = binary32::max_zero(near.along - distances::LOOKAHEAD_M);
     let on = f.on;
     let len = f.len;
     match on {

@@ -1,11 +1,12 @@
 // What a match on the followed line says: on it or off it, whether it is reminded of, and where the next is looked for.
+// `distances` says how far is off and how far is on, `followed` what is followed and where it is matched.
 
+pub mod distances;
 pub mod followed;
 
 use plane::Point;
 use plane::Spot;
 use segments::Best;
-use segments::costs;
 use segments::costs::Nearest;
 use state::Course;
 use state::Event;
@@ -15,10 +16,8 @@ ghost use mathlib.Core.Path.{_≡_};
 ghost use mathlib.Core.Bool.{_||_};
 ghost use Prim.Native.Nat.{_+_, _-_, _<_, min, max};
 ghost use lib.Ieee.{lt};
-ghost use Rattle.matching.specs.Match.{onCourse, onLine, searchBack, searchAhead, nearer, offM, offNow, minimum, stillOff, offEvent, due, remindedAt, followMatched, courseMatched};
-
-// Off the line beyond this, back on within `costs::ON_M`.
-const OFF_M: f32 = 50.0;
+ghost use Rattle.matching.specs.Distances.{offM};
+ghost use Rattle.matching.specs.Match.{onCourse, onLine, searchBack, searchAhead, nearer, offNow, minimum, stillOff, offEvent, due, remindedAt, followMatched, courseMatched};
 
 // Segments behind and ahead of the last match searched first.
 const SEARCH_BACK: usize = 64;
@@ -52,14 +51,14 @@ pub fn on_line(line: Line) -> bool
 
 // ---- the match
 
-// Off sets above `OFF_M`, and clears within `costs::ON_M`.
+// Off sets above `distances::OFF_M`, and clears within `distances::ON_M`.
 pub fn off_now(was: bool, off: f32) -> bool
     ensures { λ r. ⌜ r ≡ offNow was off ⌝ }
 {
     if was {
-        return off > costs::ON_M;
+        return off > distances::ON_M;
     }
-    off > OFF_M
+    off > distances::OFF_M
 }
 
 // The smaller of two; of a number and a NaN the number.
@@ -193,5 +192,5 @@ pub fn lost(was: bool, off: f32) -> bool
     if was {
         return true;
     }
-    OFF_M < off
+    distances::OFF_M < off
 }

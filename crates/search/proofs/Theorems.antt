@@ -24,10 +24,9 @@ use Rattle.segments.specs.declared.Stretch.{Stretch}
 use Rattle.search.specs.declared.Join.the-variants.{Segment}
 use Rattle.segments.specs.Turn.{turned}
 use Rattle.segments.specs.Cost.{plain, costOf}
-use Rattle.segments.specs.Constants.{largest, lowest, dropM}
 use Rattle.segments.specs.Line.{at}
 use Rattle.segments.specs.Segment.{nearestOn, costWithin, considered, found}
-use Rattle.search.specs.Search.{falling, count, every, anywhere, nearestOnBreadcrumb, nearestWithin}
+use Rattle.search.specs.Search.{largest, lowest, falling, count, every, anywhere, nearestOnBreadcrumb, nearestWithin}
 use Rattle.search.specs.Course.{closer, costAnywhere, courseNear, joins, joinedFrom, joined}
 use Rattle.search.specs.Along.{placeBefore, ends as leading}
 use Rattle.search.specs.Theorems.{Met, FirstOfLeast, Finds, EveryBreadcrumb, EveryCourse, EveryFinding}
@@ -79,11 +78,12 @@ module _ (line : List Crumb) (p : Point) where
       by-test true t f = let g : other ≡ near = cc in (f, ap (λ n. le (n .off) most) (sym g) ∙ t)
       by-test false t f = let z : _≡_ {A = ℕ} 0 1 = cc in absurd (omega arith)
 
-  -- a segment of the line, at most 500 m away
-  pub course-near-met : (near : Nearest) → courseNear line p ≡ Found near → Met line p (every line) near × (le (near .off) dropM ≡ true)
+  -- a segment of the line, at most so far away
+  pub course-near-met : (most : Float) (near : Nearest) → courseNear line p most ≡ Found near
+      → Met line p (every line) near × (le (near .off) most ≡ true)
   unfolding courseNear
-  course-near-met near e =
-      let f = closer-than dropM (found (falling (considered line p (costAnywhere line p)) (count (every line)) (every line .to) Empty)) near e in (
+  course-near-met most near e =
+      let f = closer-than most (found (falling (considered line p (costAnywhere line p)) (count (every line)) (every line .to) Empty)) near e in (
         chosen-met line p (costAnywhere line p) Higher higher-one-way (every line) _
             (falling-all line p (costAnywhere line p) Higher higher-one-way (λ e f h. h) (every line) (omega arith)) near (f .0) .0,
         f .1,

@@ -3,6 +3,7 @@ use Prim.Native.Nat.{ℕ, zero, suc}
 use mathlib.Core.Bool.{Bool, true, false, _&&_, cond}
 use mathlib.Core.List.{List}
 use lib.Ieee.{Float, lt, le}
+use Rattle.binary32.specs.Arithmetic.{constant}
 use Rattle.plane.specs.declared.Point.{Point}
 use Rattle.plane.specs.Plane.{offSegment}
 use Rattle.crumbs.specs.declared.Crumb.{Crumb}
@@ -14,9 +15,7 @@ use Rattle.segments.specs.declared.SoFar.the-variants.{Empty}
 use Rattle.search.specs.declared.Join.{Join}
 use Rattle.search.specs.declared.Join.the-variants.{Segment, NoSegment}
 use Rattle.segments.specs.Turn.{sameWay}
-use Rattle.segments.specs.CostConstants.{onM}
 use Rattle.segments.specs.Cost.{plain}
-use Rattle.segments.specs.Constants.{dropM}
 use Rattle.segments.specs.Line.{at}
 use Rattle.segments.specs.Segment.{nearestOn, considered, found}
 use Rattle.search.specs.Search.{falling, count, every}
@@ -31,14 +30,18 @@ closer most (Found near) = cond (le (near .off) most) (Found near) Nothing
 unfoldable pub costAnywhere : List Crumb → Point → ℕ → Cost
 costAnywhere line p end = plain (nearestOn line p end)
 
--- homing.rs, `course_near`: the nearest segment of the whole course, the highest end first, if it lies within 500 m
-unfoldable pub courseNear : List Crumb → Point → Best
-courseNear line p =
-    closer dropM (found (falling (considered line p (costAnywhere line p)) (count (every line)) (every line .to) Empty))
+-- homing.rs, `course_near`: the nearest segment of the whole course, the highest end first, if it lies within `most` metres
+unfoldable pub courseNear : List Crumb → Point → Float → Best
+courseNear line p most =
+    closer most (found (falling (considered line p (costAnywhere line p)) (count (every line)) (every line .to) Empty))
+
+-- homing.rs, `joining`: `off_segment(p, a, b) < ON_M`
+unfoldable pub joinM : Float
+joinM = constant 25 1
 
 -- homing.rs, `joining`: whether a rider at p is on the segment from a to b, less than 25 m from it, riding its way
 unfoldable pub joins : Point → ℕ → Crumb → Crumb → Bool
-joins p heading a b = lt (offSegment p (point a) (point b)) onM && sameWay heading a b
+joins p heading a b = lt (offSegment p (point a) (point b)) joinM && sameWay heading a b
 
 -- the highest end from `end` down whose segment the rider is on
 unfoldable pub joinedFrom : List Crumb → Point → ℕ → ℕ → Join

@@ -3,7 +3,7 @@ use Prim.Native.Nat.{_-_}
 use mathlib.Core.Bool.{Bool, true, false, _&&_}
 use mathlib.Core.List.{List}
 use lib.Ieee.{Float, lt}
-use Rattle.binary32.specs.Arithmetic.{_⊕_, _⊖_}
+use Rattle.binary32.specs.Arithmetic.{_⊕_, _⊖_, constant}
 use Rattle.plane.specs.declared.Point.{Point}
 use Rattle.plane.specs.declared.Spot.{Spot}
 use Rattle.plane.specs.declared.Spot.the-variants.{At, Nowhere}
@@ -19,9 +19,24 @@ use Rattle.segments.specs.declared.Stretch.{Stretch}
 use Rattle.search.specs.declared.course_match.Progress.{Progress}
 use Rattle.segments.specs.Turn.{against}
 use Rattle.segments.specs.CostConstants.{slipM}
-use Rattle.segments.specs.Constants.{jumpM, backM, nearM, hopM}
 use Rattle.segments.specs.Line.{at}
 use Rattle.search.specs.Search.{nearestWithin}
+
+-- ---- distances of homing.rs, `nearest`, in metres
+-- how far on towards the course's end the match moves in one fix, and how far back
+unfoldable pub jumpM : Float
+jumpM = constant 500 1
+
+unfoldable pub backM : Float
+backM = constant 25 1
+
+-- how far on the stretch reaches that is matched first
+unfoldable pub nearM : Float
+nearM = constant 100 1
+
+-- a fix further than this from the one last matched follows a gap
+unfoldable pub hopM : Float
+hopM = constant 40 1
 
 -- ---- the course while it is followed
 -- from `on` metres ahead of a place on the course to 25 m behind it; along falls towards the course's end

@@ -1,7 +1,10 @@
 -- The nearest segment of a line to a position. homing.rs, `nearest_within`.
-use Prim.Native.Nat.{ℕ, zero, suc, _+_, _-_}
+use Prim.Native.Nat.{ℕ, zero, suc, _+_, _-_, _^_}
+use mathlib.Core.Bool.{true, false}
 use mathlib.Core.List.{List}
 use lib.ListN.{length}
+use lib.IntN.{pos}
+use lib.Ieee.{Float, fin}
 use Rattle.plane.specs.declared.Point.{Point}
 use Rattle.crumbs.specs.declared.Crumb.{Crumb}
 use Rattle.segments.specs.declared.costs.Ranking.{Ranking}
@@ -11,7 +14,6 @@ use Rattle.segments.specs.declared.SoFar.{SoFar}
 use Rattle.segments.specs.declared.SoFar.the-variants.{Empty}
 use Rattle.search.specs.declared.Range.{Range}
 use Rattle.segments.specs.declared.Stretch.{Stretch}
-use Rattle.segments.specs.Constants.{largest, lowest}
 use Rattle.segments.specs.Segment.{considered, costWithin, found}
 
 -- `left` ends considered one after the other, from `end` up
@@ -31,6 +33,13 @@ count ends = ends .to + 1 - ends .from
 -- every segment of a line
 abbrev pub every : List Crumb → Range
 every line = record { from = 1; to = length line - 1 }
+
+-- `f32::MAX` and `f32::MIN`: the largest finite value, and its negative
+unfoldable pub largest : Float
+largest = fin false (2 ^ 24 - 1) (pos 104)
+
+unfoldable pub lowest : Float
+lowest = fin true (2 ^ 24 - 1) (pos 104)
 
 -- all of f32's range
 abbrev pub anywhere : Stretch

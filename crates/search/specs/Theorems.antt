@@ -15,10 +15,9 @@ use Rattle.segments.specs.declared.Stretch.{Stretch}
 use Rattle.segments.specs.declared.Best.{Best}
 use Rattle.segments.specs.declared.Best.the-variants.{Found}
 use Rattle.search.specs.declared.Range.{Range}
-use Rattle.segments.specs.Constants.{largest, lowest}
 use Rattle.segments.specs.Line.{at}
 use Rattle.segments.specs.Segment.{nearestOn, costWithin}
-use Rattle.search.specs.Search.{anywhere, nearestOnBreadcrumb, nearestWithin}
+use Rattle.search.specs.Search.{largest, lowest, anywhere, nearestOnBreadcrumb, nearestWithin}
 
 -- `near` is where p meets a segment of the line, one of those tried
 pub record Met (line : List Crumb) (p : Point) (ends : Range) (near : Nearest) : Type 0 where

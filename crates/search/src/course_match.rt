@@ -19,6 +19,18 @@ ghost use Rattle.segments.specs.Cost.{on};
 ghost use Rattle.search.specs.CourseMatch.{afterGap, around, inReach, onNear, slidesBack, firstFound, settled, nearestOnCourse};
 ghost use Rattle.search.specs.Along.{ends};
 
+// The match moves at most this far on towards the course's end in one fix,
+const JUMP_M: f32 = 500.0;
+
+// and back only this far behind where it was.
+const BACK_M: f32 = 25.0;
+
+// The stretch this little on from where the rider was is matched first.
+const NEAR_M: f32 = 100.0;
+
+// A fix this far from the last one matched follows a gap.
+const HOP_M: f32 = 40.0;
+
 // How far the rider has come on the course, in metres to its end where last matched and at the
 // furthest, with the fix last matched and the heading.
 pub struct Progress {
@@ -35,7 +47,7 @@ fn after_gap(fix: Spot, p: Point) -> bool
     let Spot::At(last) = fix else {
         return true;
     };
-    plane::distance(last, p) > segments::HOP_M
+    plane::distance(last, p) > HOP_M
 }
 
 // From `on` metres ahead of a place on the course to `BACK_M` behind it.
@@ -44,7 +56,7 @@ fn around(along: f32, on: f32) -> Stretch
 {
     Stretch {
         floor: along - on,
-        ceiling: along + segments::BACK_M,
+        ceiling: along + BACK_M,
     }
 }
 
@@ -53,7 +65,7 @@ fn in_reach(line: &[f32], len: usize, p: Point, ends: Range, along: f32, by: Ran
     requires { ⌜ (1 ≤ ends .from) × (ends .to < len) × (len ≤ capacity (length (now line))) ⌝ }
     ensures { λ r. ⌜ r ≡ inReach (crumbs len (now (line .entry))) p ends along by ⌝ }
 {
-    quick::nearest_within(line, len, p, ends, around(along, segments::JUMP_M), by)
+    quick::nearest_within(line, len, p, ends, around(along, JUMP_M), by)
 }
 
 // The pass of the near stretch that the rider is on.
@@ -66,7 +78,7 @@ fn on_near(line: &[f32], len: usize, p: Point, ends: Range, was: Progress) -> Be
         reached: was.reached,
         heading,
     };
-    quick::nearest_within(line, len, p, ends, around(was.along, segments::NEAR_M), by)
+    quick::nearest_within(line, len, p, ends, around(was.along, NEAR_M), by)
 }
 
 // Whether a match slides back against the rider's way.

@@ -21,6 +21,18 @@ ghost use Rattle.search.specs.Search.{nearestOnBreadcrumb, nearestWithin
 ghost use Rattle.search.specs.Course.{closer, courseNear, joins, joined};
 ghost use Rattle.search.specs.Along.{shareAlong, pointAlong, atAlong, ends};
 
+// Rust's `f32::MAX`,
+const LARGEST: f32 = 340282346638528859811704183484516925440.0;
+
+// and `f32::MIN`.
+const LOWEST: f32 = -340282346638528859811704183484516925440.0;
+
+// A rider less than this off the course, and riding its way, joins it,
+const JOIN_M: f32 = 25.0;
+
+// and this is a square whose root is above that.
+const JOIN_FAR: f32 = 626.0;
+
 // The ends that a search tries, both included.
 pub struct Range {
     pub from: usize,
@@ -39,8 +51,8 @@ pub fn nearest_on_breadcrumb(line: &[f32], len: usize, p: Point, ends: Range) ->
     ensures { λ r. ⌜ r ≡ nearestOnBreadcrumb (crumbs len (now (line .entry))) p ends ⌝ }
 {
     let anywhere = Stretch {
-        floor: segments::LOWEST,
-        ceiling: segments::LARGEST,
+        floor: LOWEST,
+        ceiling: LARGEST,
     };
     let mut best = SoFar::Empty;
     let mut end = ends.from;
@@ -74,10 +86,10 @@ pub fn nearest_within(
     segments::found(best)
 }
 
-// The course's nearest segment if it lies within `DROP_M`.
-pub fn course_near(line: &[f32], len: usize, p: Point) -> Best
+// The course's nearest segment if it lies within `most` metres.
+pub fn course_near(line: &[f32], len: usize, p: Point, most: f32) -> Best
     requires { ⌜ len ≤ capacity (length (now line)) ⌝ }
-    ensures { λ r. ⌜ r ≡ courseNear (crumbs len (now (line .entry))) p ⌝ }
+    ensures { λ r. ⌜ r ≡ courseNear (crumbs len (now (line .entry))) p most ⌝ }
 {
     let mut best = SoFar::Empty;
     let mut end = len;
@@ -86,7 +98,7 @@ pub fn course_near(line: &[f32], len: usize, p: Point) -> Best
         let near = segments::nearest_on(line, len, p, end);
         best = segments::cheaper(best, near, costs::plain(near));
     }
-    closer(segments::DROP_M, segments::found(best))
+    closer(most, segments::found(best))
 }
 
 // A found segment that lies within `most` metres.
@@ -108,10 +120,10 @@ fn joins(p: Point, heading: u16, a: Crumb, b: Crumb) -> bool
 {
     let from = crumbs::point(a);
     let to = crumbs::point(b);
-    if !(squares::off_square(p, from, to) < segments::FAR) {
+    if !(squares::off_square(p, from, to) < JOIN_FAR) {
         return false;
     }
-    if plane::off_segment(p, from, to) < costs::ON_M {
+    if plane::off_segment(p, from, to) < JOIN_M {
         return turns::same_way(heading, a, b);
     }
     false

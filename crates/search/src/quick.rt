@@ -68,13 +68,13 @@ pub fn nearest_on_breadcrumb(line: &[f32], len: usize, p: Point, ends: Range) ->
     ensures { λ r. ⌜ r ≡ nearestOnBreadcrumb (crumbs len (now (line .entry))) p ends ⌝ }
 {
     let anywhere = Stretch {
-        floor: segments::LOWEST,
-        ceiling: segments::LARGEST,
+        floor: crate::LOWEST,
+        ceiling: crate::LARGEST,
     };
     let mut lead = Lead {
         best: 0,
         least: 0.0,
-        before: segments::LARGEST,
+        before: crate::LARGEST,
     };
     let mut end = ends.from;
     while end <= ends.to {
@@ -99,7 +99,7 @@ fn plainly_within(line: &[f32], len: usize, p: Point, ends: Range, within: Stret
     let mut lead = Lead {
         best: 0,
         least: 0.0,
-        before: segments::LARGEST,
+        before: crate::LARGEST,
     };
     let mut end = ends.to;
     while ends.from <= end {

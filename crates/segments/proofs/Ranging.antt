@@ -18,11 +18,10 @@ use Rattle.segments.specs.declared.costs.Cost.{Cost}
 use Rattle.segments.specs.declared.costs.Cost.the-variants.{Out, Metres}
 use Rattle.segments.specs.declared.costs.Ranking.{Ranking}
 use Rattle.segments.specs.declared.costs.Ranking.the-variants.{Plain, On, Ahead}
-use Rattle.segments.specs.CostConstants.{onM}
+use Rattle.segments.specs.CostConstants.{searchM}
 use Rattle.segments.specs.Cost.{plain, on, ahead, costOf}
 use Rattle.plane.specs.Square.{offSquare}
 use Rattle.plane.proofs.squares.Far.{far-off, off-fits, off-not-below, off-is}
-use Rattle.binary32.proofs.roots.Order.{not-less}
 use Rattle.binary32.proofs.roots.Monotone.{clear}
 use Rattle.segments.specs.Line.{at}
 use Rattle.segments.specs.Segment.{meets, nearestOn}
@@ -46,15 +45,12 @@ module _ (line : List Crumb) (p : Point) (end : ℕ) where
   on-not-below = off-not-below p (point (at line (end - 1))) (point (at line end))
 
 -- ---- 626.0
-abbrev pub bar : Float
+abbrev bar : Float
 bar = ofBits binary32 0x441c_8000
 
-above : lt onM (root binary32 bar) ≡ true
-unfolding onM constant ofBits root lt
+above : lt searchM (root binary32 bar) ≡ true
+unfolding searchM constant ofBits root lt
 above = refl
-
-pub not-on : (p a b : Point) → lt (offSquare p a b) bar ≡ false → lt (offSegment p a b) onM ≡ false
-not-on p a b h = not-less (offSegment p a b) onM (far-off bar onM (ofBits-fits binary32 0x441c_8000) above p a b h)
 
 pub flip : (b : Bool) → not b ≡ true → b ≡ false
 flip true h = never (sym h)
@@ -65,9 +61,9 @@ flop true h = refl
 flop false h = never h
 
 module _ (by : Ranking) (p : Point) (a b : Crumb) {s : Float} (S : s ≡ offSquare p (point a) (point b)) where
-  off-at : (end : ℕ) → not (lt s bar) ≡ true → le (meets a b p end .off) onM ≡ false
+  off-at : (end : ℕ) → not (lt s bar) ≡ true → le (meets a b p end .off) searchM ≡ false
   unfolding meets offSegment
-  off-at end h = far-off bar onM (ofBits-fits binary32 0x441c_8000) above p (point a) (point b) (subst (λ (z : Float). lt z bar ≡ false) S (flip (lt s bar) h))
+  off-at end h = far-off bar searchM (ofBits-fits binary32 0x441c_8000) above p (point a) (point b) (subst (λ (z : Float). lt z bar ≡ false) S (flip (lt s bar) h))
 
   pub far-on : {reached : Float} {heading : Heading} → by ≡ On reached heading → not (lt s bar) ≡ true → (end : ℕ) → costOf by (meets a b p end) a b ≡ Out
   unfolding costOf on

@@ -11,7 +11,7 @@ use Rattle.segments.specs.declared.costs.Cost.{Cost}
 use Rattle.segments.specs.declared.costs.Cost.the-variants.{Out, Metres}
 use Rattle.segments.specs.declared.costs.Ranking.{Ranking}
 use Rattle.segments.specs.declared.costs.Ranking.the-variants.{Plain, On, Ahead}
-use Rattle.segments.specs.CostConstants.{onM, slipM, againstM}
+use Rattle.segments.specs.CostConstants.{searchM, slipM, againstM}
 
 -- how far off it is
 unfoldable pub plain : Nearest → Cost
@@ -28,12 +28,12 @@ contrary heading a b = elim (against heading a b) [ true ↦ againstM | false �
 -- within 25 m: how far off, how far behind, and whether against the rider's way
 unfoldable pub on : Float → Heading → Nearest → Crumb → Crumb → Cost
 on reached heading near a b =
-    elim (le (near .off) onM) [ true ↦ Metres (near .off ⊕ back reached near ⊕ contrary heading a b) | false ↦ Out ]
+    elim (le (near .off) searchM) [ true ↦ Metres (near .off ⊕ back reached near ⊕ contrary heading a b) | false ↦ Out ]
 
 -- within 25 m and not against the rider's way: how far off
 unfoldable pub ahead : Heading → Nearest → Crumb → Crumb → Cost
 ahead heading near a b =
-    elim (le (near .off) onM) [
+    elim (le (near .off) searchM) [
       | true ↦ elim (against heading a b) [ true ↦ Out | false ↦ plain near ]
       | false ↦ Out
     ]

@@ -2,9 +2,9 @@
 use lib.Ieee.{Float}
 use Rattle.binary32.specs.Arithmetic.{constant}
 
--- Document 01, "Guide and event": "clears at 25 m or less", "Course end: off ≤ 25"
-unfoldable pub onM : Float
-onM = constant 25 1
+-- homing.rs, `nearest`: in the closures `on` and `ahead` a segment further off than this is out
+unfoldable pub searchM : Float
+searchM = constant 25 1
 
 -- how far behind the furthest place reached costs nothing
 unfoldable pub slipM : Float

@@ -7,11 +7,13 @@ use plane::Point;
 ghost use mathlib.Core.Path.{_≡_};
 ghost use Rattle.segments.specs.Cost.{plain, contrary, on, ahead, costOf};
 
-// On the line within this.
-pub const ON_M: f32 = 25.0;
+// Where the rider is matched first, a segment further off than this is not searched,
+pub const SEARCH_M: f32 = 25.0;
 
-// Where the rider is matched first, a place more than this behind the furthest the rider has been counts as
-// that much farther off,
+// and this is a square whose root is above that.
+pub const FAR: f32 = 626.0;
+
+// A place more than this behind the furthest the rider has been counts there as that much farther off,
 pub const SLIP_M: f32 = 10.0;
 
 // and one against the rider's way as this much farther.
@@ -56,22 +58,22 @@ fn contrary(heading: Heading, a: Crumb, b: Crumb) -> f32
     0.0
 }
 
-// Within `ON_M`: how far off, how far behind the furthest reached, and whether against the way.
+// Within `SEARCH_M`: how far off, how far behind the furthest reached, and whether against the way.
 fn on(reached: f32, heading: Heading, near: Nearest, a: Crumb, b: Crumb) -> Cost
     ensures { λ r. ⌜ r ≡ on reached heading near a b ⌝ }
 {
-    if near.off <= ON_M {
+    if near.off <= SEARCH_M {
         let back = binary32::max_zero(near.along - reached - SLIP_M);
         return Cost::Metres(near.off + back + contrary(heading, a, b));
     }
     Cost::Out
 }
 
-// Within `ON_M` and not against the way: how far off.
+// Within `SEARCH_M` and not against the way: how far off.
 fn ahead(heading: Heading, near: Nearest, a: Crumb, b: Crumb) -> Cost
     ensures { λ r. ⌜ r ≡ ahead heading near a b ⌝ }
 {
-    if near.off <= ON_M {
+    if near.off <= SEARCH_M {
         if turns::against(heading, a, b) {
             return Cost::Out;
         }

@@ -24,30 +24,6 @@ ghost use Rattle.segments.specs.declared.costs.Cost.the-variants.{Out};
 ghost use Rattle.segments.specs.Cost.{costOf};
 ghost use Rattle.segments.specs.Square.{squareOn};
 
-// Following stops this far from the line, and a course this near can be followed.
-pub const DROP_M: f32 = 500.0;
-
-// Following the course, the match moves at most this far on towards its end in one fix,
-pub const JUMP_M: f32 = 500.0;
-
-// and back only this far behind where it was.
-pub const BACK_M: f32 = costs::ON_M;
-
-// The stretch this little on from where the rider was is matched first.
-pub const NEAR_M: f32 = 100.0;
-
-// A fix this far from the last one matched follows a gap.
-pub const HOP_M: f32 = 40.0;
-
-// Rust's `f32::MAX`.
-pub const LARGEST: f32 = 340282346638528859811704183484516925440.0;
-
-// Rust's `f32::MIN`.
-pub const LOWEST: f32 = -340282346638528859811704183484516925440.0;
-
-// A square whose root is above `costs::ON_M`.
-pub const FAR: f32 = 626.0;
-
 // The segment that a search puts first.
 pub enum Best {
     Nothing,
@@ -92,7 +68,7 @@ pub fn square_on(line: &[f32], len: usize, p: Point, end: usize) -> f32
     squares::off_square(p, crumbs::point(a), crumbs::point(b))
 }
 
-// Whether a ranking certainly has no cost for the segment from `a` to `b`: it lies further off than `costs::ON_M`. No root
+// Whether a ranking certainly has no cost for the segment from `a` to `b`: it lies further off than `costs::SEARCH_M`. No root
 // is taken.
 fn too_far(by: Ranking, p: Point, a: Crumb, b: Crumb) -> bool
     ensures { λ r. ⌜ (r ≡ true → (end : ℕ) → costOf by (meets a b p end) a b ≡ Out) ⌝ }
@@ -103,8 +79,8 @@ fn too_far(by: Ranking, p: Point, a: Crumb, b: Crumb) -> bool
         Ranking::On {
             reached: _,
             heading: _,
-        } => !(square < FAR),
-        Ranking::Ahead { heading: _ } => !(square < FAR),
+        } => !(square < costs::FAR),
+        Ranking::Ahead { heading: _ } => !(square < costs::FAR),
     }
 }
 

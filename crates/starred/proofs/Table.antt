@@ -20,8 +20,8 @@ use Rattle.thin.specs.Questions.{question9}
 use Rattle.thin.specs.Promises.{thinAnswer}
 use Rattle.lap.specs.Pass.{passArmM, passM, passEndM, fromStage, stepOf}
 use Rattle.state.specs.Guide.{arrow, arrowFrom}
-use Rattle.segments.specs.CostConstants.{onM}
-use Rattle.matching.specs.Match.{offM, offNow}
+use Rattle.matching.specs.Distances.{offM, onM}
+use Rattle.matching.specs.Match.{offNow}
 use Rattle.rebuild.proofs.Starred as rebuild
 use Rattle.starred.specs.Table.{Table}
 

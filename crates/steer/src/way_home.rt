@@ -1,6 +1,7 @@
 // The breadcrumb followed back, and the guide brought up to date with what is followed.
 
 use follow::Answered;
+use matching::distances;
 use plane::Spot;
 use segments::Best;
 use state::Homing;
@@ -66,5 +67,5 @@ pub fn near_here(h: Homing, line: &[f32]) -> Best
         return Best::Nothing;
     };
     let len = h.course.line_len;
-    search::course_near(line, len, p)
+    search::course_near(line, len, p, distances::DROP_M)
 }

@@ -105,7 +105,7 @@ module _ (C : ℕ) (least : 3 ≤ C) (room : C ≤ most) (course : List Crumb) (
   unfolding nearHere
   near-here-on spot.Nowhere near h e = let z : _≡_ {A = ℕ} 0 1 = cc in absurd (omega arith)
   near-here-on (spot.At p) near h e =
-      let m = course-near-met course p near e .0 in
+      let m = course-near-met course p _ near e .0 in
       let some : 1 ≤ length course = omega (arith, m .from, m .to) in
       met-on course p _ near lined h (omega arith) (omega arith) m
 

@@ -17,7 +17,7 @@ use Rattle.segments.specs.declared.costs.Nearest.{Nearest}
 use Rattle.segments.specs.declared.Best.{Best}
 use Rattle.segments.specs.declared.Best.the-variants.{Nothing, Found}
 use Rattle.search.specs.declared.Range.{Range}
-use Rattle.segments.specs.Constants.{dropM}
+use Rattle.matching.specs.Distances.{offM, dropM}
 use Rattle.search.proofs.Theorems.{breadcrumb-met}
 use Rattle.search.proofs.course_match.Theorems.{course-met}
 use Rattle.crumbs.specs.Along.{startOf}
@@ -33,7 +33,7 @@ use Rattle.state.specs.Rule.{Done}
 use Rattle.matching.specs.declared.followed.Way.{Way}
 use Rattle.guide.specs.Guide.{leaveM, arriveM, offCleared, arrivalFrom, guideAt, finished, direct}
 use Rattle.guide.specs.Goal.{goalOn, longEnough}
-use Rattle.matching.specs.Match.{onCourse, onLine, aroundSegment, nearer, offM, isNumber, minimum, followMatched, courseMatched}
+use Rattle.matching.specs.Match.{onCourse, onLine, aroundSegment, nearer, isNumber, minimum, followMatched, courseMatched}
 use Rattle.matching.specs.Followed.{followedOn, followed, progress, nearest, widened}
 use Rattle.update.specs.Update.{begun, matchedAt, endedWith, atCourseEnd, matchedTo, matchFrom, followOn, update}
 use Rattle.calls.specs.Questions.{guideFits, shownFits}

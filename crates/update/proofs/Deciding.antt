@@ -12,8 +12,7 @@ use Rattle.crumbs.specs.declared.Crumb.{Crumb}
 use Rattle.segments.specs.declared.costs.Nearest.{Nearest}
 use Rattle.segments.specs.declared.Best.{Best}
 use Rattle.segments.specs.declared.Best.the-variants.{Nothing, Found}
-use Rattle.segments.specs.CostConstants.{onM}
-use Rattle.segments.specs.Constants.{dropM}
+use Rattle.matching.specs.Distances.{dropM}
 use Rattle.segments.specs.Inner.{InLine}
 use Rattle.state.specs.declared.Line.{Line}
 use Rattle.state.specs.declared.Event.{Event}
@@ -29,7 +28,7 @@ use Rattle.matching.proofs.followed.Lines.{match-in}
 use Rattle.guide.specs.Guide.{arriveM, direct}
 use Rattle.update.specs.declared.Outcome.{Outcome}
 use Rattle.update.specs.declared.Outcome.the-variants.{Stays, Ends, GoesOn}
-use Rattle.update.specs.Update.{begun, matchedAt, atCourseEnd, endedWith, matchedTo, matchFrom, followOn, update}
+use Rattle.update.specs.Update.{courseEndM, begun, matchedAt, atCourseEnd, endedWith, matchedTo, matchFrom, followOn, update}
 use Rattle.update.specs.View.{comesTo}
 
 -- ---- at the course's end
@@ -37,18 +36,18 @@ module _ (near : Nearest) (on : Line) (s : State) (is : s .follow .line ≡ on) 
   abbrev tests : Bool → Bool → Bool
   tests course close = course && close && lt (near .along) arriveM
 
-  on-line : tests (onCourse on) (le (near .off) onM) ≡ atCourseEnd s near
+  on-line : tests (onCourse on) (le (near .off) courseEndM) ≡ atCourseEnd s near
   unfolding atCourseEnd
-  on-line = sym (ap (λ (x : Line). tests (onCourse x) (le (near .off) onM)) is)
+  on-line = sym (ap (λ (x : Line). tests (onCourse x) (le (near .off) courseEndM)) is)
 
-  pub course-ends : onCourse on ≡ true → le (near .off) onM ≡ true → lt (near .along) arriveM ≡ atCourseEnd s near
-  course-ends c o = sym (ap (λ (x : Bool). tests x (le (near .off) onM)) c ∙ ap (λ (x : Bool). tests true x) o) ∙ on-line
+  pub course-ends : onCourse on ≡ true → le (near .off) courseEndM ≡ true → lt (near .along) arriveM ≡ atCourseEnd s near
+  course-ends c o = sym (ap (λ (x : Bool). tests x (le (near .off) courseEndM)) c ∙ ap (λ (x : Bool). tests true x) o) ∙ on-line
 
-  pub far-from-course : onCourse on ≡ true → le (near .off) onM ≡ false → false ≡ atCourseEnd s near
-  far-from-course c o = sym (ap (λ (x : Bool). tests x (le (near .off) onM)) c ∙ ap (λ (x : Bool). tests true x) o) ∙ on-line
+  pub far-from-course : onCourse on ≡ true → le (near .off) courseEndM ≡ false → false ≡ atCourseEnd s near
+  far-from-course c o = sym (ap (λ (x : Bool). tests x (le (near .off) courseEndM)) c ∙ ap (λ (x : Bool). tests true x) o) ∙ on-line
 
   pub no-course : onCourse on ≡ false → false ≡ atCourseEnd s near
-  no-course c = sym (ap (λ (x : Bool). tests x (le (near .off) onM)) c) ∙ on-line
+  no-course c = sym (ap (λ (x : Bool). tests x (le (near .off) courseEndM)) c) ∙ on-line
 
 -- ---- dropped, at the course's end, or matched
 module _ (C now : ℕ) (course : List Crumb) (p : Point) (s : State) where

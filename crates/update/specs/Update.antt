@@ -4,15 +4,15 @@ use mathlib.Core.Bool.{Bool, true, false, _&&_}
 use mathlib.Core.List.{List}
 use lib.Dec.{leb}
 use lib.ListN.{length}
-use lib.Ieee.{lt, le}
+use lib.Ieee.{Float, lt, le}
+use Rattle.binary32.specs.Arithmetic.{constant}
 use Rattle.plane.specs.declared.Point.{Point}
 use Rattle.crumbs.specs.declared.Crumb.{Crumb}
 use Rattle.lap.specs.Lap.{stepPass}
 use Rattle.segments.specs.declared.costs.Nearest.{Nearest}
-use Rattle.segments.specs.CostConstants.{onM}
 use Rattle.segments.specs.declared.Best.{Best}
 use Rattle.segments.specs.declared.Best.the-variants.{Nothing, Found}
-use Rattle.segments.specs.Constants.{dropM}
+use Rattle.matching.specs.Distances.{dropM}
 use Rattle.state.specs.declared.Event.{Event}
 use Rattle.state.specs.declared.Event.the-variants as event
 use Rattle.state.specs.State.{State, withFollow, withCourse, withLap, withUpdatedMs}
@@ -39,8 +39,11 @@ endedWith e C course p now s =
     andThen (stop C s) λ _ after. andThen (direct course p (begun p now after)) λ _ last. done e last
 
 -- "Course end: off ≤ 25 and along < 30."
+unfoldable pub courseEndM : Float
+courseEndM = constant 25 1
+
 unfoldable pub atCourseEnd : State → Nearest → Bool
-atCourseEnd s near = onCourse (s .follow .line) && le (near .off) onM && lt (near .along) arriveM
+atCourseEnd s near = onCourse (s .follow .line) && le (near .off) courseEndM && lt (near .along) arriveM
 
 -- "Dropped above 500 m."
 unfoldable pub matchedTo : ℕ → List Crumb → Point → ℕ → Nearest → State → Done Event

@@ -4,11 +4,11 @@ use crumbs::along;
 use guide::Display;
 use guide::Standing;
 use guide::Told;
+use matching::distances;
 use matching::followed;
 use matching::followed::Followed;
 use plane::Point;
 use segments::Best;
-use segments::costs;
 use segments::costs::Nearest;
 use state::Course;
 use state::Event;
@@ -32,6 +32,9 @@ ghost use Rattle.guide.specs.View.{Tells, courseHeld, displaying, WhereStanding
 ghost use Rattle.update.specs.Update.{begun, matchedAt, atCourseEnd, endedWith, matchedTo, followOn, update};
 ghost use Rattle.update.specs.View.{Updates, comesTo, MatchedIn, Becomes};
 
+// A rider this near the course comes to its end there.
+const COURSE_END_M: f32 = 25.0;
+
 // What becomes of a following.
 enum Outcome {
     // Nothing is followed that leads on: straight to the start.
@@ -51,7 +54,7 @@ fn at_course_end(on: Line, near: Nearest) -> bool
     ensures { λ r. ⌜ ((s : State) → s .follow .line ≡ on → r ≡ atCourseEnd s near) ⌝ }
 {
     if matching::on_course(on) {
-        if near.off <= costs::ON_M {
+        if near.off <= COURSE_END_M {
             return near.along < guide::ARRIVE_M;
         }
     }
@@ -64,7 +67,7 @@ fn matched_to(on: Line, near: Nearest) -> Outcome
         → matchedTo C course p at near s ≡ comesTo r C course p at s) ⌝ }
     ensures { λ r. ⌜ ((len : ℕ) → (1 ≤ near .end) × (near .end < len) → MatchedIn len r) ⌝ }
 {
-    if near.off > segments::DROP_M {
+    if near.off > distances::DROP_M {
         return Outcome::Ends(Event::Dropped);
     }
     if at_course_end(on, near) {

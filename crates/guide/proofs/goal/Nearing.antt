@@ -17,7 +17,7 @@ use Rattle.segments.specs.declared.costs.Nearest.{Nearest}
 use Rattle.segments.specs.Cost.{plain}
 use Rattle.segments.specs.declared.SoFar.{SoFar}
 use Rattle.segments.specs.declared.SoFar.the-variants.{Empty, Least}
-use Rattle.segments.specs.Constants.{dropM}
+use Rattle.matching.specs.Distances.{dropM}
 use Rattle.segments.specs.Segment.{nearestOn, cheaper, considered, found}
 use Rattle.segments.specs.Square.{squareOn}
 use Rattle.segments.proofs.Ranging.{on-is, on-fits, on-not-below}
@@ -165,7 +165,7 @@ module _ (line : List Crumb) (p : Point) where
       go false n = still-far k (near (suc k)) (near (suc k) .off) refl r n
 
   abbrev any : Bool
-  any = foundAny (courseNear line p)
+  any = foundAny (courseNear line p dropM)
 
   any-is : any ≡ shown (falling rule (length line - 1) (length line - 1) Empty)
   unfolding courseNear

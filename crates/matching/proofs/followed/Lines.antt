@@ -26,7 +26,8 @@ use Rattle.state.specs.declared.Line.{Line}
 use Rattle.state.specs.declared.Line.the-variants as line
 use Rattle.state.specs.State.{State}
 use Rattle.matching.specs.declared.followed.Followed.{Followed}
-use Rattle.matching.specs.Match.{onLine, offM, nearer, aroundSegment}
+use Rattle.matching.specs.Distances.{offM}
+use Rattle.matching.specs.Match.{onLine, nearer, aroundSegment}
 use Rattle.matching.specs.Followed.{followedOn, followed, nearest, progress, widened}
 use Rattle.matching.specs.View.{lenOn, followedBy, lineIn, Lent, IsFollowed, widenedFrom, matchIn}
 use Rattle.matching.proofs.Choosing.{picked, passed-by}

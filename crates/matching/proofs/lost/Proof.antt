@@ -1,7 +1,7 @@
 -- `matching::lost` meets its contract. Assumes nothing.
 use lib.Ieee.{ofBits}
 use Rattle.binary32.specs.Arithmetic.{constant}
-use Rattle.matching.specs.Match.{offM}
+use Rattle.matching.specs.Distances.{offM}
 use Rattle.matching.proofs.lost.Statement.{statement}
 use Rattle.matching.proofs.lost.Tie as tie
 

@@ -1,8 +1,8 @@
 -- `matching::off_now` meets its contract. Assumes nothing.
 use lib.Ieee.{ofBits}
 use Rattle.binary32.specs.Arithmetic.{constant}
-use Rattle.segments.specs.CostConstants.{onM}
-use Rattle.matching.specs.Match.{offM, offNow}
+use Rattle.matching.specs.Distances.{offM, onM}
+use Rattle.matching.specs.Match.{offNow}
 use Rattle.matching.proofs.off_now.Statement.{statement}
 use Rattle.matching.proofs.off_now.Tie as tie
 

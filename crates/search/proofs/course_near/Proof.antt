@@ -3,11 +3,8 @@ use Prim.Native.Nat.{_-_, _≤_}
 use mathlib.Core.Path.{ap, _∙_}
 use native.Mathlib.Omega.{arith}
 use borrow.Author.Needs.{needs}
-use lib.Ieee.{ofBits}
-use Rattle.binary32.specs.Arithmetic.{constant}
 use Rattle.crumbs.proofs.Crumbs.{length-crumbs}
 use Rattle.crumbs.specs.Crumb.{crumbs}
-use Rattle.segments.specs.Constants.{dropM}
 use Rattle.search.specs.Course.{closer, costAnywhere, courseNear}
 use Rattle.segments.specs.Segment.{considered, found}
 use Rattle.search.specs.Search.{every}
@@ -16,11 +13,11 @@ use Rattle.search.proofs.course_near.Statement.{statement}
 use Rattle.search.proofs.course_near.Tie as tie
 
 abbrev Inv-loop : tie.InvT-loop
-Inv-loop line len p best₀ end₀ best end =
+Inv-loop line len p most best₀ end₀ best end =
     (end ≤ len) × Falls (considered (crumbs len line) p (costAnywhere (crumbs len line) p)) (every (crumbs len line)) best (end - 1)
 
 abbrev μ-loop : tie.MeasureT-loop
-μ-loop line len p best₀ end₀ best end = end
+μ-loop line len p most best₀ end₀ best end = end
 
 loop-holds : tie.Need-loop-holds Inv-loop μ-loop
 loop-holds c = (omega arith, falls-from (simp length-crumbs))
@@ -55,10 +52,10 @@ closer-requires : tie.Need-closer-requires Inv-loop μ-loop
 closer-requires c κs = search needs
 
 returns : tie.Need-returns Inv-loop μ-loop
-unfolding courseNear dropM constant ofBits
+unfolding courseNear
 returns c =
     c .closer .ensures
-    ∙ ap (closer dropM) (c .before .found .ensures ∙ ap found (falls-out (c .before .before .before .loop .inv .1) (omega arith)))
+    ∙ ap (closer _) (c .before .found .ensures ∙ ap found (falls-out (c .before .before .before .loop .inv .1) (omega arith)))
 
 pub course-near-spec : {M : Type 1} → statement M
 course-near-spec =

@@ -3,9 +3,9 @@ use borrow.Author.Needs.{needs}
 use lib.Ieee.{ofBits}
 use Rattle.binary32.specs.Arithmetic.{constant}
 use Rattle.crumbs.specs.Crumb.{point}
-use Rattle.segments.specs.CostConstants.{onM}
-use Rattle.segments.proofs.Ranging.{not-on, flip}
-use Rattle.search.specs.Course.{joins}
+use Rattle.segments.proofs.Ranging.{flip}
+use Rattle.search.specs.Course.{joinM, joins}
+use Rattle.search.proofs.Joining.{not-joined}
 use Rattle.search.proofs.joins.Statement.{statement}
 use Rattle.search.proofs.joins.Tie as tie
 
@@ -19,12 +19,12 @@ off-square-requires : tie.Need-off-square-requires
 off-square-requires c κs = search needs
 
 returns : tie.Need-returns
-unfolding joins onM constant ofBits
+unfolding joins joinM constant ofBits
 returns c =
     let d = c .before in
     let g = d .before .before .before .args in
     let e = d .off-square .ensures in
-    let k = not-on (g .p) (point (g .a)) (point (g .b)) (simp (← d .before .before .point .ensures, ← d .before .point2 .ensures, ← e) (flip _ (c .if1 .taken))) in
+    let k = not-joined (g .p) (point (g .a)) (point (g .b)) (simp (← d .before .before .point .ensures, ← d .before .point2 .ensures, ← e) (flip _ (c .if1 .taken))) in
     simp k
 
 off-segment-requires : tie.Need-off-segment-requires
@@ -34,13 +34,13 @@ same-way-requires : tie.Need-same-way-requires
 same-way-requires c κs = search needs
 
 returns-2 : tie.Need-returns-2
-unfolding joins onM constant ofBits
+unfolding joins joinM constant ofBits
 returns-2 c =
     let d = c .before .before .before .before .before in
     simp (← d .before .point .ensures, ← d .point2 .ensures, ← c .before .before .off-segment .ensures, c .before .if2 .taken, c .same-way .ensures)
 
 returns-3 : tie.Need-returns-3
-unfolding joins onM constant ofBits
+unfolding joins joinM constant ofBits
 returns-3 c =
     let d = c .before .before .before .before in
     simp (← d .before .point .ensures, ← d .point2 .ensures, ← c .before .off-segment .ensures, c .if2 .left)

@@ -6,9 +6,8 @@ use borrow.Author.Needs.{needs}
 use lib.Ieee.{ofBits}
 use Rattle.crumbs.specs.Crumb.{crumbs}
 use Rattle.segments.specs.declared.costs.Ranking.the-variants.{Plain}
-use Rattle.segments.specs.Constants.{lowest, largest}
 use Rattle.segments.specs.Segment.{considered, costWithin, found}
-use Rattle.search.specs.Search.{nearestOnBreadcrumb}
+use Rattle.search.specs.Search.{lowest, largest, nearestOnBreadcrumb}
 use Rattle.search.proofs.Searching.{Rises, rises-start, rises-on, rises-out}
 use Rattle.search.proofs.nearest_on_breadcrumb.Statement.{statement}
 use Rattle.search.proofs.nearest_on_breadcrumb.Tie as tie

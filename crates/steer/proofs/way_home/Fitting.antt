@@ -17,6 +17,7 @@ use Rattle.crumbs.proofs.Crumbs.{length-crumbs}
 use Rattle.segments.specs.declared.Best.{Best}
 use Rattle.segments.specs.declared.Best.the-variants.{Nothing, Found}
 use Rattle.search.specs.Course.{courseNear}
+use Rattle.matching.specs.Distances.{dropM}
 use Rattle.search.proofs.Theorems.{course-near-met}
 use Rattle.trail.specs.declared.Trail.{Trail}
 use Rattle.trail.specs.Trail.{windowPlaces}
@@ -212,10 +213,10 @@ module _ (f : Homing) (e : Answered) (course : List Crumb) (now : ℕ) (b : List
 pub near-in : (here : Spot) (h : Homing) (b : List Float) → InLine (h .course .«line_len») (nearHere here (courseOf h b))
 unfolding nearHere
 near-in Nowhere h b = tt
-near-in (At p) h b = found (courseNear (courseOf h b) p) refl
+near-in (At p) h b = found (courseNear (courseOf h b) p dropM) refl
   where
-    found : (best : Best) → courseNear (courseOf h b) p ≡ best → InLine (h .course .«line_len») best
+    found : (best : Best) → courseNear (courseOf h b) p dropM ≡ best → InLine (h .course .«line_len») best
     found Nothing e = tt
     found (Found near) e =
-        let met = course-near-met (courseOf h b) p near e .0 in
+        let met = course-near-met (courseOf h b) p dropM near e .0 in
         (met .from, omega (arith, met .from, met .to, length-crumbs (h .course .«line_len») b))

@@ -29,7 +29,7 @@ use Rattle.segments.specs.declared.Best.{Best}
 use Rattle.segments.specs.declared.Best.the-variants.{Nothing, Found}
 use Rattle.search.specs.declared.Join.{Join}
 use Rattle.search.specs.declared.Join.the-variants.{Segment, NoSegment}
-use Rattle.segments.specs.Constants.{dropM}
+use Rattle.matching.specs.Distances.{dropM}
 use Rattle.crumbs.specs.Along.{alongTo, alongBehind, recordedM, realongBehind, realong}
 use Rattle.trail.specs.Trail.{Track, fresh, thin, put, wait}
 use Rattle.trail.specs.Trail as trail

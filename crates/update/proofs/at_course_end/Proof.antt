@@ -2,8 +2,8 @@
 use mathlib.Core.Path.{sym, _∙_}
 use lib.Ieee.{ofBits}
 use Rattle.binary32.specs.Arithmetic.{constant}
-use Rattle.segments.specs.CostConstants.{onM}
 use Rattle.guide.specs.Guide.{arriveM}
+use Rattle.update.specs.Update.{courseEndM}
 use Rattle.update.proofs.Deciding.{course-ends, far-from-course, no-course}
 use borrow.Author.Needs.{needs}
 use Rattle.update.proofs.at_course_end.Statement.{statement}
@@ -13,14 +13,14 @@ on-course-requires : tie.Need-on-course-requires
 on-course-requires c κs = search needs
 
 returns : tie.Need-returns
-unfolding onM arriveM constant ofBits
+unfolding courseEndM arriveM constant ofBits
 returns c = λ s is.
     let course = c .before .before .before in
     let g = course .before .before .args in
     course-ends (g .near) (g .on) s is (sym (course .before .on-course .ensures) ∙ course .if1 .taken) (c .before .if2 .taken)
 
 returns-2 : tie.Need-returns-2
-unfolding onM constant ofBits
+unfolding courseEndM constant ofBits
 returns-2 c = λ s is.
     let course = c .before .before in
     let g = course .before .before .args in

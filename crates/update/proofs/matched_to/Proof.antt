@@ -2,7 +2,7 @@
 use mathlib.Core.Path.{sym, _∙_}
 use lib.Ieee.{ofBits}
 use Rattle.binary32.specs.Arithmetic.{constant}
-use Rattle.segments.specs.Constants.{dropM}
+use Rattle.matching.specs.Distances.{dropM}
 use Rattle.update.proofs.Deciding.{drops, reaches-end, goes-on}
 use borrow.Author.Needs.{needs}
 use Rattle.update.proofs.matched_to.Statement.{statement}

@@ -2,7 +2,7 @@
 use borrow.Author.Needs.{needs}
 use lib.Ieee.{ofBits}
 use Rattle.binary32.specs.Arithmetic.{constant}
-use Rattle.segments.specs.Constants.{dropM}
+use Rattle.matching.specs.Distances.{dropM}
 use Rattle.guide.proofs.goal.Nearing.{lies, lies-not}
 use Rattle.guide.proofs.goal.lies_near.Statement.{statement}
 use Rattle.guide.proofs.goal.lies_near.Tie as tie

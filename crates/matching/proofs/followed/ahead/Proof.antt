@@ -4,7 +4,8 @@ use mathlib.Core.Path.{_∙_}
 use lib.Ieee.{ofBits}
 use Rattle.binary32.specs.Arithmetic.{constant}
 use Rattle.state.specs.declared.Line.the-variants as line
-use Rattle.matching.specs.Followed.{lookaheadM, followedOn}
+use Rattle.matching.specs.Distances.{lookaheadM}
+use Rattle.matching.specs.Followed.{followedOn}
 use Rattle.matching.proofs.followed.Lines.{lent-as, ahead-as}
 use borrow.Author.Needs.{needs}
 use Rattle.matching.proofs.followed.ahead.Statement.{statement}

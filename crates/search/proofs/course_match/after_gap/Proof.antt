@@ -2,8 +2,7 @@
 use borrow.Author.Needs.{needs}
 use lib.Ieee.{ofBits}
 use Rattle.binary32.specs.Arithmetic.{constant}
-use Rattle.segments.specs.Constants.{hopM}
-use Rattle.search.specs.CourseMatch.{afterGap}
+use Rattle.search.specs.CourseMatch.{hopM, afterGap}
 use Rattle.search.proofs.course_match.after_gap.Statement.{statement}
 use Rattle.search.proofs.course_match.after_gap.Tie as tie
 

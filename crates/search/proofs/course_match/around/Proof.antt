@@ -2,14 +2,12 @@
 use mathlib.Core.Path.{refl}
 use lib.Ieee.{ofBits}
 use Rattle.binary32.specs.Arithmetic.{constant}
-use Rattle.segments.specs.CostConstants.{onM}
-use Rattle.segments.specs.Constants.{backM}
-use Rattle.search.specs.CourseMatch.{around}
+use Rattle.search.specs.CourseMatch.{backM, around}
 use Rattle.search.proofs.course_match.around.Statement.{statement}
 use Rattle.search.proofs.course_match.around.Tie as tie
 
 returns : tie.Need-returns
-unfolding around backM onM constant ofBits
+unfolding around backM constant ofBits
 returns c = refl
 
 pub around-spec : {M : Type 1} → statement M

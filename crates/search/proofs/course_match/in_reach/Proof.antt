@@ -2,8 +2,7 @@
 use borrow.Author.Needs.{needs}
 use lib.Ieee.{ofBits}
 use Rattle.binary32.specs.Arithmetic.{constant}
-use Rattle.segments.specs.Constants.{jumpM}
-use Rattle.search.specs.CourseMatch.{inReach}
+use Rattle.search.specs.CourseMatch.{jumpM, inReach}
 use Rattle.search.proofs.course_match.in_reach.Statement.{statement}
 use Rattle.search.proofs.course_match.in_reach.Tie as tie
 

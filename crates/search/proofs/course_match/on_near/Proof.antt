@@ -2,8 +2,7 @@
 use borrow.Author.Needs.{needs}
 use lib.Ieee.{ofBits}
 use Rattle.binary32.specs.Arithmetic.{constant}
-use Rattle.segments.specs.Constants.{nearM}
-use Rattle.search.specs.CourseMatch.{onNear}
+use Rattle.search.specs.CourseMatch.{nearM, onNear}
 use Rattle.search.proofs.course_match.on_near.Statement.{statement}
 use Rattle.search.proofs.course_match.on_near.Tie as tie
 

@@ -6,9 +6,8 @@ use native.Mathlib.Omega.{arith}
 use borrow.Author.Needs.{needs}
 use lib.Ieee.{ofBits}
 use Rattle.crumbs.specs.Crumb.{crumbs}
-use Rattle.segments.specs.Constants.{lowest, largest}
 use Rattle.segments.specs.Segment.{found}
-use Rattle.search.specs.Search.{nearestOnBreadcrumb}
+use Rattle.search.specs.Search.{lowest, largest, nearestOnBreadcrumb}
 use Rattle.search.proofs.quick.Leading.{Races, races-start, races-on, races-none, races-one, counted}
 use Rattle.search.proofs.quick.nearest_on_breadcrumb.Statement.{statement}
 use Rattle.search.proofs.quick.nearest_on_breadcrumb.Tie as tie

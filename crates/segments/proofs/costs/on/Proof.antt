@@ -2,7 +2,7 @@
 use borrow.Author.Needs.{needs}
 use lib.Ieee.{ofBits}
 use Rattle.binary32.specs.Arithmetic.{constant}
-use Rattle.segments.specs.CostConstants.{onM, slipM}
+use Rattle.segments.specs.CostConstants.{searchM, slipM}
 use Rattle.segments.specs.Cost.{on, back}
 use Rattle.segments.proofs.costs.on.Statement.{statement}
 use Rattle.segments.proofs.costs.on.Tie as tie
@@ -14,11 +14,11 @@ contrary-requires : tie.Need-contrary-requires
 contrary-requires c κs = search needs
 
 returns : tie.Need-returns
-unfolding on back onM slipM constant ofBits
+unfolding on back searchM slipM constant ofBits
 returns c = simp (c .before .before .before .before .if1 .taken, ← c .contrary .ensures, ← c .before .before .max-zero .ensures, on)
 
 returns-2 : tie.Need-returns-2
-unfolding on onM constant ofBits
+unfolding on searchM constant ofBits
 returns-2 c = simp (c .if1 .left, on)
 
 pub on-spec : {M : Type 1} → statement M
