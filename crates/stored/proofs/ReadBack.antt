@@ -1,9 +1,9 @@
 -- What was stored is read back, field by field. Assumes nothing.
 use Prim.Native.Nat.{ℕ, _+_, _<_}
 use mathlib.Core.Path.{_≡_, refl, ap, _∙_}
-use mathlib.Core.Bool.{true, _&&_}
+use mathlib.Core.Bool.{true, _&&_, cond}
 use mathlib.Core.List.{List, _++_}
-use mathlib.Core.Option.{some}
+use mathlib.Core.Option.{none, some}
 use native.Mathlib.Omega.{arith}
 use borrow.Author.Tests.{le-leb}
 use lib.Dec.{leb, eqb}
@@ -14,10 +14,11 @@ use Rattle.plane.specs.declared.Heading.the-variants as heading
 use Rattle.lap.specs.declared.Stage.the-variants as stage
 use Rattle.state.specs.declared.Line.the-variants as line
 use Rattle.state.specs.declared.Mode.the-variants as mode
+use Rattle.state.specs.declared.Shown.the-variants as shown
 use Rattle.state.specs.declared.Homing.{Homing}
 use Rattle.stored.specs.Fields.{most32, most16, most8, within, wordAt, flagAt, signedAt, spotAt, headingAt, placeRead}
-use Rattle.stored.specs.Stored.{mark, mosts, homingAt, holds, heldIf, stored, wordsOf, headOf, numbersOf, StateFits, ReadBack}
-use Rattle.stored.specs.Parts.{numberCount, trailAt, frameAt, motionAt, followAt, courseAt, lapAt, guideRead, shownOf, guideIn, shownFlag}
+use Rattle.stored.specs.Stored.{mark, mosts, homingAt, holds, stored, wordsOf, headOf, numbersOf, StateFits, ReadBack}
+use Rattle.stored.specs.Parts.{numberCount, trailAt, frameAt, motionAt, followAt, courseAt, lapAt, guideRead, shownAt, guideIn, shownFlag}
 use Rattle.stored.proofs.fields.Limits.{within-more, within-at}
 use Rattle.stored.proofs.fields.Same.{narrow-same, flag-same, line-same, stage-same, mode-same, spot-same, heading-back}
 use Rattle.stored.proofs.parts.Parts.{place-back, shown-same}
@@ -116,9 +117,9 @@ module _ (h : Homing) (fits : StateFits h) (ws : List ℕ) (ns : List Float) whe
     heading = heading-back (guideIn (h .guide) .heading) (at 44 (omega arith)) i;
   }
 
-  shown-back : shownOf (flagAt W 34) (guideRead W) ≡ h .guide
-  unfolding wordsOf
-  shown-back = ap (shownOf (eqb (shownFlag (h .guide)) 1)) guide-back ∙ shown-same (h .guide)
+  shown-back : shownAt W ≡ h .guide
+  unfolding shownAt wordsOf
+  shown-back = ap (λ g. cond (eqb (shownFlag (h .guide)) 1) (shown.Guide g) shown.Nothing) guide-back ∙ shown-same (h .guide)
 
   flags-back : (flagAt W 28 ≡ h .«auto_follow») × (flagAt W 29 ≡ h .arrived)
   unfolding wordsOf
@@ -167,4 +168,4 @@ module _ (h : Homing) (fits : StateFits h) (ws : List ℕ) (ns : List Float) whe
 pub read-back : ReadBack
 unfolding stored
 read-back h fits ws ns =
-    ap (λ b. heldIf b (homingAt (wordsOf h ++ ws) (numbersOf h ++ ns))) (holds-it h fits ws ns) ∙ ap some (homing-back h fits ws ns)
+    ap (λ b. cond b (some (homingAt (wordsOf h ++ ws) (numbersOf h ++ ns))) none) (holds-it h fits ws ns) ∙ ap some (homing-back h fits ws ns)

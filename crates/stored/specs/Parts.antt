@@ -1,18 +1,16 @@
 -- The parts of a guide's state: how each is read, and the words that it is written as. Where a part stands among the words and the
 -- numbers is in the table of crates/stored/specs/Stored.antt.
 use Prim.Native.Nat.{ℕ}
-use mathlib.Core.Bool.{Bool, true, false}
+use mathlib.Core.Bool.{cond}
 use mathlib.Core.List.{List, [], _∷_, _++_}
 use lib.Ieee.{Float}
 use mir.Syntax.{w32}
 use mir.Val.{SFits}
 use Rattle.plane.specs.declared.Heading.{Heading}
-use Rattle.plane.specs.declared.Heading.the-variants as heading
 use Rattle.motion.specs.declared.Motion.{Motion}
 use Rattle.lap.specs.declared.Lap.{Lap}
 use Rattle.trail.specs.declared.Trail.{Trail}
 use Rattle.state.specs.declared.Place.{Place}
-use Rattle.state.specs.declared.Mode.the-variants as mode
 use Rattle.state.specs.declared.Frame.{Frame}
 use Rattle.state.specs.declared.Follow.{Follow}
 use Rattle.state.specs.declared.Course.{Course}
@@ -113,28 +111,14 @@ guideRead w =
       heading = headingAt w 43;
     }
 
-abbrev pub shownOf : Bool → Guide → Shown
-shownOf true g = shown.Guide g
-shownOf false g = shown.Nothing
+unfoldable pub shownAt : List ℕ → Shown
+shownAt w = cond (flagAt w 34) (shown.Guide (guideRead w)) shown.Nothing
 
 -- ---- written
-abbrev pub blank : Guide
-blank =
-    record {
-      mode = mode.Direct;
-      following = false;
-      course = false;
-      «course_near» = false;
-      «direct_m» = 0;
-      «track_m» = 0;
-      «off_m» = 0;
-      bearing = 0;
-      heading = heading.Unknown;
-    }
-
+-- where no guide is shown, one whose words are 0
 abbrev pub guideIn : Shown → Guide
 guideIn (shown.Guide g) = g
-guideIn shown.Nothing = blank
+guideIn shown.Nothing = guideRead []
 
 abbrev pub shownFlag : Shown → ℕ
 shownFlag (shown.Guide g) = 1

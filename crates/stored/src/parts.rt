@@ -16,10 +16,11 @@ use state::Shown;
 use trail::Trail;
 ghost use mathlib.Core.Path.{_≡_};
 ghost use mathlib.Core.Bool.{true};
+ghost use mathlib.Core.List.{[]};
 ghost use Prim.Native.Nat.{_+_, _≤_};
 ghost use lib.ListN.{length, take, drop};
 ghost use Rattle.stored.specs.Fields.{within, flagAt};
-ghost use Rattle.stored.specs.Parts.{wordCount, numberCount, windowAt, trailAt, frameAt, motionAt, followAt, courseAt, lapAt, guideRead, shownOf, blank as blankGuide, guideIn, shownFlag, placeWords, headingWords, motionWords, followWords, courseWords, lapWords, guideWords, placeMosts, headingMosts, motionMosts, followMosts, courseMosts, lapMosts, guideMosts, PlaceFits};
+ghost use Rattle.stored.specs.Parts.{wordCount, numberCount, windowAt, trailAt, frameAt, motionAt, followAt, courseAt, lapAt, guideRead, shownAt, guideIn, shownFlag, placeWords, headingWords, motionWords, followWords, courseWords, lapWords, guideWords, placeMosts, headingMosts, motionMosts, followMosts, courseMosts, lapMosts, guideMosts, PlaceFits};
 
 // The number at which the window begins, and how many it has.
 pub const WINDOW_AT: usize = 14;
@@ -133,7 +134,7 @@ fn guide_at(words: &[u64]) -> Guide
 
 pub fn shown_at(words: &[u64]) -> Shown
     requires { ⌜ wordCount ≤ length (now words) ⌝ }
-    ensures { λ r. ⌜ r ≡ shownOf (flagAt (now (words .entry)) 34) (guideRead (now (words .entry))) ⌝ }
+    ensures { λ r. ⌜ r ≡ shownAt (now (words .entry)) ⌝ }
 {
     if fields::flag_at(words, 34) {
         return Shown::Guide(guide_at(words));
@@ -144,7 +145,7 @@ pub fn shown_at(words: &[u64]) -> Shown
 // ---- parts, written
 
 fn blank() -> Guide
-    ensures { λ r. ⌜ r ≡ blankGuide ⌝ }
+    ensures { λ r. ⌜ r ≡ guideRead [] ⌝ }
 {
     Guide {
         mode: Mode::Direct,
