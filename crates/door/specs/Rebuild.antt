@@ -50,8 +50,8 @@ pub record Slices : Type 0 where
 abbrev pub slices : List ℕ → List ℕ → List Float → Slices
 slices v w n = record { rebuild = v; words = w; numbers = n }
 
--- `does r h`: what a call does on the rebuild r and the state h. Where the words hold no rebuild or the slices no state, the number is `unread`, and
--- `untouched` says that all that is lent is as it was.
+-- `does r h`: what a call does on the rebuild r and the state h. Where the words hold no rebuild or the slices no state, the number is
+-- `unread`, and `untouched` says that all that is lent is as it was.
 pub record OnBoth (unread : ℕ) (untouched : Type 0) (does : Rebuild → Homing → Type 0) (s : Slices) (number : ℕ) : Type 0 where
   pub noRebuild : storedRebuild (s .rebuild) ≡ none → (number ≡ unread) × untouched
   pub noGuide : stored (s .words) (s .numbers) ≡ none → (number ≡ unread) × untouched
@@ -66,7 +66,8 @@ pub record StepDone (budget upper : ℕ) (file : List ℕ) (b : List Float) (was
 -- `cittumay_rebuild_step`: question 1 comes before 10
 abbrev pub RebuildStep : ℕ → ℕ → List ℕ → List Float → ℕ → Slices → ℕ → List Float → ℕ → Slices → Type 0
 RebuildStep budget upper file b was s number b′ is s′ =
-    OnBoth (noStateWith (length b)) ((s′ ≡ s) × ((b′ ≡ b) × (is ≡ was))) (λ r h. StepDone budget upper file b was s r h number b′ is s′) s number
+    OnBoth (noStateWith (length b)) ((s′ ≡ s) × ((b′ ≡ b) × (is ≡ was)))
+    (λ r h. StepDone budget upper file b was s r h number b′ is s′) s number
 
 -- `settle` at the time t
 pub record SettleDone (t : Utc) (s : Slices) (r : Rebuild) (h : Homing) (number : ℕ) (s′ : Slices) : Type 0 where

@@ -18,7 +18,8 @@ unfoldable pub numberOf : {A : Type 0} → Answer A → ℕ
 numberOf (gives a) = 0
 numberOf (refused number) = number
 
--- The values behind an export's `&mut` parameters: `write a` makes those of the answer a from those that came in, and a refusal leaves these.
+-- The values behind an export's `&mut` parameters: `write a` makes those of the answer a from those that came in, and a refusal leaves
+-- these.
 abbrev pub valuesOf : {A W : Type 0} → (A → W → W) → Answer A → W → W
 valuesOf write (refused number) was = was
 valuesOf write (gives a) was = write a was

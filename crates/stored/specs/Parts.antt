@@ -1,6 +1,6 @@
 -- The parts of a guide's state: how each is read, and the words that it is written as. Where a part stands among the words and the
 -- numbers is in the table of crates/stored/specs/Stored.antt.
-use Prim.Native.Nat.{ℕ}
+use Prim.Native.Nat.{ℕ, _+_}
 use mathlib.Core.Bool.{cond}
 use mathlib.Core.List.{List, [], _∷_, _++_}
 use lib.Ieee.{Float}
@@ -97,28 +97,29 @@ courseAt w n =
 unfoldable pub lapAt : List ℕ → List Float → Lap
 lapAt w n = record { pass = record { stage = stageOfTag (wordAt w 30) }; start = spotAt w 31 n 12; passed = flagAt w 32 }
 
-unfoldable pub guideRead : List ℕ → Guide
-guideRead w =
+-- a guide whose words begin at word i
+unfoldable pub guideRead : List ℕ → ℕ → Guide
+guideRead w i =
     record {
-      mode = modeOfTag (wordAt w 35);
-      following = flagAt w 36;
-      course = flagAt w 37;
-      «course_near» = flagAt w 38;
-      «direct_m» = narrowAt most32 w 39;
-      «track_m» = narrowAt most32 w 40;
-      «off_m» = narrowAt most32 w 41;
-      bearing = narrowAt most16 w 42;
-      heading = headingAt w 43;
+      mode = modeOfTag (wordAt w i);
+      following = flagAt w (i + 1);
+      course = flagAt w (i + 2);
+      «course_near» = flagAt w (i + 3);
+      «direct_m» = narrowAt most32 w (i + 4);
+      «track_m» = narrowAt most32 w (i + 5);
+      «off_m» = narrowAt most32 w (i + 6);
+      bearing = narrowAt most16 w (i + 7);
+      heading = headingAt w (i + 8);
     }
 
 unfoldable pub shownAt : List ℕ → Shown
-shownAt w = cond (flagAt w 34) (shown.Guide (guideRead w)) shown.Nothing
+shownAt w = cond (flagAt w 34) (shown.Guide (guideRead w 35)) shown.Nothing
 
 -- ---- written
 -- where no guide is shown, one whose words are 0
 abbrev pub guideIn : Shown → Guide
 guideIn (shown.Guide g) = g
-guideIn shown.Nothing = guideRead []
+guideIn shown.Nothing = guideRead [] 0
 
 abbrev pub shownFlag : Shown → ℕ
 shownFlag (shown.Guide g) = 1

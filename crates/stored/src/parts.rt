@@ -19,7 +19,7 @@ ghost use mathlib.Core.Bool.{true};
 ghost use mathlib.Core.List.{[]};
 ghost use Prim.Native.Nat.{_+_, _≤_};
 ghost use lib.ListN.{length, take, drop};
-ghost use Rattle.stored.specs.Fields.{within, flagAt};
+ghost use Rattle.stored.specs.Fields.{within};
 ghost use Rattle.stored.specs.Parts.{wordCount, numberCount, windowAt, trailAt, frameAt, motionAt, followAt, courseAt, lapAt, guideRead, shownAt, guideIn, shownFlag, placeWords, headingWords, motionWords, followWords, courseWords, lapWords, guideWords, placeMosts, headingMosts, motionMosts, followMosts, courseMosts, lapMosts, guideMosts, PlaceFits};
 
 // The number at which the window begins, and how many it has.
@@ -117,7 +117,7 @@ pub fn lap_at(words: &[u64], numbers: &[f32]) -> Lap
 
 fn guide_at(words: &[u64]) -> Guide
     requires { ⌜ wordCount ≤ length (now words) ⌝ }
-    ensures { λ r. ⌜ r ≡ guideRead (now (words .entry)) ⌝ }
+    ensures { λ r. ⌜ r ≡ guideRead (now (words .entry)) 35 ⌝ }
 {
     Guide {
         mode: fields::mode_of(words[35]),
@@ -145,7 +145,7 @@ pub fn shown_at(words: &[u64]) -> Shown
 // ---- parts, written
 
 fn blank() -> Guide
-    ensures { λ r. ⌜ r ≡ guideRead [] ⌝ }
+    ensures { λ r. ⌜ r ≡ guideRead [] 0 ⌝ }
 {
     Guide {
         mode: Mode::Direct,
