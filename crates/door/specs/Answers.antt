@@ -17,18 +17,13 @@ use Rattle.state.specs.declared.Shown.{Shown}
 use Rattle.state.specs.declared.Shown.the-variants as shown
 use Rattle.state.specs.declared.Homing.{Homing}
 use Rattle.calls.specs.Ask as ask
-use Rattle.calls.specs.Promises.{Answer, refused, gives}
+use Rattle.calls.specs.Promises.{Answer}
 use Rattle.stored.specs.Fields.{flagOf}
 use Rattle.stored.specs.Parts.{guideWords}
-use Rattle.door.specs.Through.{numberOf}
+use Rattle.door.specs.Through.{numberOf, valuesOf}
 use Rattle.door.specs.GuideWords.{guideSize}
 
 -- ---- an answer as values
--- The values behind an export's `&mut` parameters: `write a` makes those of the answer a from those that came in, and a refusal leaves these.
-abbrev pub valuesOf : {A W : Type 0} → (A → W → W) → Answer A → W → W
-valuesOf write (refused number) was = was
-valuesOf write (gives a) was = write a was
-
 -- The call was asked: `answer` keeps the call's promise, and the export's number and values are those of `answer`.
 pub record AnsweredBy {R A W : Type 0} (promise : R → Type 0) (says : R → Answer A) (write : A → W → W) (number : ℕ) (was is : W) : Type 0 where
   pub answer : R

@@ -10,15 +10,14 @@ use Rattle.state.specs.declared.Homing.{Homing}
 use Rattle.state.specs.declared.Place.{Place}
 use Rattle.course.specs.Fix.{Fix}
 use Rattle.calls.specs.Questions.{question1, unless, _orElse_}
+use Rattle.calls.specs.Promises.{Answer}
 use Rattle.answers.specs.Answers.{saysVerdict}
 use Rattle.homing.specs.declared.Changed.{Changed}
-use Rattle.homing.specs.declared.Observed.{Observed}
-use Rattle.homing.specs.declared.Followed.{Followed}
 use Rattle.homing.specs.Answers.{saysReply, saysSight}
 use Rattle.homing.specs.Promises.{MakesNew, DoesReset, EndsReplay, SetsCourse, SetsAuto, Observes, Replays, SetsFollowing}
 use Rattle.stored.specs.Stored.{roomFor}
-use Rattle.stored.specs.Fields.{flagOf}
-use Rattle.door.specs.Through.{numberOf, written, isSet, noState, noStateWith, Leaves, ChangesStored}
+use Rattle.door.specs.Through.{numberOf, isSet, noState, noStateWith, Leaves, ChangesStored}
+use Rattle.door.specs.Answers.{AnsweredBy, flagged}
 
 -- ---- what a call gives, as numbers
 unfoldable pub numberOfEvent : Event → ℕ
@@ -37,21 +36,11 @@ pub record Gives (promise : Changed → Type 0) (r : Homing) (number : ℕ) : Ty
   pub state : r ≡ call .homing
   pub refusal : number ≡ numberOf (saysReply (call .answer))
 
--- the same of `observe`, whose event is written where `was` stood
-pub record TellsEvent (promise : Observed → Type 0) (was is : ℕ) (r : Homing) (number : ℕ) : Type 0 where
-  pub call : Observed
-  pub promised : promise call
-  pub state : r ≡ call .homing
-  pub refusal : number ≡ numberOf (saysSight (call .answer))
-  pub event : is ≡ written numberOfEvent (saysSight (call .answer)) was
-
--- the same of `set_following`, whose answer is written where `was` stood
-pub record Steers (promise : Followed → Type 0) (was is : ℕ) (r : Homing) (number : ℕ) : Type 0 where
-  pub call : Followed
-  pub promised : promise call
-  pub state : r ≡ call .homing
-  pub refusal : number ≡ numberOf (saysVerdict (call .answer))
-  pub done : is ≡ written flagOf (saysVerdict (call .answer)) was
+-- the same of a call whose answer is written where `was` stood
+pub record Tells {R A : Type 0} (promise : R → Type 0) (homing : R → Homing) (says : R → Answer A) (write : A → ℕ → ℕ) (was is : ℕ)
+    (r : Homing) (number : ℕ) : Type 0 where
+  pub made : AnsweredBy promise says write number was is
+  pub state : r ≡ homing (made .answer)
 
 -- ---- the exports
 -- `cittumay_new`, on the crumb buffer b: question 1, then whether the slices have the room
@@ -80,7 +69,9 @@ SetAutoFollow on b b′ = ChangesStored (noStateWith (length b)) (λ h. Gives (�
 -- `cittumay_observe` and `cittumay_observe_missing`: the fix x, lent the crumb buffer b and the line
 abbrev pub Observe : List Float → Place → ℕ → List Float → ℕ → List Float → ℕ → List ℕ → List Float → ℕ → List ℕ → List Float → Type 0
 Observe line x now b event b′ event′ =
-    ChangesStored (noStateWith (length b)) (λ h. TellsEvent (λ c. Observes line x now h b c b′) event event′) ((b′ ≡ b) × (event′ ≡ event))
+    ChangesStored (noStateWith (length b))
+    (λ h. Tells (λ c. Observes line x now h b c b′) (λ c. c .homing) (λ c. saysSight (c .answer)) (λ e _. numberOfEvent e) event event′)
+    ((b′ ≡ b) × (event′ ≡ event))
 
 -- `cittumay_replay` of the fix x, lent the crumb buffer b
 abbrev pub Replay : Fix → ℕ → List Float → List Float → List ℕ → List Float → ℕ → List ℕ → List Float → Type 0
@@ -89,4 +80,6 @@ Replay x now b b′ = ChangesStored (noStateWith (length b)) (λ h. Gives (λ c.
 -- `cittumay_set_following`, lent the crumb buffer b and the line
 abbrev pub SetFollowing : List Float → ℕ → ℕ → List Float → ℕ → List Float → ℕ → List ℕ → List Float → ℕ → List ℕ → List Float → Type 0
 SetFollowing line on now b done b′ done′ =
-    ChangesStored (noStateWith (length b)) (λ h. Steers (λ c. SetsFollowing line (isSet on) now h b c b′) done done′) ((b′ ≡ b) × (done′ ≡ done))
+    ChangesStored (noStateWith (length b))
+    (λ h. Tells (λ c. SetsFollowing line (isSet on) now h b c b′) (λ c. c .homing) (λ c. saysVerdict (c .answer)) flagged done done′)
+    ((b′ ≡ b) × (done′ ≡ done))

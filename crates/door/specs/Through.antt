@@ -18,10 +18,11 @@ unfoldable pub numberOf : {A : Type 0} → Answer A → ℕ
 numberOf (gives a) = 0
 numberOf (refused number) = number
 
--- what stands after a call where its answer is written: the answer's number, or where the call was refused what stood there
-unfoldable pub written : {A : Type 0} → (A → ℕ) → Answer A → ℕ → ℕ
-written f (gives a) was = f a
-written f (refused number) was = was
+-- The values behind an export's `&mut` parameters: `write a` makes those of the answer a from those that came in, and a refusal leaves
+-- these.
+abbrev pub valuesOf : {A W : Type 0} → (A → W → W) → Answer A → W → W
+valuesOf write (refused number) was = was
+valuesOf write (gives a) was = write a was
 
 -- a flag that comes in: anything but 0 means yes
 unfoldable pub isSet : ℕ → Bool

@@ -24,10 +24,10 @@ ghost use Rattle.answers.specs.Answers.{saysCount, saysVerdict, saysAhead, says
 ghost use Rattle.answers.specs.Promises.{AnswersLen, AnswersFollowing, AnswersFollowingCourse, AnswersCourseAhead, AnswersRouteHome, AnswersHeading, AnswersGuide, AnswersWayBack, ReturnsCrumbs, ReturnsCourse, AnswersArrow};
 ghost use Rattle.stored.specs.Fields.{modeOfTag, modeTag, headingOf, headingFlag, headingIn};
 ghost use Rattle.stored.specs.Stored.{stored};
-ghost use Rattle.door.specs.Through.{numberOf, noState, noStateWith};
-ghost use Rattle.stored.specs.Parts.{guideWords};
-ghost use Rattle.door.specs.GuideWords.{guideSize, areGuide, guideFrom, guideOf};
-ghost use Rattle.door.specs.Answers.{valuesOf, Answers, Parts, itself, flagged, spotted, leading, aheadValues, riding, headingValues, showing, guideValues, withRoom, returning, backValues};
+ghost use Rattle.door.specs.Through.{numberOf, noState, noStateWith, valuesOf};
+ghost use Rattle.stored.specs.Parts.{guideRead, guideWords};
+ghost use Rattle.door.specs.GuideWords.{guideSize, areGuide, guideOf};
+ghost use Rattle.door.specs.Answers.{Answers, Parts, itself, flagged, spotted, leading, aheadValues, riding, headingValues, showing, guideValues, withRoom, returning, backValues};
 
 // How many words a guide takes.
 const GUIDE: usize = 10;
@@ -422,7 +422,7 @@ fn heading_of(known: bool, angle: u16) -> Heading
 
 fn guide_at(words: &[u32]) -> Guide
     requires { ⌜ areGuide (now words) ≡ true ⌝ }
-    ensures { λ r. ⌜ r ≡ guideFrom (now (words .entry)) ⌝ }
+    ensures { λ r. ⌜ r ≡ guideRead (now (words .entry)) 0 ⌝ }
 {
     let mode = mode_of(words[0]);
     let heading = heading_of(words[8] == 1, words[9] as u16);

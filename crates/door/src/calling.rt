@@ -16,8 +16,8 @@ ghost use Rattle.course.specs.Course.{fixes};
 ghost use Rattle.answers.specs.Answers.{saysVerdict};
 ghost use Rattle.homing.specs.Answers.{saysReply, saysSight};
 ghost use Rattle.stored.specs.Stored.{wordCount, numberCount};
-ghost use Rattle.stored.specs.Fields.{flagOf};
-ghost use Rattle.door.specs.Through.{numberOf, written, Leaves};
+ghost use Rattle.door.specs.Through.{numberOf, valuesOf, Leaves};
+ghost use Rattle.door.specs.Answers.{flagged};
 ghost use Rattle.door.specs.Calls.{numberOfEvent, New, Reset, EndReplay, SetCourse, SetAutoFollow, Observe, Replay, SetFollowing};
 
 // ---- answers as numbers
@@ -56,7 +56,7 @@ fn number_of_event(event: Event) -> u8
 
 // The event's number, or what was there where the call was refused.
 fn event_written(answer: Sight, was: u8) -> u8
-    ensures { λ r. ⌜ r ≡ written numberOfEvent (saysSight answer) was ⌝ }
+    ensures { λ r. ⌜ r ≡ valuesOf (λ e _. numberOfEvent e) (saysSight answer) was ⌝ }
 {
     match answer {
         Sight::Event(event) => number_of_event(event),
@@ -66,7 +66,7 @@ fn event_written(answer: Sight, was: u8) -> u8
 
 // A flag, or what was there where the call was refused.
 fn verdict_written(answer: Verdict, was: u8) -> u8
-    ensures { λ r. ⌜ r ≡ written flagOf (saysVerdict answer) was ⌝ }
+    ensures { λ r. ⌜ r ≡ valuesOf flagged (saysVerdict answer) was ⌝ }
 {
     match answer {
         Verdict::Is(yes) => numbering::flag_of(yes),

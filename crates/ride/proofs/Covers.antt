@@ -17,7 +17,7 @@ use Rattle.course.specs.Course.{fixes}
 use Rattle.calls.specs.Calls as call
 use Rattle.calls.specs.Calls.{Loan, Query, Call, Ask, Reset, EndReplay, SetCourse, SetAutoFollow, Observe, Replay, SetFollowing, arguments}
 use Rattle.ride.specs.Script.{CallEntry, callEntries, placeIn, fixIn, numbered, callOf, readable, decode}
-use Rattle.ride.specs.Theorems.{lineIn, linesOf, pointsOf, Each, SliceOf, CallSlices, EveryListWritten}
+use Rattle.ride.specs.Theorems.{lineIn, linesOf, pointsOf, Each, SliceOf, EveryListWritten}
 
 -- ---- how a call is written
 abbrev onOff : ℕ → Bool → ℕ
@@ -175,36 +175,21 @@ each-part f all is (c ∷ cs) h =
     let e : length (all (c ∷ cs)) ≡ length (f c) + length (all cs) = ap length (is c cs) ∙ length-append (f c) (all cs) in
     (record { fits = omega (arith, e, h) }, each-part f all is cs (omega (arith, e, h)))
 
-slices : List Call → CallSlices
-slices cs =
-    record {
-      room = length (linesOf cs);
-      ops = map opOf cs;
-      clocks = map clockOf cs;
-      sizes = map sizeOf cs;
-      counts = map countOf cs;
-      lines = linesOf cs;
-      lats = map (λ x. x .lat) (pointsOf cs);
-      lons = map (λ x. x .lon) (pointsOf cs);
-    }
-
 pub covers : EveryListWritten
-unfolding slices
 covers cs m =
     let room = length (linesOf cs) in
-    let few = m .clocks .1 in (
-      slices cs,
-      record {
-        says =
-            ap₂ (λ es points. decode room es (linesOf cs) points) (side-by-side cs) (pairs (pointsOf cs))
-            ∙ decoded room cs (lines-within room cs (omega arith));
-        room = m .lines .1;
-        ops = slice-map _ opOf 1 cs (every _ cs op-fits, omega (arith, few));
-        clocks = slice-map _ clockOf 8 cs (m .clocks);
-        sizes = slice-map _ sizeOf 8 cs (each-part (λ c. lentTo c) linesOf (λ c cs. refl) cs (m .lines .1), few);
-        counts = slice-map _ countOf 8 cs (each-part (λ c. arguments c .points) pointsOf (λ c cs. refl) cs (m .lats .1), few);
-        lines = m .lines;
-        lats = slice-map _ (λ x. x .lat) 4 (pointsOf cs) (m .lats);
-        lons = slice-map _ (λ x. x .lon) 4 (pointsOf cs) (m .lons);
-      },
-    )
+    let few = m .clocks .1 in
+    record {
+      room = room;
+      roomy = m .lines .1;
+      ops = (map opOf cs, slice-map _ opOf 1 cs (every _ cs op-fits, omega (arith, few)));
+      clocks = (map clockOf cs, slice-map _ clockOf 8 cs (m .clocks));
+      sizes = (map sizeOf cs, slice-map _ sizeOf 8 cs (each-part (λ c. lentTo c) linesOf (λ c cs. refl) cs (m .lines .1), few));
+      counts = (map countOf cs, slice-map _ countOf 8 cs (each-part (λ c. arguments c .points) pointsOf (λ c cs. refl) cs (m .lats .1), few));
+      lines = (linesOf cs, m .lines);
+      lats = (map (λ x. x .lat) (pointsOf cs), slice-map _ (λ x. x .lat) 4 (pointsOf cs) (m .lats));
+      lons = (map (λ x. x .lon) (pointsOf cs), slice-map _ (λ x. x .lon) 4 (pointsOf cs) (m .lons));
+      says =
+          ap₂ (λ es points. decode room es (linesOf cs) points) (side-by-side cs) (pairs (pointsOf cs))
+          ∙ decoded room cs (lines-within room cs (omega arith));
+    }

@@ -48,29 +48,22 @@ pub record MachineSize (cs : List Call) : Type 0 where
   pub lons : SliceOf (λ x. SFits w32 (x .lon)) 4 (pointsOf cs)
   pub clocks : SliceOf (λ c. Fits w64 (arguments c .clock)) 8 cs
 
--- the slices that `ride` is given, beside a working line of so many f32
-pub record CallSlices : Type 0 where
-  pub room : ℕ
-  pub ops : List ℕ
-  pub clocks : List ℕ
-  pub sizes : List ℕ
-  pub counts : List ℕ
-  pub lines : List Float
-  pub lats : List ℤ
-  pub lons : List ℤ
+abbrev pub Slice : {A : Type 0} → (A → Type 0) → ℕ → Type 0
+Slice {A = A} P bytes = (xs : List A) × SliceOf P bytes xs
 
--- slices that say the calls cs
-pub record Says (s : CallSlices) (cs : List Call) : Type 0 where
-  pub says : writtenCalls (s .room) (s .ops) (s .clocks) (s .sizes) (s .counts) (s .lines) (s .lats) (s .lons) ≡ cs
-  pub room : s .room * 4 < 2 ^ 63
-  pub ops : SliceOf (Fits w8) 1 (s .ops)
-  pub clocks : SliceOf (Fits w64) 8 (s .clocks)
-  pub sizes : SliceOf (Fits w64) 8 (s .sizes)
-  pub counts : SliceOf (Fits w64) 8 (s .counts)
-  pub lines : SliceOf IsF32 4 (s .lines)
-  pub lats : SliceOf (SFits w32) 4 (s .lats)
-  pub lons : SliceOf (SFits w32) 4 (s .lons)
+-- slices that say the calls cs, as `ride` is given them, beside a working line of `room` f32
+pub record Written (cs : List Call) : Type 0 where
+  pub room : ℕ
+  pub roomy : room * 4 < 2 ^ 63
+  pub ops : Slice (Fits w8) 1
+  pub clocks : Slice (Fits w64) 8
+  pub sizes : Slice (Fits w64) 8
+  pub counts : Slice (Fits w64) 8
+  pub lines : Slice IsF32 4
+  pub lats : Slice (SFits w32) 4
+  pub lons : Slice (SFits w32) 4
+  pub says : writtenCalls room (ops .0) (clocks .0) (sizes .0) (counts .0) (lines .0) (lats .0) (lons .0) ≡ cs
 
 -- what `ride` promises of the calls that its slices say is so promised of every list of calls
 abbrev pub EveryListWritten : Type 0
-EveryListWritten = (cs : List Call) → MachineSize cs → (s : CallSlices) × Says s cs
+EveryListWritten = (cs : List Call) → MachineSize cs → Written cs

@@ -1,7 +1,7 @@
 -- Whether a state is held, and what loading gives. Assumes nothing.
 use Prim.Native.Nat.{ℕ, _≤_, _<_}
 use mathlib.Core.Path.{_≡_, refl, sym, ap, _∙_}
-use mathlib.Core.Bool.{Bool, true, false, _&&_, false≢true, true≢false}
+use mathlib.Core.Bool.{Bool, true, false, _&&_, cond, false≢true, true≢false}
 use mathlib.Core.List.{List}
 use mathlib.Core.Option.{Option, some, none}
 use native.Mathlib.Omega.{arith}
@@ -11,7 +11,7 @@ use lib.ListN.{length}
 use lib.Ieee.{Float}
 use Rattle.state.specs.declared.Homing.{Homing}
 use Rattle.stored.specs.Fields.{within, wordAt}
-use Rattle.stored.specs.Stored.{mark, mosts, holds, heldIf, homingAt, stored, HasRoom}
+use Rattle.stored.specs.Stored.{mark, mosts, holds, homingAt, stored, HasRoom}
 use Rattle.stored.specs.Inner.{Loads}
 use Rattle.stored.specs.Parts.{wordCount, numberCount}
 use Rattle.stored.proofs.fields.Limits.{within-room}
@@ -46,11 +46,11 @@ loads-room w n h =
 
 pub loads-there : (w : List ℕ) (n : List Float) {h : Homing} → holds w n ≡ true → h ≡ homingAt w n → Loads w n h true
 unfolding stored
-loads-there w n {h} t e = record { there = λ _. ap (λ b. heldIf b (homingAt w n)) t ∙ ap some (sym e); nothing = λ f. absurd (true≢false f) }
+loads-there w n {h} t e = record { there = λ _. ap (λ b. cond b (some (homingAt w n)) none) t ∙ ap some (sym e); nothing = λ f. absurd (true≢false f) }
 
 pub loads-nothing : (w : List ℕ) (n : List Float) (h : Homing) → holds w n ≡ false → Loads w n h false
 unfolding stored
-loads-nothing w n h t = record { there = λ f. absurd (false≢true f); nothing = λ _. ap (λ b. heldIf b (homingAt w n)) t }
+loads-nothing w n h t = record { there = λ f. absurd (false≢true f); nothing = λ _. ap (λ b. cond b (some (homingAt w n)) none) t }
 
 unfoldable isSome : {A : Type 0} → Option A → Bool
 isSome (some x) = true
@@ -60,6 +60,6 @@ pub has-room : HasRoom
 unfolding stored isSome
 has-room w n h e = go (holds w n) refl e
   where
-    go : (b : Bool) → holds w n ≡ b → heldIf b (homingAt w n) ≡ some h → (wordCount ≤ length w) × (numberCount ≤ length n)
+    go : (b : Bool) → holds w n ≡ b → cond b (some (homingAt w n)) none ≡ some h → (wordCount ≤ length w) × (numberCount ≤ length n)
     go true t e = loads-room w n t
     go false t e = absurd (false≢true (ap isSome e))

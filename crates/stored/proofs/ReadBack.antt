@@ -1,9 +1,9 @@
 -- What was stored is read back, field by field. Assumes nothing.
 use Prim.Native.Nat.{ℕ, _+_, _<_}
 use mathlib.Core.Path.{_≡_, refl, ap, _∙_}
-use mathlib.Core.Bool.{true, _&&_}
+use mathlib.Core.Bool.{true, _&&_, cond}
 use mathlib.Core.List.{List, _++_}
-use mathlib.Core.Option.{some}
+use mathlib.Core.Option.{none, some}
 use native.Mathlib.Omega.{arith}
 use borrow.Author.Tests.{le-leb}
 use lib.Dec.{leb, eqb}
@@ -14,15 +14,35 @@ use Rattle.plane.specs.declared.Heading.the-variants as heading
 use Rattle.lap.specs.declared.Stage.the-variants as stage
 use Rattle.state.specs.declared.Line.the-variants as line
 use Rattle.state.specs.declared.Mode.the-variants as mode
+use Rattle.state.specs.declared.Shown.the-variants as shown
+use Rattle.state.specs.declared.Guide.{Guide}
 use Rattle.state.specs.declared.Homing.{Homing}
-use Rattle.stored.specs.Fields.{most32, most16, most8, within, wordAt, flagAt, signedAt, spotAt, headingAt, placeRead}
-use Rattle.stored.specs.Stored.{mark, mosts, homingAt, holds, heldIf, stored, wordsOf, headOf, numbersOf, StateFits, ReadBack}
-use Rattle.stored.specs.Parts.{numberCount, trailAt, frameAt, motionAt, followAt, courseAt, lapAt, guideRead, shownOf, guideIn, shownFlag}
-use Rattle.stored.proofs.fields.Limits.{within-more, within-at}
+use Rattle.stored.specs.Fields.{most32, most16, most8, within, wordAt, flagAt, signedAt, spotAt, headingAt, headingIn, placeRead}
+use Rattle.stored.specs.Stored.{mark, mosts, homingAt, holds, stored, wordsOf, headOf, numbersOf, StateFits, ReadBack}
+use Rattle.stored.specs.Parts.{numberCount, trailAt, frameAt, motionAt, followAt, courseAt, lapAt, guideRead, shownAt, guideIn, shownFlag, guideWords}
+use Rattle.stored.proofs.fields.Limits.{within-more}
+pub use Rattle.stored.proofs.fields.Limits.{within-at}
 use Rattle.stored.proofs.fields.Same.{narrow-same, flag-same, line-same, stage-same, mode-same, spot-same, heading-back}
 use Rattle.stored.proofs.parts.Parts.{place-back, shown-same}
 
 -- ---- the parts
+-- a guide's words, whatever lies behind
+pub guide-same : (g : Guide) (ws : List ℕ) → leb (g .«direct_m») most32 ≡ true → leb (g .«track_m») most32 ≡ true
+    → leb (g .«off_m») most32 ≡ true → leb (g .bearing) most16 ≡ true → leb (headingIn (g .heading)) most16 ≡ true
+    → guideRead (guideWords g ++ ws) 0 ≡ g
+unfolding guideRead headingAt
+guide-same g ws direct track off bearing way = λ i. record {
+  mode = mode-same (g .mode) i;
+  following = flag-same (g .following) i;
+  course = flag-same (g .course) i;
+  «course_near» = flag-same (g .«course_near») i;
+  «direct_m» = narrow-same most32 (g .«direct_m») direct i;
+  «track_m» = narrow-same most32 (g .«track_m») track i;
+  «off_m» = narrow-same most32 (g .«off_m») off i;
+  bearing = narrow-same most16 (g .bearing) bearing i;
+  heading = heading-back (g .heading) way i;
+}
+
 module _ (h : Homing) (fits : StateFits h) (ws : List ℕ) (ns : List Float) where
   abbrev W : List ℕ
   W = wordsOf h ++ ws
@@ -102,23 +122,15 @@ module _ (h : Homing) (fits : StateFits h) (ws : List ℕ) (ns : List Float) whe
     passed = flag-same (h .lap .passed) i;
   }
 
-  guide-back : guideRead W ≡ guideIn (h .guide)
+  guide-back : guideRead W 35 ≡ guideIn (h .guide)
   unfolding guideRead headingAt wordsOf mosts
-  guide-back = λ i. record {
-    mode = mode-same (guideIn (h .guide) .mode) i;
-    following = flag-same (guideIn (h .guide) .following) i;
-    course = flag-same (guideIn (h .guide) .course) i;
-    «course_near» = flag-same (guideIn (h .guide) .«course_near») i;
-    «direct_m» = narrow-same most32 (guideIn (h .guide) .«direct_m») (at 39 (omega arith)) i;
-    «track_m» = narrow-same most32 (guideIn (h .guide) .«track_m») (at 40 (omega arith)) i;
-    «off_m» = narrow-same most32 (guideIn (h .guide) .«off_m») (at 41 (omega arith)) i;
-    bearing = narrow-same most16 (guideIn (h .guide) .bearing) (at 42 (omega arith)) i;
-    heading = heading-back (guideIn (h .guide) .heading) (at 44 (omega arith)) i;
-  }
+  guide-back =
+      guide-same (guideIn (h .guide)) ws (at 39 (omega arith)) (at 40 (omega arith)) (at 41 (omega arith)) (at 42 (omega arith))
+      (at 44 (omega arith))
 
-  shown-back : shownOf (flagAt W 34) (guideRead W) ≡ h .guide
-  unfolding wordsOf
-  shown-back = ap (shownOf (eqb (shownFlag (h .guide)) 1)) guide-back ∙ shown-same (h .guide)
+  shown-back : shownAt W ≡ h .guide
+  unfolding shownAt wordsOf
+  shown-back = ap (λ g. cond (eqb (shownFlag (h .guide)) 1) (shown.Guide g) shown.Nothing) guide-back ∙ shown-same (h .guide)
 
   flags-back : (flagAt W 28 ≡ h .«auto_follow») × (flagAt W 29 ≡ h .arrived)
   unfolding wordsOf
@@ -167,4 +179,4 @@ module _ (h : Homing) (fits : StateFits h) (ws : List ℕ) (ns : List Float) whe
 pub read-back : ReadBack
 unfolding stored
 read-back h fits ws ns =
-    ap (λ b. heldIf b (homingAt (wordsOf h ++ ws) (numbersOf h ++ ns))) (holds-it h fits ws ns) ∙ ap some (homing-back h fits ws ns)
+    ap (λ b. cond b (some (homingAt (wordsOf h ++ ws) (numbersOf h ++ ns))) none) (holds-it h fits ws ns) ∙ ap some (homing-back h fits ws ns)

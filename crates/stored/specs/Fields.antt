@@ -63,13 +63,9 @@ signedAt w i = signed (narrowAt most32 w i)
 abbrev pub pointAt : List Float → ℕ → Point
 pointAt n j = record { east = numberAt n j; north = numberAt n (j + 1) }
 
-abbrev pub spotOf : Bool → Point → Spot
-spotOf true p = spot.At p
-spotOf false p = spot.Nowhere
-
 -- word i says whether there is a place, which stands at number j
 unfoldable pub spotAt : List ℕ → ℕ → List Float → ℕ → Spot
-spotAt w i n j = spotOf (flagAt w i) (pointAt n j)
+spotAt w i n j = cond (flagAt w i) (spot.At (pointAt n j)) spot.Nowhere
 
 abbrev pub headingOf : Bool → ℕ → Heading
 headingOf true a = heading.Known a
@@ -78,12 +74,8 @@ headingOf false a = heading.Unknown
 unfoldable pub headingAt : List ℕ → ℕ → Heading
 headingAt w i = headingOf (flagAt w i) (narrowAt most16 w (i + 1))
 
-abbrev pub placeOf : Bool → ℤ → ℤ → Place
-placeOf true lat lon = place.At lat lon
-placeOf false lat lon = place.Missing
-
 unfoldable pub placeRead : List ℕ → ℕ → Place
-placeRead w i = placeOf (flagAt w i) (signedAt w (i + 1)) (signedAt w (i + 2))
+placeRead w i = cond (flagAt w i) (place.At (signedAt w (i + 1)) (signedAt w (i + 2))) place.Missing
 
 abbrev pub lineOfTag : ℕ → Line
 lineOfTag n = getD (line.Nothing ∷ line.Breadcrumb ∷ line.Course ∷ []) n line.Nothing

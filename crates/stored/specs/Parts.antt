@@ -1,18 +1,16 @@
 -- The parts of a guide's state: how each is read, and the words that it is written as. Where a part stands among the words and the
 -- numbers is in the table of crates/stored/specs/Stored.antt.
-use Prim.Native.Nat.{ℕ}
-use mathlib.Core.Bool.{Bool, true, false}
+use Prim.Native.Nat.{ℕ, _+_}
+use mathlib.Core.Bool.{cond}
 use mathlib.Core.List.{List, [], _∷_, _++_}
 use lib.Ieee.{Float}
 use mir.Syntax.{w32}
 use mir.Val.{SFits}
 use Rattle.plane.specs.declared.Heading.{Heading}
-use Rattle.plane.specs.declared.Heading.the-variants as heading
 use Rattle.motion.specs.declared.Motion.{Motion}
 use Rattle.lap.specs.declared.Lap.{Lap}
 use Rattle.trail.specs.declared.Trail.{Trail}
 use Rattle.state.specs.declared.Place.{Place}
-use Rattle.state.specs.declared.Mode.the-variants as mode
 use Rattle.state.specs.declared.Frame.{Frame}
 use Rattle.state.specs.declared.Follow.{Follow}
 use Rattle.state.specs.declared.Course.{Course}
@@ -99,42 +97,29 @@ courseAt w n =
 unfoldable pub lapAt : List ℕ → List Float → Lap
 lapAt w n = record { pass = record { stage = stageOfTag (wordAt w 30) }; start = spotAt w 31 n 12; passed = flagAt w 32 }
 
-unfoldable pub guideRead : List ℕ → Guide
-guideRead w =
+-- a guide whose words begin at word i
+unfoldable pub guideRead : List ℕ → ℕ → Guide
+guideRead w i =
     record {
-      mode = modeOfTag (wordAt w 35);
-      following = flagAt w 36;
-      course = flagAt w 37;
-      «course_near» = flagAt w 38;
-      «direct_m» = narrowAt most32 w 39;
-      «track_m» = narrowAt most32 w 40;
-      «off_m» = narrowAt most32 w 41;
-      bearing = narrowAt most16 w 42;
-      heading = headingAt w 43;
+      mode = modeOfTag (wordAt w i);
+      following = flagAt w (i + 1);
+      course = flagAt w (i + 2);
+      «course_near» = flagAt w (i + 3);
+      «direct_m» = narrowAt most32 w (i + 4);
+      «track_m» = narrowAt most32 w (i + 5);
+      «off_m» = narrowAt most32 w (i + 6);
+      bearing = narrowAt most16 w (i + 7);
+      heading = headingAt w (i + 8);
     }
 
-abbrev pub shownOf : Bool → Guide → Shown
-shownOf true g = shown.Guide g
-shownOf false g = shown.Nothing
+unfoldable pub shownAt : List ℕ → Shown
+shownAt w = cond (flagAt w 34) (shown.Guide (guideRead w 35)) shown.Nothing
 
 -- ---- written
-abbrev pub blank : Guide
-blank =
-    record {
-      mode = mode.Direct;
-      following = false;
-      course = false;
-      «course_near» = false;
-      «direct_m» = 0;
-      «track_m» = 0;
-      «off_m» = 0;
-      bearing = 0;
-      heading = heading.Unknown;
-    }
-
+-- where no guide is shown, one whose words are 0
 abbrev pub guideIn : Shown → Guide
 guideIn (shown.Guide g) = g
-guideIn shown.Nothing = blank
+guideIn shown.Nothing = guideRead [] 0
 
 abbrev pub shownFlag : Shown → ℕ
 shownFlag (shown.Guide g) = 1

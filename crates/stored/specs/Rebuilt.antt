@@ -8,7 +8,7 @@
 -- | 6 | clock_ms |
 use Prim.Native.Nat.{ℕ, _+_, _≤_}
 use mathlib.Core.Path.{_≡_}
-use mathlib.Core.Bool.{Bool, true, false, _&&_}
+use mathlib.Core.Bool.{Bool, true, false, _&&_, cond}
 use mathlib.Core.List.{List, [], _∷_, _++_}
 use mathlib.Core.Option.{Option, none, some}
 use lib.Dec.{eqb}
@@ -35,31 +35,26 @@ abbrev pub utcOf : Bool → ℕ → Utc
 utcOf true t = utc.At t
 utcOf false t = utc.Unknown
 
-abbrev pub pendingOf : Bool → Utc → Stage
-pendingOf true t = stage.Pending t
-pendingOf false t = stage.Decided
-
 unfoldable pub utcRead : List ℕ → ℕ → Utc
 utcRead w i = utcOf (flagAt w i) (wordAt w (i + 1))
+
+unfoldable pub stageRead : List ℕ → Stage
+stageRead w = cond (flagAt w 3) (stage.Pending (utcRead w 4)) stage.Decided
 
 unfoldable pub rebuildAt : List ℕ → Rebuild
 rebuildAt w =
     record {
       recovered = narrowAt most32 w 1;
       walk = record { slot = wordAt w 2 };
-      stage = pendingOf (flagAt w 3) (utcRead w 4);
+      stage = stageRead w;
       «clock_ms» = wordAt w 6;
     }
 
 unfoldable pub holdsRebuild : List ℕ → Bool
 holdsRebuild w = eqb (wordAt w 0) rebuildMark && within rebuildMosts w
 
-abbrev pub rebuildIf : Bool → Rebuild → Option Rebuild
-rebuildIf true r = some r
-rebuildIf false r = none
-
 unfoldable pub storedRebuild : List ℕ → Option Rebuild
-storedRebuild w = rebuildIf (holdsRebuild w) (rebuildAt w)
+storedRebuild w = cond (holdsRebuild w) (some (rebuildAt w)) none
 
 -- ---- written
 abbrev pub pendingFlag : Stage → ℕ

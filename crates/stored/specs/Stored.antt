@@ -20,7 +20,7 @@
 -- | 14 to 109 | trail: window |
 use Prim.Native.Nat.{ℕ, _≤_}
 use mathlib.Core.Path.{_≡_}
-use mathlib.Core.Bool.{Bool, true, false, _&&_}
+use mathlib.Core.Bool.{Bool, true, _&&_, cond}
 use mathlib.Core.List.{List, [], _∷_, _++_}
 use mathlib.Core.Option.{Option, none, some}
 use lib.Dec.{leb, eqb}
@@ -28,8 +28,8 @@ use lib.ListN.{length, take, drop}
 use lib.Ieee.{Float}
 use Rattle.state.specs.declared.Homing.{Homing}
 use Rattle.stored.specs.Fields.{within, wordAt, flagAt, spotAt, placeRead, pointIn}
-unfoldable pub use Rattle.stored.specs.Parts.{trailAt, frameAt, motionAt, followAt, courseAt, lapAt, guideRead}
-pub use Rattle.stored.specs.Parts.{wordCount, numberCount, windowAt, placeMosts, headingMosts, trailMosts, motionMosts, followMosts, courseMosts, lapMosts, guideMosts, shownOf, blank, guideIn, shownFlag, placeWords, headingWords, trailWords, motionWords, followWords, courseWords, lapWords, guideWords, PlaceFits}
+unfoldable pub use Rattle.stored.specs.Parts.{trailAt, frameAt, motionAt, followAt, courseAt, lapAt, guideRead, shownAt}
+pub use Rattle.stored.specs.Parts.{wordCount, numberCount, windowAt, placeMosts, headingMosts, trailMosts, motionMosts, followMosts, courseMosts, lapMosts, guideMosts, guideIn, shownFlag, placeWords, headingWords, trailWords, motionWords, followWords, courseWords, lapWords, guideWords, PlaceFits}
 unfoldable pub use Rattle.stored.specs.Words.{mosts, wordsOf}
 pub use Rattle.stored.specs.Words.{mark}
 
@@ -50,7 +50,7 @@ homingAt w n =
       arrived = flagAt w 29;
       lap = lapAt w n;
       «updated_ms» = wordAt w 33;
-      guide = shownOf (flagAt w 34) (guideRead w);
+      guide = shownAt w;
     }
 
 -- whether there is room for a state
@@ -61,12 +61,8 @@ roomFor w n = leb wordCount (length w) && leb numberCount (length n)
 unfoldable pub holds : List ℕ → List Float → Bool
 holds w n = eqb (wordAt w 0) mark && (within mosts w && leb numberCount (length n))
 
-abbrev pub heldIf : Bool → Homing → Option Homing
-heldIf true h = some h
-heldIf false h = none
-
 unfoldable pub stored : List ℕ → List Float → Option Homing
-stored w n = heldIf (holds w n) (homingAt w n)
+stored w n = cond (holds w n) (some (homingAt w n)) none
 
 -- ---- written
 -- the numbers before the window

@@ -17,10 +17,11 @@ use state::Shown;
 use trail::Trail;
 ghost use mathlib.Core.Path.{_≡_};
 ghost use mathlib.Core.Bool.{true};
+ghost use mathlib.Core.List.{[]};
 ghost use Prim.Native.Nat.{_+_, _≤_};
 ghost use lib.ListN.{length, take, drop};
-ghost use Rattle.stored.specs.Fields.{within, flagAt};
-ghost use Rattle.stored.specs.Parts.{wordCount, numberCount, windowAt, trailAt, frameAt, motionAt, followAt, courseAt, lapAt, guideRead, shownOf, blank as blankGuide, guideIn, shownFlag, placeWords, headingWords, motionWords, followWords, courseWords, lapWords, guideWords, placeMosts, headingMosts, motionMosts, followMosts, courseMosts, lapMosts, guideMosts, PlaceFits};
+ghost use Rattle.stored.specs.Fields.{within};
+ghost use Rattle.stored.specs.Parts.{wordCount, numberCount, windowAt, trailAt, frameAt, motionAt, followAt, courseAt, lapAt, guideRead, shownAt, guideIn, shownFlag, placeWords, headingWords, motionWords, followWords, courseWords, lapWords, guideWords, placeMosts, headingMosts, motionMosts, followMosts, courseMosts, lapMosts, guideMosts, PlaceFits};
 
 // How many numbers the window has.
 const WINDOW: usize = 96;
@@ -115,7 +116,7 @@ pub fn lap_at(words: &[u64], numbers: &[f32]) -> Lap
 
 fn guide_at(words: &[u64]) -> Guide
     requires { ⌜ wordCount ≤ length (now words) ⌝ }
-    ensures { λ r. ⌜ r ≡ guideRead (now (words .entry)) ⌝ }
+    ensures { λ r. ⌜ r ≡ guideRead (now (words .entry)) 35 ⌝ }
 {
     Guide {
         mode: fields::mode_of(words[layout::MODE]),
@@ -132,7 +133,7 @@ fn guide_at(words: &[u64]) -> Guide
 
 pub fn shown_at(words: &[u64]) -> Shown
     requires { ⌜ wordCount ≤ length (now words) ⌝ }
-    ensures { λ r. ⌜ r ≡ shownOf (flagAt (now (words .entry)) 34) (guideRead (now (words .entry))) ⌝ }
+    ensures { λ r. ⌜ r ≡ shownAt (now (words .entry)) ⌝ }
 {
     if fields::flag_at(words, layout::SHOWN) {
         return Shown::Guide(guide_at(words));
@@ -143,7 +144,7 @@ pub fn shown_at(words: &[u64]) -> Shown
 // ---- parts, written
 
 fn blank() -> Guide
-    ensures { λ r. ⌜ r ≡ blankGuide ⌝ }
+    ensures { λ r. ⌜ r ≡ guideRead [] 0 ⌝ }
 {
     Guide {
         mode: Mode::Direct,

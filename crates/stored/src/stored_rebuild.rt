@@ -10,8 +10,8 @@ ghost use mathlib.Core.Path.{_≡_};
 ghost use mathlib.Core.Bool.{true};
 ghost use Prim.Native.Nat.{_+_, _<_, _≤_};
 ghost use lib.ListN.{length};
-ghost use Rattle.stored.specs.Fields.{within, flagAt};
-ghost use Rattle.stored.specs.Rebuilt.{rebuildCount, rebuildMosts, utcRead, pendingOf, rebuildAt, holdsRebuild, pendingFlag, pendingIn, utcFlag, utcIn, rebuildWords, StoresRebuild};
+ghost use Rattle.stored.specs.Fields.{within};
+ghost use Rattle.stored.specs.Rebuilt.{rebuildCount, rebuildMosts, utcRead, stageRead, rebuildAt, holdsRebuild, pendingFlag, pendingIn, utcFlag, utcIn, rebuildWords, StoresRebuild};
 ghost use Rattle.stored.specs.Inner.{LoadsRebuild};
 
 pub const REBUILD_WORDS: usize = 7;
@@ -48,7 +48,7 @@ fn utc_at(words: &[u64], i: usize) -> Utc
 
 fn stage_at(words: &[u64]) -> Stage
     requires { ⌜ rebuildCount ≤ length (now words) ⌝ }
-    ensures { λ r. ⌜ r ≡ pendingOf (flagAt (now (words .entry)) 3) (utcRead (now (words .entry)) 4) ⌝ }
+    ensures { λ r. ⌜ r ≡ stageRead (now (words .entry)) ⌝ }
 {
     if fields::flag_at(words, layout::PENDING) {
         return Stage::Pending(utc_at(words, layout::UTC_KNOWN));

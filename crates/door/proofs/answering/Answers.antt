@@ -15,9 +15,9 @@ use Rattle.state.specs.declared.Homing.{Homing}
 use Rattle.calls.specs.Promises.{Answer}
 use Rattle.stored.specs.Stored.{stored}
 use Rattle.stored.specs.Inner.{Loads}
-use Rattle.door.specs.Through.{numberOf}
+use Rattle.door.specs.Through.{numberOf, valuesOf}
 use Rattle.door.specs.GuideWords.{guideSize}
-use Rattle.door.specs.Answers.{valuesOf, withRoom, Answers, Parts}
+use Rattle.door.specs.Answers.{withRoom, Answers, Parts}
 
 -- ---- what is read
 pub loaded : {w : List ℕ} {n : List Float} {h : Homing} {b : Bool} → Loads w n h b → not b ≡ false → stored w n ≡ some h

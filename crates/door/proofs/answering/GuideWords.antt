@@ -7,16 +7,17 @@ use mathlib.Core.Bool.{Bool, true, false, _&&_, cond, not}
 use mathlib.Core.List.{List, [], _∷_, _++_}
 use mathlib.Core.Option.{none, some}
 use borrow.Author.Tests.{leb-true, le-leb, lt-leb, not-true, not-false}
-use lib.Dec.{leb, eqb}
+use lib.Dec.{leb}
 use lib.ListN.{length, drop, set}
 use Rattle.plane.specs.declared.Heading.{Heading}
 use Rattle.plane.specs.declared.Heading.the-variants as heading
 use Rattle.state.specs.declared.Mode.{Mode}
 use Rattle.state.specs.declared.Mode.the-variants as mode
 use Rattle.state.specs.declared.Guide.{Guide}
-use Rattle.stored.specs.Fields.{most16, wordAt, flagAt, modeOfTag, headingOf, modeTag, headingFlag, headingIn, flagOf}
-use Rattle.stored.specs.Parts.{guideWords}
-use Rattle.door.specs.GuideWords.{guideSize, areGuide, guideFrom, guideOf, GuideReadBack}
+use Rattle.stored.specs.Fields.{most32, most16, wordAt, flagAt, modeOfTag, headingOf, headingAt, modeTag, headingFlag, headingIn, flagOf}
+use Rattle.stored.specs.Parts.{guideMosts, guideRead, guideWords}
+use Rattle.stored.proofs.ReadBack.{within-at, guide-same}
+use Rattle.door.specs.GuideWords.{guideSize, areGuide, guideOf, GuideReadBack}
 
 -- ---- written
 -- ten words written one by one to a list that has room for them
@@ -76,7 +77,24 @@ are-read w e =
       heading = leb-true (wordAt w 9) most16 (angles .1);
     }
 
-pub guide-read : {b : Bool} (w : List ℕ) → b ≡ areGuide w → not b ≡ false → guideOf w ≡ some (guideFrom w)
+-- the guide that such words are, whose other words are of 32 bits
+pub read-plain : (w : List ℕ) → Read w → wordAt w 4 ≤ most32 → wordAt w 5 ≤ most32 → wordAt w 6 ≤ most32
+    → record {
+      mode = modeOfTag (wordAt w 0);
+      following = flagAt w 1;
+      course = flagAt w 2;
+      «course_near» = flagAt w 3;
+      «direct_m» = wordAt w 4;
+      «track_m» = wordAt w 5;
+      «off_m» = wordAt w 6;
+      bearing = wordAt w 7;
+      heading = headingOf (flagAt w 8) (wordAt w 9);
+    } ≡ guideRead w 0
+unfolding guideRead headingAt
+read-plain w r a b c =
+    simp (le-leb _ most32 a, le-leb _ most32 b, le-leb _ most32 c, le-leb _ most16 (r .bearing), le-leb _ most16 (r .heading))
+
+pub guide-read : {b : Bool} (w : List ℕ) → b ≡ areGuide w → not b ≡ false → guideOf w ≡ some (guideRead w 0)
 unfolding guideOf
 guide-read w told e = let yes : areGuide w ≡ true = sym told ∙ not-false _ e in simp yes
 
@@ -85,29 +103,15 @@ unfolding guideOf
 no-guide w told e = let no : areGuide w ≡ false = sym told ∙ not-true _ e in simp no
 
 -- ---- read back
-mode-back : (m : Mode) → modeOfTag (modeTag m) ≡ m
-mode-back mode.Direct = refl
-mode-back mode.Track = refl
-mode-back mode.OffTrack = refl
-mode-back mode.Arrived = refl
-
 mode-most : (m : Mode) → leb (modeTag m) 3 ≡ true
 mode-most mode.Direct = refl
 mode-most mode.Track = refl
 mode-most mode.OffTrack = refl
 mode-most mode.Arrived = refl
 
-flag-back : (b : Bool) → eqb (flagOf b) 1 ≡ b
-flag-back true = refl
-flag-back false = refl
-
 flag-most : (b : Bool) → leb (flagOf b) 1 ≡ true
 flag-most true = refl
 flag-most false = refl
-
-heading-back : (h : Heading) → headingOf (eqb (headingFlag h) 1) (headingIn h) ≡ h
-heading-back (heading.Known a) = refl
-heading-back heading.Unknown = refl
 
 known-most : (h : Heading) → leb (headingFlag h) 1 ≡ true
 known-most (heading.Known a) = refl
@@ -116,8 +120,20 @@ known-most heading.Unknown = refl
 long-enough : (n : ℕ) → guideSize ≤ suc (suc (suc (suc (suc (suc (suc (suc (suc (suc n)))))))))
 long-enough n = omega arith
 
-pub guide-read-back : GuideReadBack
-unfolding guideOf areGuide guideFrom
-guide-read-back g bearing way ws =
+are-words : (g : Guide) → leb (g .bearing) most16 ≡ true → leb (headingIn (g .heading)) most16 ≡ true → (ws : List ℕ)
+    → areGuide (guideWords g ++ ws) ≡ true
+unfolding areGuide
+are-words g bearing way ws =
     let long : leb guideSize (length (guideWords g ++ ws)) ≡ true = le-leb guideSize (length (guideWords g ++ ws)) (long-enough (length ws)) in
-    simp (long, mode-most, flag-most, known-most, le-leb (g .bearing) most16 bearing, le-leb (headingIn (g .heading)) most16 way, mode-back, flag-back, heading-back)
+    simp (long, mode-most, flag-most, known-most, bearing, way)
+
+pub guide-read-back : GuideReadBack
+unfolding guideOf
+guide-read-back g fits ws =
+    let at : (i : ℕ) → i < guideSize → leb (wordAt (guideWords g) i) (wordAt guideMosts i) ≡ true =
+    within-at guideMosts (guideWords g) fits in
+    let bearing : leb (g .bearing) most16 ≡ true = at 7 (omega arith) in
+    let way : leb (headingIn (g .heading)) most16 ≡ true = at 9 (omega arith) in
+    let yes = are-words g bearing way ws in
+    ap (λ b. cond b (some (guideRead (guideWords g ++ ws) 0)) none) yes
+    ∙ ap some (guide-same g ws (at 4 (omega arith)) (at 5 (omega arith)) (at 6 (omega arith)) bearing way)

@@ -20,7 +20,7 @@ use Rattle.stored.specs.Rebuilt.{rebuildCount, storedRebuild, StoresRebuild}
 use Rattle.stored.specs.Inner.{LoadsRebuild}
 use Rattle.stored.specs.Fields.{flagOf}
 use Rattle.door.specs.Through.{noState, Leaves}
-use Rattle.door.specs.Rebuild.{LeavesRebuild, RebuildNew, RebuildCaughtUp, OnBoth}
+use Rattle.door.specs.Rebuild.{LeavesRebuild, RebuildNew, RebuildCaughtUp, Slices, OnBoth}
 use Rattle.door.proofs.answering.Answers.{held-same, held-none}
 
 pub begun : {v : List ℕ} {r : Rebuild} {b : Bool} → LoadsRebuild v r b → not b ≡ false → storedRebuild v ≡ some r
@@ -56,14 +56,15 @@ module _ {v : List ℕ} {was : ℕ} (upper : ℕ) where
       }
 
 -- ---- the rebuild and the guide
-module _ {unread : ℕ} {untouched : Type 0} {does : Rebuild → Homing → Type 0} {v w : List ℕ} {n : List Float} {number : ℕ} where
-  pub without-rebuild : storedRebuild v ≡ none → number ≡ unread → untouched → OnBoth unread untouched does v w n number
+module _ {unread : ℕ} {untouched : Type 0} {does : Rebuild → Homing → Type 0} {s : Slices} {number : ℕ} where
+  pub without-rebuild : storedRebuild (s .rebuild) ≡ none → number ≡ unread → untouched → OnBoth unread untouched does s number
   without-rebuild e told same = record { noRebuild = λ _. (told, same); noGuide = λ _. (told, same); both = λ r h f g. held-none f e }
 
-  pub without-guide : stored w n ≡ none → number ≡ unread → untouched → OnBoth unread untouched does v w n number
+  pub without-guide : stored (s .words) (s .numbers) ≡ none → number ≡ unread → untouched → OnBoth unread untouched does s number
   without-guide e told same = record { noRebuild = λ _. (told, same); noGuide = λ _. (told, same); both = λ r h f g. held-none g e }
 
-  pub with-both : (r : Rebuild) (h : Homing) → storedRebuild v ≡ some r → stored w n ≡ some h → does r h → OnBoth unread untouched does v w n number
+  pub with-both : (r : Rebuild) (h : Homing) → storedRebuild (s .rebuild) ≡ some r → stored (s .words) (s .numbers) ≡ some h → does r h
+      → OnBoth unread untouched does s number
   with-both r h e f d =
       record {
         noRebuild = λ g. held-none e g;

@@ -20,7 +20,7 @@ use Rattle.state.specs.declared.Mode.{Mode}
 use Rattle.state.specs.declared.Mode.the-variants as mode
 use Rattle.state.specs.declared.Course.{Course}
 use Rattle.log.specs.Entry.{signed}
-use Rattle.stored.specs.Fields.{most32, most16, spotOf, headingOf, placeOf, lineOfTag, stageOfTag, modeOfTag, flagOf, unsigned, spotFlag, pointIn, headingFlag, headingIn, placeFlag, latIn, lonIn, lineTag, stageTag, modeTag}
+use Rattle.stored.specs.Fields.{most32, most16, headingOf, lineOfTag, stageOfTag, modeOfTag, flagOf, unsigned, spotFlag, pointIn, headingFlag, headingIn, placeFlag, latIn, lonIn, lineTag, stageTag, modeTag}
 use Rattle.stored.proofs.fields.Signs.{signed-unsigned}
 
 pub narrow-same : (most x : ℕ) → leb x most ≡ true → cond (leb x most) x 0 ≡ x
@@ -46,7 +46,7 @@ mode-same mode.Track = refl
 mode-same mode.OffTrack = refl
 mode-same mode.Arrived = refl
 
-pub spot-same : (s : Spot) → spotOf (eqb (spotFlag s) 1) (pointIn s) ≡ s
+pub spot-same : (s : Spot) → cond (eqb (spotFlag s) 1) (spot.At (pointIn s)) spot.Nowhere ≡ s
 spot-same (spot.At p) = refl
 spot-same spot.Nowhere = refl
 
@@ -54,7 +54,7 @@ pub heading-same : (h : Heading) → headingOf (eqb (headingFlag h) 1) (headingI
 heading-same (heading.Known a) = refl
 heading-same heading.Unknown = refl
 
-pub place-same : (p : Place) → placeOf (eqb (placeFlag p) 1) (latIn p) (lonIn p) ≡ p
+pub place-same : (p : Place) → cond (eqb (placeFlag p) 1) (place.At (latIn p) (lonIn p)) place.Missing ≡ p
 place-same (place.At a b) = refl
 place-same place.Missing = refl
 

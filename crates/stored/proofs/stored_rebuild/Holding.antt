@@ -1,7 +1,7 @@
 -- Whether a rebuild is held, and what loading gives. Assumes nothing.
 use Prim.Native.Nat.{ℕ, _≤_, _<_}
 use mathlib.Core.Path.{_≡_, refl, sym, ap, _∙_}
-use mathlib.Core.Bool.{Bool, true, false, _&&_, false≢true, true≢false}
+use mathlib.Core.Bool.{Bool, true, false, _&&_, cond, false≢true, true≢false}
 use mathlib.Core.List.{List}
 use mathlib.Core.Option.{Option, some, none}
 use native.Mathlib.Omega.{arith}
@@ -9,7 +9,7 @@ use lib.Dec.{eqb}
 use lib.ListN.{length}
 use Rattle.rebuild.specs.declared.Rebuild.{Rebuild}
 use Rattle.stored.specs.Fields.{within, wordAt}
-use Rattle.stored.specs.Rebuilt.{rebuildMark, rebuildCount, rebuildMosts, holdsRebuild, rebuildIf, rebuildAt, storedRebuild, RebuildHasRoom}
+use Rattle.stored.specs.Rebuilt.{rebuildMark, rebuildCount, rebuildMosts, holdsRebuild, rebuildAt, storedRebuild, RebuildHasRoom}
 use Rattle.stored.specs.Inner.{LoadsRebuild}
 use Rattle.stored.proofs.fields.Limits.{within-room}
 
@@ -42,11 +42,11 @@ loads-room-rebuild w h = within-room rebuildMosts w (both (eqb (wordAt w 0) rebu
 
 pub loads-there-rebuild : (w : List ℕ) {r : Rebuild} → holdsRebuild w ≡ true → r ≡ rebuildAt w → LoadsRebuild w r true
 unfolding storedRebuild
-loads-there-rebuild w {r} t e = record { there = λ _. ap (λ b. rebuildIf b (rebuildAt w)) t ∙ ap some (sym e); nothing = λ f. absurd (true≢false f) }
+loads-there-rebuild w {r} t e = record { there = λ _. ap (λ b. cond b (some (rebuildAt w)) none) t ∙ ap some (sym e); nothing = λ f. absurd (true≢false f) }
 
 pub loads-nothing-rebuild : (w : List ℕ) (r : Rebuild) → holdsRebuild w ≡ false → LoadsRebuild w r false
 unfolding storedRebuild
-loads-nothing-rebuild w r t = record { there = λ f. absurd (false≢true f); nothing = λ _. ap (λ b. rebuildIf b (rebuildAt w)) t }
+loads-nothing-rebuild w r t = record { there = λ f. absurd (false≢true f); nothing = λ _. ap (λ b. cond b (some (rebuildAt w)) none) t }
 
 unfoldable isSome : {A : Type 0} → Option A → Bool
 isSome (some x) = true
@@ -56,6 +56,6 @@ pub rebuild-has-room : RebuildHasRoom
 unfolding storedRebuild isSome
 rebuild-has-room w r e = go (holdsRebuild w) refl e
   where
-    go : (b : Bool) → holdsRebuild w ≡ b → rebuildIf b (rebuildAt w) ≡ some r → rebuildCount ≤ length w
+    go : (b : Bool) → holdsRebuild w ≡ b → cond b (some (rebuildAt w)) none ≡ some r → rebuildCount ≤ length w
     go true t e = loads-room-rebuild w t
     go false t e = absurd (false≢true (ap isSome e))

@@ -1,10 +1,7 @@
 -- `door::answering::guide_at` meets its contract. Assumes nothing.
 use native.Mathlib.Omega.{arith}
-use mathlib.Core.Path.{_≡_, refl, sym, ap, ap₂}
 use denote.Ref.{now}
-use Rattle.stored.specs.Fields.{flagAt}
-use Rattle.door.specs.GuideWords.{guideFrom}
-use Rattle.door.proofs.answering.GuideWords.{are-read}
+use Rattle.door.proofs.answering.GuideWords.{are-read, read-plain}
 use borrow.Author.Needs.{needs}
 use Rattle.door.proofs.answering.guide_at.Statement.{statement}
 use Rattle.door.proofs.answering.guide_at.Tie as tie
@@ -52,8 +49,11 @@ cast-t10 : tie.Need-cast-t10
 cast-t10 c = record { fits = omega (arith, are-read (now (c .before .before .before .before .before .before .before .before .before .before .before .before .before .args .words)) (c .before .before .before .before .before .before .before .before .before .before .before .before .before .pre) .bearing) }
 
 returns : tie.Need-returns
-unfolding guideFrom
-returns c = simp (c .before .before .before .before .before .before .before .before .before .before .mode-of .ensures, c .before .before .before .before .before .before .before .heading-of .ensures)
+returns c =
+    let w = now (c .before .before .before .before .before .before .before .before .before .before .before .before .before .args .words) in
+    let known = c .shared-slice-known11 .given in
+    simp (c .before .before .before .before .before .before .before .before .before .before .mode-of .ensures, c .before .before .before .before .before .before .before .heading-of .ensures)
+    (read-plain w (are-read w (c .before .before .before .before .before .before .before .before .before .before .before .before .before .pre)) (omega (arith, known 4)) (omega (arith, known 5)) (omega (arith, known 6)))
 
 pub guide-at-spec : {M : Type 1} → statement M
 guide-at-spec =

@@ -2,9 +2,9 @@
 use mathlib.Core.Path.{_≡_, refl, sym, ap, _∙_}
 use Rattle.answers.specs.Answers.{saysAhead}
 use Rattle.answers.specs.declared.Ahead.{Ahead}
-use Rattle.door.specs.Answers.{valuesOf, SpotValues, AheadValues, aheadValues, leading}
+use Rattle.door.specs.Answers.{SpotValues, AheadValues, aheadValues, leading}
 use denote.Ref.{now}
-use Rattle.door.specs.Through.{numberOf}
+use Rattle.door.specs.Through.{numberOf, valuesOf}
 use borrow.Author.Needs.{needs}
 use Rattle.door.proofs.answering.put_ahead.Statement.{statement}
 use Rattle.door.proofs.answering.put_ahead.Tie as tie

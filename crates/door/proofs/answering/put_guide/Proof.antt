@@ -6,7 +6,6 @@ use lib.ListN.{length-set}
 use denote.Ref.{now}
 use Rattle.stored.specs.Parts.{guideWords}
 use Rattle.door.proofs.answering.GuideWords.{ten-written}
-use Rattle.door.specs.Through.{written}
 use borrow.Author.Needs.{needs}
 use Rattle.door.proofs.answering.put_guide.Statement.{statement}
 use Rattle.door.proofs.answering.put_guide.Tie as tie

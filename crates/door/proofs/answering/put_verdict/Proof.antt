@@ -2,9 +2,9 @@
 use mathlib.Core.Path.{_≡_, refl, sym, ap, _∙_}
 use Rattle.answers.specs.Answers.{saysVerdict}
 use Rattle.answers.specs.declared.Verdict.{Verdict}
-use Rattle.door.specs.Answers.{valuesOf, flagged}
+use Rattle.door.specs.Answers.{flagged}
 use denote.Ref.{now}
-use Rattle.door.specs.Through.{numberOf}
+use Rattle.door.specs.Through.{numberOf, valuesOf}
 use borrow.Author.Needs.{needs}
 use Rattle.door.proofs.answering.put_verdict.Statement.{statement}
 use Rattle.door.proofs.answering.put_verdict.Tie as tie

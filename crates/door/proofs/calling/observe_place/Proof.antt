@@ -46,7 +46,15 @@ returns-2 c =
     let kept = c .before .before .before .before .keep .ensures in
     let made = c .before .before .before .before .before .before .before .before .before .before .before .before .before .observe in
     on-held (c .before .before .before .before .before .before .before .before .before .before .before .before .before .before .before .before .before .before .load .ensures) (c .before .before .before .before .before .before .before .before .before .before .before .before .before .before .before .before .if1 .left)
-    (record { call = made .result; promised = made .ensures; state = refl; refusal = kept .0 ∙ c .before .before .before .before .before .before .before .number-of-sight .ensures; event = c .before .before .before .before .before .before .before .before .event-written .ensures })
+    (record {
+      made = record {
+        answer = made .result;
+        promised = made .ensures;
+        told = kept .0 ∙ c .before .before .before .before .before .before .before .number-of-sight .ensures;
+        written = c .before .before .before .before .before .before .before .before .event-written .ensures;
+      };
+      state = refl;
+    })
     (kept .1)
 
 pub observe-place-spec : {M : Type 1} → statement M

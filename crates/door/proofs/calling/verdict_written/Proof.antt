@@ -2,8 +2,8 @@
 use mathlib.Core.Path.{sym, ap, _∙_}
 use Rattle.answers.specs.declared.Verdict.{Verdict}
 use Rattle.answers.specs.Answers.{saysVerdict}
-use Rattle.stored.specs.Fields.{flagOf}
-use Rattle.door.specs.Through.{written}
+use Rattle.door.specs.Through.{valuesOf}
+use Rattle.door.specs.Answers.{flagged}
 use borrow.Author.Needs.{needs}
 use Rattle.door.proofs.calling.verdict_written.Statement.{statement}
 use Rattle.door.proofs.calling.verdict_written.Tie as tie
@@ -18,12 +18,12 @@ enum-told : tie.Need-enum-told
 enum-told c = search needs
 
 returns : tie.Need-returns
-unfolding written saysVerdict
-returns c = c .flag-of .ensures ∙ sym (ap (λ (a : Verdict). written flagOf (saysVerdict a) (c .before .before .before .before .args .was)) (c .before .before .answer .given .1))
+unfolding saysVerdict
+returns c = c .flag-of .ensures ∙ sym (ap (λ (a : Verdict). valuesOf flagged (saysVerdict a) (c .before .before .before .before .args .was)) (c .before .before .answer .given .1))
 
 returns-2 : tie.Need-returns-2
-unfolding written saysVerdict
-returns-2 c = sym (ap (λ (a : Verdict). written flagOf (saysVerdict a) (c .before .before .args .was)) (c .enum-told .given .1))
+unfolding saysVerdict
+returns-2 c = sym (ap (λ (a : Verdict). valuesOf flagged (saysVerdict a) (c .before .before .args .was)) (c .enum-told .given .1))
 
 pub verdict-written-spec : {M : Type 1} → statement M
 verdict-written-spec =

@@ -59,7 +59,7 @@ same-length-8 : tie.Need-same-length-8
 same-length-8 c = search needs
 
 returns-3 : tie.Need-returns-3
-returns-3 c = let kept = c .before .before .before .before .before .before .keep-both .ensures in with-both _ _ (begun (c .before .before .before .before .before .before .before .before .before .before .before .before .before .before .before .before .before .before .before .before .before .before .before .before .before .before .before .load-rebuild .ensures) (c .before .before .before .before .before .before .before .before .before .before .before .before .before .before .before .before .before .before .before .before .before .before .before .before .before .if1 .left)) (loaded (c .before .before .before .before .before .before .before .before .before .before .before .before .before .before .before .before .before .before .before .before .before .before .load .ensures) (c .before .before .before .before .before .before .before .before .before .before .before .before .before .before .before .before .before .before .before .before .if2 .left)) (record { call = c .before .before .before .before .before .before .before .before .before .before .before .before .before .before .before .before .step .result; promised = c .before .before .before .before .before .before .before .before .before .before .before .before .before .before .before .before .step .ensures; refusal = kept .0 ∙ c .before .before .before .before .before .before .before .before .before .before .before .before .put-verdict .ensures .0; done = c .before .before .before .before .before .before .before .before .before .before .before .before .put-verdict .ensures .1; rebuilt = kept .1 .0; state = kept .1 .1 })
+returns-3 c = let kept = c .before .before .before .before .before .before .keep-both .ensures in with-both _ _ (begun (c .before .before .before .before .before .before .before .before .before .before .before .before .before .before .before .before .before .before .before .before .before .before .before .before .before .before .before .load-rebuild .ensures) (c .before .before .before .before .before .before .before .before .before .before .before .before .before .before .before .before .before .before .before .before .before .before .before .before .before .if1 .left)) (loaded (c .before .before .before .before .before .before .before .before .before .before .before .before .before .before .before .before .before .before .before .before .before .before .load .ensures) (c .before .before .before .before .before .before .before .before .before .before .before .before .before .before .before .before .before .before .before .before .if2 .left)) (record { made = record { answer = c .before .before .before .before .before .before .before .before .before .before .before .before .before .before .before .before .step .result; promised = c .before .before .before .before .before .before .before .before .before .before .before .before .before .before .before .before .step .ensures; told = kept .0 ∙ c .before .before .before .before .before .before .before .before .before .before .before .before .put-verdict .ensures .0; written = c .before .before .before .before .before .before .before .before .before .before .before .before .put-verdict .ensures .1 }; rebuilt = kept .1 .0; state = kept .1 .1 })
 
 pub cittumay-rebuild-step-spec : {M : Type 1} → statement M
 cittumay-rebuild-step-spec =

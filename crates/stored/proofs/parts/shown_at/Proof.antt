@@ -1,4 +1,5 @@
 -- `stored::parts::shown_at` meets its contract. Assumes nothing.
+use Rattle.stored.specs.Parts.{shownAt}
 use Rattle.stored.proofs.parts.Parts.{shown-there, shown-missing}
 use mathlib.Core.Path.{_∙_, sym}
 use borrow.Author.Needs.{needs}
@@ -12,9 +13,11 @@ guide-at-requires : tie.Need-guide-at-requires
 guide-at-requires c κs = search needs
 
 returns : tie.Need-returns
+unfolding shownAt
 returns c = shown-there _ _ (sym (c .before .before .flag-at .ensures) ∙ c .before .if1 .taken) (c .guide-at .ensures)
 
 returns-2 : tie.Need-returns-2
+unfolding shownAt
 returns-2 c = shown-missing _ _ (sym (c .before .flag-at .ensures) ∙ c .if1 .left)
 
 pub shown-at-spec : {M : Type 1} → statement M
