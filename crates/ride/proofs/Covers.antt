@@ -17,7 +17,7 @@ use Rattle.course.specs.Course.{fixes}
 use Rattle.calls.specs.Calls as call
 use Rattle.calls.specs.Calls.{Loan, Query, Call, Ask, Reset, EndReplay, SetCourse, SetAutoFollow, Observe, Replay, SetFollowing, arguments}
 use Rattle.ride.specs.Script.{CallEntry, callEntries, placeIn, fixIn, numbered, callOf, readable, decode}
-use Rattle.ride.specs.Theorems.{lineIn, linesOf, pointsOf, Each, SliceOf, EveryListWritten}
+use Rattle.ride.specs.Theorems.{lentLine, linesOf, pointsOf, Each, SliceOf, EveryListWritten}
 
 -- ---- how a call is written
 abbrev onOff : ℕ → Bool → ℕ
@@ -47,7 +47,7 @@ opOf (Replay point clock) = 6
 opOf (SetFollowing line on clock) = onOff 7 on
 
 abbrev lentTo : Call → List Float
-lentTo c = lineIn (arguments c .loan)
+lentTo c = lentLine (arguments c .loan)
 
 abbrev sizeOf : Call → ℕ
 sizeOf c = length (lentTo c)

@@ -13,16 +13,16 @@ use Rattle.calls.specs.Calls.{Loan, noBuffer, crumbBuffer, lineBuffer, bothBuff
 use Rattle.ride.specs.Script.{writtenCalls}
 
 -- ---- the lines and the points that calls are given
-abbrev pub lineIn : Loan → List Float
-lineIn noBuffer = []
-lineIn crumbBuffer = []
-lineIn (lineBuffer b) = b
-lineIn (bothBuffers b) = b
-lineIn (lineForCourse b xs) = b
+abbrev pub lentLine : Loan → List Float
+lentLine noBuffer = []
+lentLine crumbBuffer = []
+lentLine (lineBuffer b) = b
+lentLine (bothBuffers b) = b
+lentLine (lineForCourse b xs) = b
 
 abbrev pub linesOf : List Call → List Float
 linesOf [] = []
-linesOf (c ∷ cs) = lineIn (arguments c .loan) ++ linesOf cs
+linesOf (c ∷ cs) = lentLine (arguments c .loan) ++ linesOf cs
 
 abbrev pub pointsOf : List Call → List Fix
 pointsOf [] = []
