@@ -173,13 +173,8 @@ fn smaller(n: u64, end: u32) -> u32
 pub fn clamp(x: f32) -> f32
     ensures { λ r. ⌜ r ≡ clamp x ⌝ }
 {
-    if x < 0.0 {
-        return 0.0;
-    }
-    if x > 1.0 {
-        return 1.0;
-    }
-    x
+    let y = if x < 0.0 { 0.0 } else { x };
+    if y > 1.0 { 1.0 } else { y }
 }
 
 // Rust's `x.max(0.0)`.

@@ -4,3 +4,4 @@ pub mod Search
 pub mod Theorems
 pub mod CourseMatch
 pub mod Square
+pub mod Rows

@@ -1,5 +1,5 @@
 -- For the functions inside: the segment whose square is the least. What the search gives is `nearestOnBreadcrumb`.
-use Prim.Native.Nat.{ℕ, zero, suc, _-_}
+use Prim.Native.Nat.{ℕ, zero, suc, _+_, _-_}
 use mathlib.Core.Bool.{Bool, not, _||_, cond}
 use mathlib.Core.List.{List}
 use lib.Dec.{eqb}
@@ -23,3 +23,8 @@ overtakes end s lead =
 
 unfoldable pub takesLead : List Crumb → Point → Stretch → ℕ → Lead → Lead
 takesLead line p within end lead = cond (reaches line within end) (overtakes end (squareOn line p end) lead) lead
+
+-- `left` segments one after the other, from `end` up
+unfoldable pub leadsOver : List Crumb → Point → Stretch → ℕ → ℕ → Lead → Lead
+leadsOver line p within zero end lead = lead
+leadsOver line p within (suc left) end lead = leadsOver line p within left (end + 1) (takesLead line p within end lead)

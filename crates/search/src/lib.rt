@@ -1,8 +1,10 @@
 // Searches on a whole line of crumbs: the segment nearest a position, the place a way along. `quick` finds the
-// nearest one with two roots in all, `course_match` the segment of the followed course that the rider is on.
+// nearest one with two roots in all, by the squares of `rows`; `course_match` the segment of the followed course
+// that the rider is on.
 
 pub mod course_match;
 pub mod quick;
+pub mod rows;
 
 use crumbs::Crumb;
 use plane::Point;

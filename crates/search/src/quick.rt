@@ -1,17 +1,20 @@
-// The nearest segment of the breadcrumb, with two roots in all: squares are compared on the way.
+// The nearest segment of the breadcrumb, with two roots in all: squares are compared on the way, by rows.
 
 use crate::Range;
+use crate::rows;
 use plane::Point;
 use segments::Best;
 use segments::Stretch;
 use segments::costs::Ranking;
 ghost use mathlib.Core.Path.{_≡_};
-ghost use Prim.Native.Nat.{_≤_, _<_};
+ghost use Prim.Native.Nat.{_+_, _≤_, _<_};
 ghost use lib.ListN.{length};
 ghost use Rattle.crumbs.specs.Crumb.{capacity, crumbs};
-ghost use Rattle.search.specs.Search.{nearestOnBreadcrumb, nearestWithin};
+ghost use Rattle.plane.specs.declared.Point.{Point};
+ghost use Rattle.search.specs.Search.{nearestOnBreadcrumb, nearestWithin, count};
 ghost use Rattle.segments.specs.declared.costs.Ranking.the-variants.{Plain};
-ghost use Rattle.search.specs.Square.{reaches, overtakes, takesLead};
+ghost use Rattle.search.specs.Square.{reaches, overtakes, takesLead, leadsOver};
+ghost use Rattle.search.specs.Rows.{rowLength, SquaresFrom};
 
 // The segment with the least square so far, 0 where there is none, that square, and the least of those tried before it.
 struct Lead {
@@ -61,6 +64,75 @@ fn consider(line: &[f32], len: usize, p: Point, within: Stretch, end: usize, lea
     lead
 }
 
+// The lead behind the segments of a row, from `first` on, whose squares are known.
+fn along_row(
+    line: &[f32],
+    len: usize,
+    within: Stretch,
+    first: usize,
+    row: &[f32; 16],
+    lead: Lead,
+) -> Lead
+    requires { ⌜ (1 ≤ first) × (first + rowLength ≤ len) × (len ≤ capacity (length (now line))) ⌝ }
+    ensures { λ r. ⌜ ((p : Point) → SquaresFrom (crumbs len (now (line .entry))) p first (now (row .entry))
+        → r ≡ leadsOver (crumbs len (now (line .entry))) p within rowLength first lead) ⌝ }
+{
+    let mut leading = lead;
+    for k in 0..rows::ROW {
+        if reaches(line, len, within, first + k) {
+            leading = overtake(leading, first + k, row[k]);
+        }
+    }
+    leading
+}
+
+// The lead behind the segments of a row, from `first` on. Where none of their squares is less, it stays.
+fn over_row(line: &[f32], len: usize, p: Point, within: Stretch, first: usize, lead: Lead) -> Lead
+    requires { ⌜ (1 ≤ first) × (first + rowLength ≤ len) × (len ≤ capacity (length (now line))) ⌝ }
+    ensures { λ r. ⌜ r ≡ leadsOver (crumbs len (now (line .entry))) p within rowLength first lead ⌝ }
+{
+    let row = rows::squares_from(line, len, p, first);
+    if lead.best == 0 {
+        return along_row(line, len, within, first, &row, lead);
+    }
+    if rows::any_less(&row, lead.least) {
+        return along_row(line, len, within, first, &row, lead);
+    }
+    lead
+}
+
+// The lead behind all segments of a range, one by one.
+fn over_each(line: &[f32], len: usize, p: Point, within: Stretch, ends: Range, lead: Lead) -> Lead
+    requires { ⌜ (1 ≤ ends .from) × (ends .to < len) × (len ≤ capacity (length (now line))) ⌝ }
+    ensures { λ r. ⌜ r ≡ leadsOver (crumbs len (now (line .entry))) p within (count ends) (ends .from) lead ⌝ }
+{
+    let mut leading = lead;
+    let mut end = ends.from;
+    while end <= ends.to {
+        leading = consider(line, len, p, within, end, leading);
+        end += 1;
+    }
+    leading
+}
+
+// The lead behind all segments of a range, by rows as far as they go.
+fn over_all(line: &[f32], len: usize, p: Point, within: Stretch, ends: Range, lead: Lead) -> Lead
+    requires { ⌜ (1 ≤ ends .from) × (ends .to < len) × (len ≤ capacity (length (now line))) ⌝ }
+    ensures { λ r. ⌜ r ≡ leadsOver (crumbs len (now (line .entry))) p within (count ends) (ends .from) lead ⌝ }
+{
+    let mut leading = lead;
+    let mut end = ends.from;
+    while end <= ends.to && rows::ROW <= ends.to - end {
+        leading = over_row(line, len, p, within, end, leading);
+        end += rows::ROW;
+    }
+    let rest = Range {
+        from: end,
+        to: ends.to,
+    };
+    over_each(line, len, p, within, rest, leading)
+}
+
 // The nearest segment of the breadcrumb; on a tie the one nearer home. Where the root of the least square tried before the
 // best is larger than the best's, the best is the one that the roots give. Else there may be a tie, and the roots decide.
 pub fn nearest_on_breadcrumb(line: &[f32], len: usize, p: Point, ends: Range) -> Best
@@ -71,16 +143,12 @@ pub fn nearest_on_breadcrumb(line: &[f32], len: usize, p: Point, ends: Range) ->
         floor: crate::LOWEST,
         ceiling: crate::LARGEST,
     };
-    let mut lead = Lead {
+    let none = Lead {
         best: 0,
         least: 0.0,
         before: crate::LARGEST,
     };
-    let mut end = ends.from;
-    while end <= ends.to {
-        lead = consider(line, len, p, anywhere, end, lead);
-        end += 1;
-    }
+    let lead = over_all(line, len, p, anywhere, ends, none);
     if lead.best == 0 {
         return Best::Nothing;
     }
