@@ -91,9 +91,6 @@ pub fn joining(h: Homing, line: &[f32], p: Point) -> Answered
     join_on(h, join)
 }
 
-// Fixes in a row back along the breadcrumb.
-pub const RETRACE_FIXES: u8 = 8;
-
 // Whether this fix continues a ride back along the breadcrumb for long enough to follow it.
 pub fn retracing(h: Homing, crumbs: &[f32], p: Point) -> Answered
     requires { ⌜ (h .trail .len ≤ capacity (length (now crumbs))) × (h .trail .retrace < 255) ⌝ }
@@ -110,7 +107,7 @@ pub fn retracing(h: Homing, crumbs: &[f32], p: Point) -> Answered
         homing.trail.retrace_len = retrace_len;
         return Answered {
             homing,
-            yes: RETRACE_FIXES <= fixes,
+            yes: trail::RETRACE_FIXES <= fixes,
         };
     }
     let mut homing = h;

@@ -15,7 +15,7 @@ use Rattle.plane.specs.declared.Heading.{Heading}
 use Rattle.plane.specs.declared.Heading.the-variants.{Known}
 use Rattle.plane.specs.Plane.{turn}
 use Rattle.crumbs.specs.Crumb.{whole, capacity, crumbs}
-use Rattle.trail.specs.Trail.{windowPlaces}
+use Rattle.trail.specs.Trail.{retraceFixes, windowPlaces}
 use Rattle.trail.specs.View as trail
 use Rattle.trail.specs.View.{places, track}
 use Rattle.state.specs.declared.Line.{Line}
@@ -25,7 +25,6 @@ use Rattle.state.specs.declared.Shown.{Shown}
 use Rattle.state.specs.declared.Shown.the-variants as shown
 use Rattle.state.specs.declared.Homing.{Homing}
 use Rattle.state.specs.State.{stateOf}
-use Rattle.joining.specs.Join.{retraceFixes}
 use Rattle.follow.specs.View as follow
 use Rattle.course.specs.Fix.{Fix}
 use Rattle.course.specs.Course.{points}

@@ -18,12 +18,12 @@ use Rattle.crumbs.specs.declared.Crumb.{Crumb}
 use Rattle.crumbs.specs.Crumb.{point}
 use Rattle.crumbs.specs.Choice.{last}
 use Rattle.trail.specs.Notes.{Note, thinnedIn}
-use Rattle.trail.specs.Trail.{Track, withCrumbs, fresh, toleranceM, thin, put, keep, flush, wait, simplify, add, resetTrack}
+use Rattle.trail.specs.Trail.{retraceFixes, Track, withCrumbs, fresh, toleranceM, thin, put, keep, flush, wait, simplify, add, resetTrack}
 use Rattle.trail.proofs.Rules.{keep-full, keep-room, flush-none, flush-some, bends, simplify-bends, simplify-straight, add-first, near, add-near, add-far}
 use Rattle.trail.proofs.Theorems.{Sound, thin-sound, flush-sound, Holding, MayKeep, nothing, one, Keeps, full}
 use Rattle.trail.proofs.Theorems as trail
 use Rattle.follow.specs.Engage.{forgotten}
-use Rattle.joining.specs.Join.{retraceFixes, withRetrace}
+use Rattle.joining.specs.Join.{withRetrace}
 use Rattle.joining.specs.Retrace.{lenBefore}
 use Rattle.calls.specs.Questions.{placesFit, retraceFits}
 use Rattle.taken.proofs.Tests.{one-of}

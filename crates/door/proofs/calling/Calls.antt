@@ -16,13 +16,15 @@ use Rattle.course.specs.Fix.{Fix}
 use Rattle.course.proofs.Fixes.{handed}
 use Rattle.fix.proofs.Arriving.{fixAt, handed-fix}
 use Rattle.calls.specs.Questions.{question1, unless, _orElse_}
-use Rattle.calls.specs.Promises.{Answer, answer}
+use Rattle.calls.specs.Promises.{Answer, gives, refused, answer}
 use Rattle.questions.proofs.Counted.{split}
 use Rattle.homing.specs.declared.Changed.{Changed}
 use Rattle.homing.specs.Answers.{saysReply}
 use Rattle.homing.specs.Promises.{MakesNew, Replays}
 use Rattle.stored.specs.Stored.{roomFor, wordCount, numberCount}
-use Rattle.door.specs.Through.{numberOf, noState, noStateWith, Leaves}
+use Rattle.stored.specs.Fields.{flagOf}
+use Rattle.door.specs.Through.{numberOf, written, noState, noStateWith, Leaves}
+use Rattle.door.specs.Answers.{valuesOf, flagged}
 use Rattle.door.specs.Calls.{New, Observe}
 use Rattle.door.proofs.numbering.Through.{was-false, was-true}
 
@@ -31,6 +33,12 @@ number-asked : {A : Type 0} (number : ℕ) (a : A) → numberOf (answer number a
 unfolding numberOf answer
 number-asked zero a = refl
 number-asked (suc k) a = rw (eqb·suc-zero k)
+
+-- a flag is written as a value is
+pub flag-written : (a : Answer Bool) (was : ℕ) → valuesOf flagged a was ≡ written flagOf a was
+unfolding written
+flag-written (gives b) was = refl
+flag-written (refused number) was = refl
 
 -- ---- by question 1's answer
 refuses : (b : Bool) → (unless b 1 orElse noState) ≡ 0 → ⊥

@@ -20,7 +20,7 @@ use Rattle.lap.specs.declared.Lap.{Lap}
 use Rattle.motion.specs.Heading.{elapsed, headingStepM, headingStaleMs, spotOr, renewed, aged, trackHeading}
 use Rattle.lap.specs.Lap.{movingAt, lapStart, stepFrom, stepPass}
 use Rattle.trail.specs.Notes.{thinnedIn}
-use Rattle.trail.specs.Trail.{Track, windowPlaces}
+use Rattle.trail.specs.Trail.{retraceFixes, Track, windowPlaces}
 use Rattle.trail.specs.Trail as trail
 use Rattle.trail.proofs.Theorems.{Sound, add-sound, add-keeps}
 use Rattle.state.specs.declared.Line.{Line}
@@ -31,7 +31,6 @@ use Rattle.state.specs.declared.Course.{Course}
 use Rattle.state.specs.State.{State, withFrame}
 use Rattle.follow.specs.Parts.{endedByThinning}
 use Rattle.follow.specs.Record.{afterThinning, recordedIn, recorded, addIn}
-use Rattle.joining.specs.Join.{retraceFixes}
 use Rattle.course.specs.Fix.{Fix, located}
 use Rattle.calls.specs.Questions.{placesFit, spotFits, alongFits, headingFits, shownFits, factorFits, segmentFits, followFits, retraceFits, countsFit, spotsFit, numbersFit, stateFits, crumbsFit, heldFits, placeFits}
 use Rattle.calls.specs.Fix.{headed, passOnly, replay, unheaded}
