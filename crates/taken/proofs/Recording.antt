@@ -29,6 +29,7 @@ use Rattle.calls.specs.Questions.{placesFit, retraceFits}
 use Rattle.taken.proofs.Tests.{one-of}
 use Rattle.taken.proofs.Bounds.{place-fits}
 use Rattle.taken.proofs.Laid.{most, Laid, laid-take, laid-put, laid-thin}
+use Rattle.journal.proofs.Calls.{new-tolerance}
 
 -- ---- places that wait
 abbrev pub Places : List Point → Type 0
@@ -146,18 +147,14 @@ module _ (C : ℕ) (least : 3 ≤ C) (room : C ≤ most) where
       by (some a) e = far a e (near C p t a) refl
 
 -- ---- nothing recorded, and what is cut off or forgotten
-tolerance-least : le plusZero toleranceM ≡ true
-unfolding le lt toleranceM constant
-tolerance-least = refl
-
 module _ (C : ℕ) where
   pub fresh-recorded : Recorded C fresh
   unfolding fresh
-  fresh-recorded = record { sound = record { held = omega arith; waiting = omega arith; tolerance = tolerance-least }; laid = tt; waiting = tt }
+  fresh-recorded = record { sound = record { held = omega arith; waiting = omega arith; tolerance = new-tolerance }; laid = tt; waiting = tt }
 
   pub reset-recorded : (t : Track) → Recorded C (resetTrack t .track)
   unfolding resetTrack
-  reset-recorded t = record { sound = record { held = omega arith; waiting = omega arith; tolerance = tolerance-least }; laid = tt; waiting = tt }
+  reset-recorded t = record { sound = record { held = omega arith; waiting = omega arith; tolerance = new-tolerance }; laid = tt; waiting = tt }
 
   -- the first n crumbs, with nothing that waits and no turn-round
   pub cut-recorded : (n : ℕ) (t : Track) → Recorded C t → Recorded C (withCrumbs (take n (t .crumbs)) (forgotten t))
