@@ -159,7 +159,7 @@ pub record Below (d : ℤ) (y z : ℤ) : Type 0 where
 abbrev back : ℤ → ℤ
 back z = toZ w64 (ofZ w64 z)
 
-flipped : (n : ℕ) → negsuc 0 -ℤ negsuc n ≡ pos n
+pub flipped : (n : ℕ) → negsuc 0 -ℤ negsuc n ≡ pos n
 flipped n = +ℤ-comm (negsuc 0) (pos (suc n)) ∙ -ℤ-one (pos (suc n))
 
 pub turned : (d : ℤ) → SFits w64 d → leZ (pos 0) (back d) ≡ false → Below d (negsuc 0 -ℤ back d) (back (negsuc 0 -ℤ back d))

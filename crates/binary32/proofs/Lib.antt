@@ -9,7 +9,7 @@ mod Examples
 mod Patterns
 mod Ranges
 mod Values
-mod Cases
-mod Casting
+pub mod Cases
+pub mod Casting
 pub mod magnitude
 pub mod roots

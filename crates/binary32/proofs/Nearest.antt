@@ -20,6 +20,8 @@ use Rattle.binary32.specs.Root.{halves, rootOf, root}
 use Rattle.binary32.specs.Nearest.{NoneNearer, EveryRootNearest, EveryRootFinite}
 use Rattle.binary32.proofs.Sides.{halves-above, halves-below}
 use Rattle.binary32.proofs.Closest.{Cmp, cmp}
+use Rattle.binary32.proofs.Rounded.{rootOf-is}
+use Rattle.binary32.proofs.magnitude.Round.{value-finite}
 
 -- ---- `closest` is within a half
 half : (o : Ordering) (w r b : ℕ) → Cmp o (r * 2) b → r < b → (2 * (nearest w o * b) ≤ 2 * (w * b + r) + b) × (2 * (w * b + r) ≤ 2 * (nearest w o * b) + b)
@@ -171,16 +173,7 @@ root-positive f (fin true m e) p = absurd p
 root-positive f (fin false zero e) p = absurd p
 root-positive f (fin false (suc m) e) p = refl
 
-rootOf-is : (f : Format) (a c : ℕ) → rootOf f a c ≡ round f false (halves (a * c * (2 ^ suc (low f) * 2 ^ suc (low f)))) (2 * (c * 2 ^ suc (low f)))
-unfolding rootOf
-rootOf-is f a c = refl
-
-value-finite : (x : Float) (s : Bool) (a c : ℕ) → HasValue x s a c → T (finite x)
-value-finite nan s a c h = absurd h
-value-finite (inf t) s a c h = absurd h
-value-finite (fin t m e) s a c h = tt
-
-value-one : (x : Float) (a b c : ℕ) → HasValue x false a c → HasValue x false b c → a ≡ b
+pub value-one : (x : Float) (a b c : ℕ) → HasValue x false a c → HasValue x false b c → a ≡ b
 value-one x a b c h k = eq-of-mul-eq-mul-right (den x) (den-pos x) a b (sym (value→cross x a c h) ∙ value→cross x b c k)
 
 -- with l for 2 ^ low, s for the sum of the two values, and a / c for x: from what `round` compares to what is under the root

@@ -136,7 +136,8 @@ module _ (m q H l : ℕ) (L : 0 < l) where
       four : (x : ℕ) → 4 * (x * H) ≡ 2 * (x * (2 * H))
       four x = let e : x * (2 * H) ≡ 2 * (x * H) = mul-left-comm x 2 H in omega arith
 
-rootOf-is : (f : Format) (a c : ℕ) → rootOf f a c ≡ round f false (halves (a * c * (2 ^ suc (low f) * 2 ^ suc (low f)))) (2 * (c * 2 ^ suc (low f)))
+pub rootOf-is : (f : Format) (a c : ℕ)
+    → rootOf f a c ≡ round f false (halves (a * c * (2 ^ suc (low f) * 2 ^ suc (low f)))) (2 * (c * 2 ^ suc (low f)))
 unfolding rootOf
 rootOf-is f a c = refl
 

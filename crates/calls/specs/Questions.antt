@@ -15,7 +15,7 @@ use Rattle.plane.specs.declared.Heading.the-variants.{Known, Unknown}
 use Rattle.plane.specs.Plane.{turn}
 use Rattle.crumbs.specs.declared.Crumb.{Crumb}
 use Rattle.crumbs.specs.Crumb.{whole, capacity, crumbs, point}
-use Rattle.trail.specs.Trail.{Track, windowPlaces}
+use Rattle.trail.specs.Trail.{retraceFixes, Track, windowPlaces}
 use Rattle.state.specs.declared.Line.{Line}
 use Rattle.state.specs.declared.Line.the-variants as line
 use Rattle.state.specs.declared.Follow.{Follow}
@@ -24,7 +24,6 @@ use Rattle.state.specs.declared.Guide.{Guide}
 use Rattle.state.specs.declared.Shown.{Shown}
 use Rattle.state.specs.declared.Shown.the-variants as shown
 use Rattle.state.specs.State.{State}
-use Rattle.joining.specs.Join.{retraceFixes}
 use Rattle.course.specs.Fix.{Fix}
 use Rattle.course.specs.Course.{points}
 

@@ -22,7 +22,7 @@ use Rattle.course.specs.Course.{fixes}
 abbrev pub handed : ℤ → ℤ
 handed z = toZ w32 (ofZ w32 z)
 
-handed-same : (z : ℤ) → mag z < 2 ^ 31 → handed z ≡ z
+pub handed-same : (z : ℤ) → mag z < 2 ^ 31 → handed z ≡ z
 handed-same z h = toZ-ofZ w32 z (record { sfits = h })
 
 handed-at : (lat lon : ℤ) → mag lat < 2 ^ 31 → mag lon < 2 ^ 31 → At (handed lat) (handed lon) ≡ At lat lon

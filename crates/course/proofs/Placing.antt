@@ -39,7 +39,7 @@ unfolding lineOf
 all-placed f xs h o = rw (le-leb 2 (length xs) h, o)
 
 -- as many crumbs as points, or none
-length-behind : (f : Frame) (o : Option Crumb) (xs : List Fix) → length (placeBehind f o xs) ≡ length xs
+pub length-behind : (f : Frame) (o : Option Crumb) (xs : List Fix) → length (placeBehind f o xs) ≡ length xs
 unfolding placeBehind
 length-behind f o [] = refl
 length-behind f o (x ∷ xs) = ap suc (length-behind f (some (crumbOf (framed f x) (alongBehind o (framed f x)))) xs)

@@ -10,7 +10,6 @@ use answers::Back;
 use answers::Count;
 use answers::Riding;
 use answers::Showing;
-use answers::Verdict;
 use plane::Heading;
 use plane::Spot;
 use state::Guide;
@@ -58,19 +57,6 @@ pub extern "C" fn cittumay_len(words: &[u64], numbers: &[f32], len: &mut usize) 
     }
 }
 
-pub fn put_verdict(answer: Verdict, yes: &mut u8) -> u8
-    ensures { λ r. ⌜ r ≡ numberOf (saysVerdict answer) ⌝ }
-    ensures { λ r. ⌜ now (yes .exit) ≡ valuesOf flagged (saysVerdict answer) (now (yes .entry)) ⌝ }
-{
-    match answer {
-        Verdict::Is(b) => {
-            *yes = numbering::flag_of(b);
-            0
-        }
-        Verdict::Refused(number) => number,
-    }
-}
-
 #[no_mangle]
 pub extern "C" fn cittumay_following(words: &[u64], numbers: &[f32], yes: &mut u8) -> u8
     ensures { λ r. ⌜ Answers (stored (now (words .entry)) (now (numbers .entry))) noState AnswersFollowing saysVerdict flagged r (now (yes .entry)) (now (yes .exit)) ⌝ }
@@ -81,7 +67,7 @@ pub extern "C" fn cittumay_following(words: &[u64], numbers: &[f32], yes: &mut u
     }
     let homing = there.homing;
     let answer = answers::following(homing);
-    put_verdict(answer, yes)
+    numbering::put_verdict(answer, yes)
 }
 
 #[no_mangle]
@@ -94,7 +80,7 @@ pub extern "C" fn cittumay_following_course(words: &[u64], numbers: &[f32], yes:
     }
     let homing = there.homing;
     let answer = answers::following_course(homing);
-    put_verdict(answer, yes)
+    numbering::put_verdict(answer, yes)
 }
 
 fn put_spot(point: Spot, matched: &mut u8, east: &mut f32, north: &mut f32)

@@ -2,7 +2,6 @@
 
 use crate::numbering;
 use crate::numbering::NO_STATE;
-use answers::Verdict;
 use homing::Changed;
 use homing::Sight;
 use state::Event;
@@ -13,11 +12,9 @@ ghost use Prim.Native.Nat.{_≤_};
 ghost use lib.ListN.{length};
 ghost use Rattle.state.specs.declared.Place.the-variants as places;
 ghost use Rattle.course.specs.Course.{fixes};
-ghost use Rattle.answers.specs.Answers.{saysVerdict};
 ghost use Rattle.homing.specs.Answers.{saysReply, saysSight};
 ghost use Rattle.stored.specs.Stored.{wordCount, numberCount};
 ghost use Rattle.door.specs.Through.{numberOf, valuesOf, Leaves};
-ghost use Rattle.door.specs.Answers.{flagged};
 ghost use Rattle.door.specs.Calls.{numberOfEvent, New, Reset, EndReplay, SetCourse, SetAutoFollow, Observe, Replay, SetFollowing};
 
 // ---- answers as numbers
@@ -28,15 +25,6 @@ fn number_of_sight(answer: Sight) -> u8
     match answer {
         Sight::Event(_) => 0,
         Sight::Refused(number) => number,
-    }
-}
-
-fn number_of_verdict(answer: Verdict) -> u8
-    ensures { λ r. ⌜ r ≡ numberOf (saysVerdict answer) ⌝ }
-{
-    match answer {
-        Verdict::Is(_) => 0,
-        Verdict::Refused(number) => number,
     }
 }
 
@@ -61,16 +49,6 @@ fn event_written(answer: Sight, was: u8) -> u8
     match answer {
         Sight::Event(event) => number_of_event(event),
         Sight::Refused(_) => was,
-    }
-}
-
-// A flag, or what was there where the call was refused.
-fn verdict_written(answer: Verdict, was: u8) -> u8
-    ensures { λ r. ⌜ r ≡ valuesOf flagged (saysVerdict answer) was ⌝ }
-{
-    match answer {
-        Verdict::Is(yes) => numbering::flag_of(yes),
-        Verdict::Refused(_) => was,
     }
 }
 
@@ -292,6 +270,6 @@ pub extern "C" fn cittumay_set_following(
     let f = homing::set_following(h, crumbs, line, on != 0, now_ms);
     let homing = f.homing;
     let answer = f.answer;
-    *done = verdict_written(answer, *done);
-    keep(number_of_verdict(answer), homing, words, numbers)
+    let number = numbering::put_verdict(answer, done);
+    keep(number, homing, words, numbers)
 }

@@ -1,7 +1,6 @@
 // The calls of a rebuild, whose state lives in words of its own. Words that hold no rebuild, and slices
 // that hold no state, are refused with 10.
 
-use crate::answering;
 use crate::numbering;
 use crate::numbering::NO_STATE;
 use log::Utc;
@@ -96,7 +95,7 @@ pub extern "C" fn cittumay_rebuild_step(
     let h = there.homing;
     let stepped = restart::step(r, h, crumbs, file, upper, budget);
     let answer = stepped.answer;
-    let number = answering::put_verdict(answer, done);
+    let number = numbering::put_verdict(answer, done);
     let next = stepped.rebuild;
     let homing = stepped.homing;
     keep_both(number, next, homing, rebuild, words, numbers)

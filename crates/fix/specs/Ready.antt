@@ -3,12 +3,12 @@ use Prim.Native.Nat.{ℕ, _≤_, _<_}
 use mathlib.Core.Path.{_≡_}
 use mathlib.Core.List.{List}
 use lib.Ieee.{Float}
+use Rattle.trail.specs.Trail.{retraceFixes}
 use Rattle.trail.specs.View as trail
 use Rattle.state.specs.declared.Line.the-variants as line
 use Rattle.state.specs.declared.Homing.{Homing}
 use Rattle.state.specs.State.{stateOf}
 use Rattle.follow.specs.View.{HomingFit}
-use Rattle.joining.specs.Join.{retraceFixes}
 use Rattle.calls.specs.Fix.{turnedBack}
 
 pub record Ready (h : Homing) (room lineRoom : ℕ) : Type 0 where

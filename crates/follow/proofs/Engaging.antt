@@ -1,7 +1,7 @@
 -- Whether the breadcrumb leads anywhere, and what a following of it begins with. Assumes nothing.
 use mathlib.Core.Path.{_≡_, refl, sym, ap, _∙_, subst}
 use Prim.Native.Nat.{ℕ, _-_, _≤_}
-use mathlib.Core.Bool.{Bool, true, false, _&&_, cond, false≢true}
+use mathlib.Core.Bool.{Bool, true, false, cond, and-eq-true-iff}
 use mathlib.Core.List.{List}
 use lib.ListN.{length}
 use lib.Dec.{leb}
@@ -20,13 +20,9 @@ use Rattle.follow.specs.Engage.{engageAt, engage}
 use Rattle.follow.specs.View.{Changes, Asks}
 use Rattle.follow.proofs.Holding.{same-held}
 
-both : (a b : Bool) → (a && b) ≡ true → a ≡ true
-both true b e = refl
-both false b e = absurd (false≢true e)
-
-long : (l : List Crumb) → leads l ≡ true → 2 ≤ length l
+pub long : (l : List Crumb) → leads l ≡ true → 2 ≤ length l
 unfolding leads
-long l e = leb-true 2 (length l) (both (leb 2 (length l)) _ e)
+long l e = leb-true 2 (length l) (and-eq-true-iff (leb 2 (length l)) _ .0 e .0)
 
 pub leads-some : (n : ℕ) (b : List Float) → leads (crumbs n b) ≡ true → 2 ≤ n
 leads-some n b e = subst (λ (k : ℕ). 2 ≤ k) (length-crumbs n b) (long (crumbs n b) e)

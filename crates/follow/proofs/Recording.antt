@@ -66,7 +66,7 @@ module _ (rule : ℕ → Rule) (h : Homing) {r : Recorded} {entry w exit : List 
       }
 
 -- ---- the breadcrumb cut
-max-le : (a b c : ℕ) → a ≤ b → max a c ≤ max b c
+pub max-le : (a b c : ℕ) → a ≤ b → max a c ≤ max b c
 max-le a b c h = omega arith
 
 -- a state whose breadcrumb is cut to its first crumbs, and then a crumb kept

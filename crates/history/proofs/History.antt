@@ -53,11 +53,11 @@ long : {C : ℕ} {cs : List Call} {h : Homing} {b : List Float} → Ran C cs h b
 long (new size empty) = size
 long (called c ran did) = did .size ∙ long ran
 
-none-yet : (C : ℕ) → journal C [] .state ≡ rule.new
+pub none-yet : (C : ℕ) → journal C [] .state ≡ rule.new
 unfolding journal run
 none-yet C = refl
 
-one-more : (C : ℕ) (cs : List Call) (c : Call) → afterCall (stride * C) c (journal C cs .state) .state ≡ journal C (cs ++ c ∷ []) .state
+pub one-more : (C : ℕ) (cs : List Call) (c : Call) → afterCall (stride * C) c (journal C cs .state) .state ≡ journal C (cs ++ c ∷ []) .state
 unfolding journal
 one-more C cs c = sym (run-last (stride * C) c cs rule.new)
 

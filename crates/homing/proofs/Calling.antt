@@ -53,10 +53,6 @@ or-nothing {a = a} e = e ∙ by a
     by zero = refl
     by (suc x) = or-first (suc x) 0 (λ z. omega (arith, z))
 
-pub or-zero : (a b : ℕ) → (a orElse b) ≡ 0 → a ≡ 0
-or-zero zero b e = refl
-or-zero (suc a) b e = absurd (omega (arith, or-first (suc a) b (λ z. omega (arith, z)), e))
-
 -- ---- a call
 module _ (c : Call) (h : Homing) (b : List Float) where
   pub refuses : {n : ℕ} → n ≡ asks (length b) c (stateOf h b) → (n ≡ 0 → ⊥) → Called c h b h b

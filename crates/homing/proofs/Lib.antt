@@ -1,2 +1,2 @@
 -- Facts that the functions' proofs share.
-mod Calling
+pub mod Calling

@@ -5,11 +5,12 @@ use mathlib.Core.Bool.{true, false}
 use lib.Dec.{leb}
 use Rattle.plane.specs.declared.Point.{Point}
 use Rattle.crumbs.specs.Crumb.{crumbs}
+use Rattle.trail.specs.Trail.{retraceFixes}
 use Rattle.trail.specs.View.{track}
 use Rattle.state.specs.State.{State, withTrack}
 use Rattle.state.specs.Rule.{done}
 use Rattle.joining.specs.Retrace.{ridesBack, lenBefore}
-use Rattle.joining.specs.Join.{retraceFixes, withRetrace, retracing}
+use Rattle.joining.specs.Join.{withRetrace, retracing}
 
 -- ---- the count
 module _ (p : Point) (s : State) where

@@ -11,7 +11,7 @@ use Rattle.crumbs.specs.declared.Crumb.{Crumb}
 use Rattle.search.specs.declared.Join.{Join}
 use Rattle.search.specs.declared.Join.the-variants.{Segment, NoSegment}
 use Rattle.search.specs.Course.{joined}
-use Rattle.trail.specs.Trail.{Track}
+use Rattle.trail.specs.Trail.{retraceFixes, Track}
 use Rattle.state.specs.declared.Course.{Course}
 use Rattle.state.specs.State.{State, withTrack, withCourse}
 use Rattle.state.specs.Rule.{Done, done}
@@ -53,10 +53,6 @@ joinWith (Known heading) course p s = cond (mayJoin course s) (joined course p h
 -- whether the fix at p continues a ride along the course for long enough to follow it
 unfoldable pub joining : List Crumb → Point → State → Done Bool
 joining course p s = joinOn (joinWith (s .motion .heading) course p s) s
-
--- on this many fixes in a row
-abbrev pub retraceFixes : ℕ
-retraceFixes = 8
 
 unfoldable pub withRetrace : ℕ → ℕ → Track → Track
 withRetrace n len t = record { crumbs = t .crumbs; tolerance = t .tolerance; window = t .window; retrace = n; retraceLen = len }

@@ -100,9 +100,6 @@ pub fn joining(auto_follow: bool, c: Course, heading: Heading, line: &[f32], p: 
     join_on(c, join)
 }
 
-// Fixes in a row back along the breadcrumb.
-pub const RETRACE_FIXES: u8 = 8;
-
 // Whether this fix continues a ride back along the breadcrumb for long enough to follow it.
 pub fn retracing(t: Trail, heading: Heading, crumbs: &[f32], p: Point) -> Retraced
     requires { ⌜ (t .len ≤ capacity (length (now crumbs))) × (t .retrace < 255) ⌝ }
@@ -117,7 +114,7 @@ pub fn retracing(t: Trail, heading: Heading, crumbs: &[f32], p: Point) -> Retrac
         trail.retrace_len = retrace_len;
         return Retraced {
             trail,
-            yes: RETRACE_FIXES <= fixes,
+            yes: trail::RETRACE_FIXES <= fixes,
         };
     }
     let mut trail = t;

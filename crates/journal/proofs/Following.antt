@@ -1,7 +1,7 @@
 -- Following begun and ended: the breadcrumb is followed from a segment of it, and cut to a crumb or more. Assumes nothing.
 use Prim.Native.Nat.{ℕ, _-_, _≤_}
 use mathlib.Core.Path.{_≡_, refl, sym}
-use mathlib.Core.Bool.{Bool, true, false, _&&_, cond}
+use mathlib.Core.Bool.{Bool, true, false, cond, and-eq-true-iff}
 use mathlib.Core.List.{List}
 use native.Mathlib.Omega.{arith}
 use borrow.Author.Tests.{leb-true}
@@ -23,14 +23,10 @@ use Rattle.journal.proofs.Sound.{Holds, Ran, Good, Quiet, still, quiet}
 use Rattle.journal.proofs.Recording.{keep-good}
 
 -- ---- begun
-and-left : (a b : Bool) → (a && b) ≡ true → a ≡ true
-and-left true b e = refl
-and-left false b e = e
-
 -- a breadcrumb that leads anywhere has a last segment
 last-segment : (l : List Crumb) → leads l ≡ true → 1 ≤ length l - 1
 unfolding leads
-last-segment l e = omega (arith, leb-true 2 (length l) (and-left _ _ e))
+last-segment l e = omega (arith, leb-true 2 (length l) (and-eq-true-iff _ _ .0 e .0))
 
 module _ {C : ℕ} where
   pub engaged : (course : List Crumb) (on : Line) (end now : ℕ) (s : State) → Holds C s → (on ≡ line.Breadcrumb → 1 ≤ end)

@@ -13,11 +13,11 @@ use Rattle.plane.specs.declared.Heading.the-variants.{Known, Unknown}
 use Rattle.crumbs.specs.declared.Crumb.{Crumb}
 use Rattle.search.specs.declared.Join.{Join}
 use Rattle.search.specs.declared.Join.the-variants.{Segment, NoSegment}
-use Rattle.trail.specs.Trail.{Track}
+use Rattle.trail.specs.Trail.{retraceFixes, Track}
 use Rattle.trail.proofs.Theorems.{Holding, holding}
 use Rattle.state.specs.State.{State, withTrack}
 use Rattle.state.specs.Rule.{Done, done}
-use Rattle.joining.specs.Join.{joinOn, joining, withRetrace, retracing, retraceFixes}
+use Rattle.joining.specs.Join.{joinOn, joining, withRetrace, retracing}
 use Rattle.joining.specs.Retrace.{ridesBack, lenBefore}
 use Rattle.journal.proofs.Trace.{over}
 use Rattle.journal.proofs.Sound.{Holds, Ran, Good}

@@ -88,7 +88,7 @@ fn u64_at(file: &[u8], at: usize) -> u64
 }
 
 // Two's complement: from 2^31 on, a number stands for the one 2^32 below it.
-fn signed(n: u32) -> i32
+pub fn signed(n: u32) -> i32
     ensures { λ r. ⌜ r ≡ signedOf n ⌝ }
 {
     if n < 2147483648 {

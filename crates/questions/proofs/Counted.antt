@@ -1,7 +1,7 @@
 -- The tests of the counts, by the counts themselves, whatever the crumb buffer holds. Assumes nothing.
 use Prim.Native.Nat.{ℕ, _≤_}
-use mathlib.Core.Path.{_≡_, refl, ap}
-use mathlib.Core.Bool.{Bool, true, false, _&&_}
+use mathlib.Core.Path.{_≡_, ap}
+use mathlib.Core.Bool.{true, _&&_, and-eq-true-iff}
 use mathlib.Core.List.{List}
 use borrow.Author.Tests.{leb-true}
 use lib.Dec.{leb}
@@ -18,12 +18,6 @@ use Rattle.state.specs.State.{stateOf}
 use Rattle.calls.specs.Questions.{retraceFits, countsFit, crumbsFit, heldFits}
 use Rattle.questions.specs.Counted.{turned, counted}
 
--- a conjunction that is true
-pub split : (a b : Bool) → (a && b) ≡ true → (a ≡ true) × (b ≡ true)
-split true b e = (refl, e)
-split false true e = (e, refl)
-split false false e = (e, e)
-
 -- the turn-round's, and with it the window's and the segment's
 retrace-counted : (t : Trail) (w b : List Float) → retraceFits (track t w b) ≡ turned t
 unfolding retraceFits track
@@ -34,7 +28,7 @@ unfolding countsFit track
 counts-counted h b = simp (retrace-counted, length-crumbs, length-places)
 
 pub window-counted : (t : Trail) (f : Follow) (lineLen : ℕ) → counted t f lineLen ≡ true → t .«window_len» ≤ windowPlaces
-window-counted t f lineLen e = leb-true (t .«window_len») windowPlaces (split _ _ (split _ _ e .0) .0)
+window-counted t f lineLen e = leb-true (t .«window_len») windowPlaces (and-eq-true-iff _ _ .0 (and-eq-true-iff _ _ .0 e .0) .0)
 
 -- the held crumbs'
 pub held-counted : (C : ℕ) (h : Homing) (b : List Float) → heldFits C (stateOf h b) ≡ (leb (h .trail .len) C && crumbsFit (crumbs (h .trail .len) b))

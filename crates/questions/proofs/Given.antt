@@ -2,7 +2,7 @@
 use Prim.Native.Nat.{ℕ, zero, suc, _≤_, _<_}
 use mathlib.Core.Path.{_≡_, refl, sym, _∙_}
 use mathlib.Core.Logic.{_≢_}
-use mathlib.Core.Bool.{Bool, true, false, _&&_, _||_, cond}
+use mathlib.Core.Bool.{Bool, true, false, _&&_, _||_, cond, and-eq-true-iff}
 use mathlib.Core.List.{List, _∷_}
 use native.Mathlib.Omega.{arith}
 use borrow.Author.Tests.{leb-true, ltb-true, ne-eqb}
@@ -15,7 +15,7 @@ use Rattle.plane.specs.declared.Heading.{Heading}
 use Rattle.plane.specs.declared.Heading.the-variants.{Known}
 use Rattle.plane.specs.Plane.{turn}
 use Rattle.crumbs.specs.Crumb.{whole, capacity, crumbs}
-use Rattle.trail.specs.Trail.{windowPlaces}
+use Rattle.trail.specs.Trail.{retraceFixes, windowPlaces}
 use Rattle.trail.specs.View as trail
 use Rattle.trail.specs.View.{places, track}
 use Rattle.state.specs.declared.Line.{Line}
@@ -25,20 +25,19 @@ use Rattle.state.specs.declared.Shown.{Shown}
 use Rattle.state.specs.declared.Shown.the-variants as shown
 use Rattle.state.specs.declared.Homing.{Homing}
 use Rattle.state.specs.State.{stateOf}
-use Rattle.joining.specs.Join.{retraceFixes}
 use Rattle.follow.specs.View as follow
 use Rattle.course.specs.Fix.{Fix}
 use Rattle.course.specs.Course.{points}
 use Rattle.calls.specs.Questions.{question1, question4, placesFit, spotsFit, alongFits, factorFits, headingFits, guideFits, shownFits, segmentFits, followFits, countsFit, numbersFit, stateFits, crumbsFit, heldFits, lineFits, latitudeFits, longitudeFits, asksState, asksCrumbs, asksLine, asksBoth, asksGuide, asksFix, asksFixes, unless, _orElse_}
 use Rattle.questions.specs.Counted.{turned}
-use Rattle.questions.proofs.Counted.{split, counts-counted, held-counted}
+use Rattle.questions.proofs.Counted.{counts-counted, held-counted}
 
 -- ---- a question that says yes, and the next
-passed : (b : Bool) (n : ℕ) → unless b (suc n) ≡ 0 → b ≡ true
+pub passed : (b : Bool) (n : ℕ) → unless b (suc n) ≡ 0 → b ≡ true
 passed true n e = refl
 passed false n e = absurd (omega arith)
 
-neither : (a b : ℕ) → (a orElse b) ≡ 0 → (a ≡ 0) × (b ≡ 0)
+pub neither : (a b : ℕ) → (a orElse b) ≡ 0 → (a ≡ 0) × (b ≡ 0)
 neither zero b e = (refl, e)
 neither (suc a) b e = absurd (omega (arith, rw (eqb·suc-zero a) at e))
 
@@ -61,7 +60,7 @@ pub record Counted (h : Homing) : Type 0 where
 segment-given : (segment len : ℕ) → segmentFits segment len ≡ true → (1 ≤ segment) × (segment < len)
 unfolding segmentFits
 segment-given segment len e =
-    let both = split (leb 1 segment) (ltb segment len) e in
+    let both = and-eq-true-iff (leb 1 segment) (ltb segment len) .0 e in
     (leb-true 1 segment (both .0), ltb-true segment len (both .1))
 
 trail-given : (on : Line) (segment len lineLen : ℕ) → followFits on segment len lineLen ≡ true → on ≡ line.Breadcrumb → (1 ≤ segment) × (segment < len)
@@ -82,7 +81,7 @@ heading-given x e d known = ltb-true d turn (rw known at e)
 guide-fits : (g : Guide) → guideFits g ≡ true → Pointed g
 unfolding guideFits
 guide-fits g e =
-    let both = split (ltb (g .bearing) turn) (headingFits (g .heading)) e in
+    let both = and-eq-true-iff (ltb (g .bearing) turn) (headingFits (g .heading)) .0 e in
     record { bearing = ltb-true (g .bearing) turn (both .0); heading = heading-given (g .heading) (both .1) }
 
 shown-given : (x : Shown) → shownFits x ≡ true → (g : Guide) → x ≡ shown.Guide g → Pointed g
@@ -92,15 +91,15 @@ shown-given x e g told = guide-fits g (rw told at e)
 numbers-given : (rest heading shown factor tolerance : Bool) → (rest && heading && shown && factor && tolerance) ≡ true
     → (heading ≡ true) × (shown ≡ true) × (tolerance ≡ true)
 numbers-given rest heading shown factor tolerance e =
-    let whole = split (rest && heading && shown && factor) tolerance e in
-    let factored = split (rest && heading && shown) factor (whole .0) in
-    let all = split (rest && heading) shown (factored .0) in
-    (split rest heading (all .0) .1, all .1, whole .1)
+    let whole = and-eq-true-iff (rest && heading && shown && factor) tolerance .0 e in
+    let factored = and-eq-true-iff (rest && heading && shown) factor .0 (whole .0) in
+    let all = and-eq-true-iff (rest && heading) shown .0 (factored .0) in
+    (and-eq-true-iff rest heading .0 (all .0) .1, all .1, whole .1)
 
 module _ (h : Homing) (b : List Float) (fits : stateFits (stateOf h b) ≡ true) where
   halves : (countsFit (stateOf h b) ≡ true) × (numbersFit (stateOf h b) ≡ true)
   unfolding stateFits
-  halves = split (countsFit (stateOf h b)) (numbersFit (stateOf h b)) fits
+  halves = and-eq-true-iff (countsFit (stateOf h b)) (numbersFit (stateOf h b)) .0 fits
 
   numbers : (headingFits (h .motion .heading) ≡ true) × (shownFits (h .guide) ≡ true) × (le plusZero (h .trail .tolerance) ≡ true)
   unfolding numbersFit track
@@ -113,9 +112,11 @@ module _ (h : Homing) (b : List Float) (fits : stateFits (stateOf h b) ≡ true)
   state-fits =
       let f = h .follow in
       let on = followFits (f .line) (f .segment) (h .trail .len) (h .course .«line_len») in
-      let counts = split (leb (h .trail .«window_len») windowPlaces && on) (turned (h .trail)) (sym (counts-counted h b) ∙ halves .0) in
-      let window = split (leb (h .trail .«window_len») windowPlaces) on (counts .0) in
-      let turn = split (ltb (h .trail .retrace) retraceFixes) (eqb (h .trail .retrace) 0 || leb (h .trail .«retrace_len») (h .trail .len)) (counts .1) in
+      let own = sym (counts-counted h b) ∙ halves .0 in
+      let counts = and-eq-true-iff (leb (h .trail .«window_len») windowPlaces && on) (turned (h .trail)) .0 own in
+      let window = and-eq-true-iff (leb (h .trail .«window_len») windowPlaces) on .0 (counts .0) in
+      let back = eqb (h .trail .retrace) 0 || leb (h .trail .«retrace_len») (h .trail .len) in
+      let turn = and-eq-true-iff (ltb (h .trail .retrace) retraceFixes) back .0 (counts .1) in
       record {
         waiting = leb-true (h .trail .«window_len») windowPlaces (window .0);
         onTrail = trail-given (f .line) (f .segment) (h .trail .len) (h .course .«line_len») (window .1);
@@ -135,8 +136,8 @@ state-given h b e = state-fits h b (passed (stateFits (stateOf h b)) 9 e)
 buffer-given : (size : ℕ) → question1 size ≡ true → (whole size ≡ true) × (8 ≤ capacity size) × (capacity size ≤ 4096)
 unfolding question1
 buffer-given size e =
-    let all = split (whole size && leb 8 (capacity size)) (leb (capacity size) 4096) e in
-    let most = split (whole size) (leb 8 (capacity size)) (all .0) in
+    let all = and-eq-true-iff (whole size && leb 8 (capacity size)) (leb (capacity size) 4096) .0 e in
+    let most = and-eq-true-iff (whole size) (leb 8 (capacity size)) .0 (all .0) in
     (most .0, leb-true 8 (capacity size) (most .1), leb-true (capacity size) 4096 (all .1))
 
 -- the state and a crumb buffer of `size` numbers
@@ -148,8 +149,9 @@ held-given : (size : ℕ) (h : Homing) (b : List Float) → question1 size ≡ t
     → Held h size
 held-given size h b one ten =
     let buffer = buffer-given size one in
-    let both = split (stateFits (stateOf h b)) (heldFits (capacity size) (stateOf h b)) ten in
-    let held = split (leb (h .trail .len) (capacity size)) (crumbsFit (crumbs (h .trail .len) b)) (sym (held-counted (capacity size) h b) ∙ both .1) in
+    let both = and-eq-true-iff (stateFits (stateOf h b)) (heldFits (capacity size) (stateOf h b)) .0 ten in
+    let own = sym (held-counted (capacity size) h b) ∙ both .1 in
+    let held = and-eq-true-iff (leb (h .trail .len) (capacity size)) (crumbsFit (crumbs (h .trail .len) b)) .0 own in
     let counted = state-fits h b (both .0) in
     record {
       counted = counted;
@@ -182,9 +184,9 @@ lined-given : (line : List Float) (n : ℕ) (h : Homing) → lineFits line (h .c
 unfolding lineFits question4
 lined-given line n h ten four =
     let C = capacity (length line) in
-    let held = split (leb (h .course .«line_len») C) (crumbsFit (crumbs (h .course .«line_len») line)) ten in
-    let all = split (whole (length line) && leb C points) (leb n C) four in
-    let most = split (whole (length line)) (leb C points) (all .0) in
+    let held = and-eq-true-iff (leb (h .course .«line_len») C) (crumbsFit (crumbs (h .course .«line_len») line)) .0 ten in
+    let all = and-eq-true-iff (whole (length line) && leb C points) (leb n C) .0 four in
+    let most = and-eq-true-iff (whole (length line)) (leb C points) .0 (all .0) in
     record {
       whole-long = most .0;
       most = leb-true C points (most .1);
@@ -197,7 +199,7 @@ unfolding asksLine
 line-given line n h b e =
     let ten = stateFits (stateOf h b) && lineFits line (h .course) in
     let both = neither (unless ten 10) (unless (question4 (length line) n) 4) e in
-    let fits = split (stateFits (stateOf h b)) (lineFits line (h .course)) (passed ten 9 (both .0)) in
+    let fits = and-eq-true-iff (stateFits (stateOf h b)) (lineFits line (h .course)) .0 (passed ten 9 (both .0)) in
     (state-fits h b (fits .0), lined-given line n h (fits .1) (passed (question4 (length line) n) 3 (both .1)))
 
 -- both buffers
@@ -214,7 +216,7 @@ both-given size line h b e =
     let four = unless (question4 (length line) 0) 4 in
     let first = neither (unless (question1 size) 1) (unless ten 10 orElse four) e in
     let second = neither (unless ten 10) four (first .1) in
-    let fits = split own (lineFits line (h .course)) (passed ten 9 (second .0)) in
+    let fits = and-eq-true-iff own (lineFits line (h .course)) .0 (passed ten 9 (second .0)) in
     let held = held-given size h b (passed (question1 size) 0 (first .0)) (fits .0) in
     let lined = lined-given line 0 h (fits .1) (passed (question4 (length line) 0) 3 (second .1)) in
     record {

@@ -2,10 +2,9 @@
 use Prim.Native.Nat.{ℕ}
 use mathlib.Core.Bool.{Bool, _&&_, _||_}
 use lib.Dec.{leb, ltb, eqb}
-use Rattle.trail.specs.Trail.{windowPlaces}
+use Rattle.trail.specs.Trail.{retraceFixes, windowPlaces}
 use Rattle.trail.specs.declared.Trail.{Trail}
 use Rattle.state.specs.declared.Follow.{Follow}
-use Rattle.joining.specs.Join.{retraceFixes}
 use Rattle.calls.specs.Questions.{followFits}
 
 -- those of the turn-round

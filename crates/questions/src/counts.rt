@@ -93,7 +93,7 @@ pub fn follow_fits(on: Line, segment: usize, len: usize, line_len: usize) -> boo
 pub fn retrace_fits(t: Trail) -> bool
     ensures { λ r. ⌜ r ≡ turned t ⌝ }
 {
-    (t.retrace < joining::RETRACE_FIXES) & ((t.retrace == 0) | (t.retrace_len <= t.len))
+    (t.retrace < trail::RETRACE_FIXES) & ((t.retrace == 0) | (t.retrace_len <= t.len))
 }
 
 // ---- 10, then 4

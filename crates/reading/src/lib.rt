@@ -1,23 +1,11 @@
 // Lines of a text, and the decimal integers in a line, each after a space. What follows a `#` in a line is a
 // remark.
+
+use bytes::scan;
 ghost use Prim.Native.Nat.{_≤_, _<_, max};
 ghost use lib.ListN.{length};
 
 // ---- places in a text
-
-// Where the first such byte stands, from `from` on; where there is none, the text's end.
-fn find(text: &[u8], from: usize, byte: u8) -> usize
-    ensures { λ r. ⌜ (from ≤ r) × (r ≤ max from (length (now (text .entry)))) ⌝ }
-{
-    let mut at = from;
-    while at < text.len() {
-        if text[at] == byte {
-            return at;
-        }
-        at += 1;
-    }
-    at
-}
 
 // Where the first byte that is no space stands, from `from` on; where there is none, the text's end.
 fn blanks(text: &[u8], from: usize) -> usize
@@ -37,9 +25,9 @@ fn blanks(text: &[u8], from: usize) -> usize
 pub fn line_at(text: &[u8], at: usize) -> &[u8]
     requires { ⌜ at ≤ length (now text) ⌝ }
 {
-    let end = find(text, at, b'\n');
+    let end = scan::find(text, at, text.len(), b'\n');
     let whole = &text[at..end];
-    let remark = find(whole, 0, b'#');
+    let remark = scan::find(whole, 0, whole.len(), b'#');
     &whole[..remark]
 }
 
@@ -48,7 +36,7 @@ pub fn behind(text: &[u8], at: usize) -> usize
     requires { ⌜ at < length (now text) ⌝ }
     ensures { λ r. ⌜ (at < r) × (r ≤ length (now (text .entry))) ⌝ }
 {
-    let end = find(text, at, b'\n');
+    let end = scan::find(text, at, text.len(), b'\n');
     if end < text.len() {
         return end + 1;
     }
@@ -92,14 +80,14 @@ pub fn answers_at(text: &[u8]) -> usize
 // The word of a line, which is empty in a blank one.
 pub fn word(line: &[u8]) -> &[u8] {
     let from = blanks(line, 0);
-    let end = find(line, from, b' ');
+    let end = scan::find(line, from, line.len(), b' ');
     &line[from..end]
 }
 
 // What stands behind the word.
 pub fn numbers(line: &[u8]) -> &[u8] {
     let from = blanks(line, 0);
-    let end = find(line, from, b' ');
+    let end = scan::find(line, from, line.len(), b' ');
     &line[end..]
 }
 

@@ -1,6 +1,6 @@
 -- Facts that the functions' proofs share, and theorems about the rules.
 pub mod Performing
-mod Making
+pub mod Making
 mod Visiting
 pub mod Keeping
 pub mod Theorems

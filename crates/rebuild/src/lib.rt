@@ -16,7 +16,7 @@ ghost use Prim.Native.Nat.{_≤_};
 ghost use lib.ListN.{length};
 ghost use Rattle.trail.specs.View as trail;
 ghost use Rattle.log.specs.Entry.{used};
-ghost use Rattle.rebuild.specs.Rebuild.{newRebuild, ticked, apart, carriesOn, knownOr, skips, visitSample, isLater, visitSamples, visit, caughtUp, settle};
+ghost use Rattle.rebuild.specs.Rebuild.{newRebuild, ticked, apart, carriesOn, knownOr, skips, visitSample, isLater, visitSamples, visit, caughtUp, isDecided, settle};
 ghost use Rattle.rebuild.specs.Inner.{startsAnew, stageBehind};
 ghost use Rattle.rebuild.specs.View.{Makes, Settles};
 
@@ -32,6 +32,15 @@ pub enum Stage {
     Pending(Utc),
     // That fix came: the breadcrumb is settled.
     Decided,
+}
+
+pub fn is_decided(stage: Stage) -> bool
+    ensures { λ b. ⌜ b ≡ isDecided stage ⌝ }
+{
+    match stage {
+        Stage::Pending(_) => false,
+        Stage::Decided => true,
+    }
 }
 
 // How far the log is read: the next slot.

@@ -4,12 +4,11 @@ use mathlib.Core.Path.{_≡_, refl, sym, ap, _∙_}
 use mathlib.Core.Logic.{_≢_}
 use mathlib.Core.Bool.{Bool}
 use mathlib.Core.List.{List, []}
-use borrow.Author.Tests.{ne-eqb, eq-eqb}
 use lib.ListN.{length}
 use lib.Ieee.{Float}
 use Rattle.state.specs.declared.Homing.{Homing}
 use Rattle.state.specs.State.{stateOf}
-use Rattle.calls.specs.Questions.{asksState, asksCrumbs, _orElse_}
+use Rattle.calls.specs.Questions.{asksState, asksCrumbs}
 use Rattle.answers.specs.declared.Verdict.the-variants as verdict
 use Rattle.answers.specs.Answers.{saysVerdict}
 use Rattle.answers.proofs.Answering.{no, yes}
@@ -18,29 +17,22 @@ use Rattle.homing.specs.Answers.{saysReply}
 use Rattle.log.specs.declared.Utc.{Utc}
 use Rattle.log.specs.Entry.{slot}
 use Rattle.log.specs.Questions.{asksFile}
-use Rattle.log.proofs.file_questions.Theorems.{first-yes, then-yes}
 use Rattle.rebuild.specs.declared.Rebuild.{Rebuild}
 use Rattle.rebuild.specs.declared.Visited.{Visited}
 use Rattle.rebuild.specs.Rebuild.{takesOver, walk, step, settle}
 use Rattle.rebuild.specs.View.{Makes, Settles}
 use Rattle.restart.specs.Promises.{asksStep, Steps, SettlesBreadcrumb}
-
--- ---- the first question that says no
-pub or-this : {n a : ℕ} (b : ℕ) → n ≡ a → n ≢ 0 → n ≡ (a orElse b)
-or-this {a = a} b e ne = e ∙ simp (ne-eqb a 0 (λ z. ne (e ∙ z)))
-
-pub or-next : {n a m b : ℕ} → n ≡ a → n ≡ 0 → m ≡ b → m ≡ (a orElse b)
-or-next {a = a} e z f = f ∙ simp (eq-eqb a 0 (sym e ∙ z))
+use Rattle.questions.proofs.Given.{neither}
 
 -- ---- `step`
 module _ (file : List ℕ) (h : Homing) (b : List Float) {n : ℕ} (asked : n ≡ asksStep (length b) file (stateOf h b)) where
   pub step-crumbs : n ≡ 0 → asksCrumbs (length b) (stateOf h b) ≡ 0
   unfolding asksStep
-  step-crumbs z = first-yes (asksCrumbs (length b) (stateOf h b)) (asksFile file) (sym asked ∙ z)
+  step-crumbs z = neither (asksCrumbs (length b) (stateOf h b)) (asksFile file) (sym asked ∙ z) .0
 
   pub step-file : n ≡ 0 → asksFile file ≡ 0
   unfolding asksStep
-  step-file z = then-yes (asksCrumbs (length b) (stateOf h b)) (asksFile file) (sym asked ∙ z)
+  step-file z = neither (asksCrumbs (length b) (stateOf h b)) (asksFile file) (sym asked ∙ z) .1
 
 module _ (budget upper : ℕ) (file : List ℕ) (r : Rebuild) (h : Homing) (b : List Float) {n : ℕ} (asked : n ≡ asksStep (length b) file (stateOf h b)) where
   pub step-refused : n ≢ 0 → Steps budget upper file r h b (record { rebuild = r; homing = h; answer = verdict.Refused n }) b

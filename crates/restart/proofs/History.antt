@@ -18,7 +18,7 @@ use Rattle.state.specs.Rule.{Done}
 use Rattle.calls.specs.Line as rule
 use Rattle.calls.specs.Questions.{unless, asksState, asksCrumbs}
 use Rattle.calls.specs.Calls.{Call, Reset, Replay, pointOf, asks, asksPlace, afterCall}
-use Rattle.questions.proofs.Given.{fix-given}
+use Rattle.questions.proofs.Given.{fix-given, neither}
 use Rattle.taken.specs.Taken.{FixesOnGlobe}
 use Rattle.taken.proofs.Refusals.{NoneRefused}
 use Rattle.taken.proofs.Tests.{either, one-of}
@@ -30,13 +30,13 @@ use Rattle.homing.specs.declared.Changed.{Changed}
 use Rattle.homing.specs.Promises.{MakesNew}
 use Rattle.history.specs.History.{Holds, Ran}
 use Rattle.history.specs.History as history
-use Rattle.history.proofs.History.{holds-same}
+use Rattle.history.proofs.History.{holds-same, none-yet, one-more}
 use Rattle.log.specs.declared.Utc.{Utc}
 use Rattle.log.specs.declared.Sample.{Sample}
 use Rattle.log.specs.declared.Entry.{Entry}
 use Rattle.log.specs.Entry.{entryAt, slot, used}
 use Rattle.log.specs.Questions.{asksSamples, asksEntry, asksFile}
-use Rattle.log.proofs.file_questions.Theorems.{every-accepted, first-yes, then-yes}
+use Rattle.log.proofs.file_questions.Theorems.{every-accepted}
 use Rattle.log.proofs.file_questions.Slots.{Before, slot-none, slot-here, slot-asked, record-entry}
 use Rattle.rebuild.specs.declared.Stage.{Stage}
 use Rattle.rebuild.specs.declared.Stage.the-variants as stage
@@ -65,13 +65,13 @@ samples-globe : (xs : List Sample) → asksSamples xs ≡ 0 → SamplesOnGlobe x
 unfolding asksSamples
 samples-globe [] e = tt
 samples-globe (x ∷ xs) e = (
-  place-globe (x .place) (first-yes (asksPlace (x .place)) (asksSamples xs) e),
-  samples-globe xs (then-yes (asksPlace (x .place)) (asksSamples xs) e),
+  place-globe (x .place) (neither (asksPlace (x .place)) (asksSamples xs) e .0),
+  samples-globe xs (neither (asksPlace (x .place)) (asksSamples xs) e .1),
 )
 
 entry-globe : (e : Entry) → asksEntry e ≡ 0 → SamplesOnGlobe (used e)
 unfolding asksEntry
-entry-globe e z = samples-globe (used e) (then-yes (unless (leb (e .count) 4) 5) (asksSamples (used e)) z)
+entry-globe e z = samples-globe (used e) (neither (unless (leb (e .count) 4) 5) (asksSamples (used e)) z .1)
 
 module _ (f : List ℕ) (a : asksFile f ≡ 0) (k : ℕ) where
   globe-from : (r : ℕ) → Before f k r → SlotOnGlobe (slot f k)
@@ -119,17 +119,9 @@ unfolding run
 run-both size [] ys s = refl
 run-both size (c ∷ xs) ys s = run-both size xs ys (afterCall size c s .state)
 
-none-yet : (C : ℕ) → journal C [] .state ≡ rule.new
-unfolding journal run
-none-yet C = refl
-
 journal-on : (C : ℕ) (cs ks : List Call) → run (stride * C) ks (journal C cs .state) .state ≡ journal C (cs ++ ks) .state
 unfolding journal
 journal-on C cs ks = sym (run-both (stride * C) cs ks rule.new)
-
-journal-one : (C : ℕ) (cs : List Call) (c : Call) → afterCall (stride * C) c (journal C cs .state) .state ≡ journal C (cs ++ c ∷ []) .state
-unfolding run
-journal-one C cs c = journal-on C cs (c ∷ [])
 
 -- ---- runs
 -- the guide that `new` makes begins one
@@ -195,7 +187,7 @@ module _ (C : ℕ) (least : 8 ≤ C) where
   as-journal : {cs : List Call} {h : Homing} {b : List Float} → RanOn C cs h b → stateOf h b ≡ journal C cs .state
   as-journal (new size e) = e ∙ sym (none-yet C)
   as-journal (called {cs = cs} c run did) =
-      did .same ∙ ap₂ (λ (n : ℕ) (s : State). afterCall n c s .state) (long run) (as-journal run) ∙ journal-one C cs c
+      did .same ∙ ap₂ (λ (n : ℕ) (s : State). afterCall n c s .state) (long run) (as-journal run) ∙ one-more C cs c
   as-journal (stepped {cs = cs} {h = h} {b = b} budget upper file x run did) =
       step-counts C (omega arith) cs h b (long run) (as-journal run) budget upper file x did
       ∙ ap₂ (λ (n : ℕ) (s : State). journal C (cs ++ stepCalls n budget upper file x s) .state) (long run) (as-journal run)

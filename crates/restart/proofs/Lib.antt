@@ -1,5 +1,4 @@
 -- Facts that the functions' proofs share, and theorems about the rules.
-mod Making
 pub mod Walking
 pub mod Slots
 pub mod Stepping

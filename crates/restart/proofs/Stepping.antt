@@ -16,7 +16,7 @@ use Rattle.calls.specs.Questions.{unless}
 use Rattle.log.specs.declared.Entry.{Entry}
 use Rattle.log.specs.Entry.{nextOf, entryAt, slot, used}
 use Rattle.log.specs.Questions.{asksFile, asksEntry, asksSamples}
-use Rattle.log.proofs.file_questions.Theorems.{every-accepted, first-yes, said-yes}
+use Rattle.log.proofs.file_questions.Theorems.{every-accepted}
 use Rattle.log.proofs.file_questions.Slots.{Before, slot-here, slot-on, slot-asked, record-entry}
 use Rattle.rebuild.specs.declared.Walk.{Walk}
 use Rattle.rebuild.specs.declared.Rebuild.{Rebuild}
@@ -26,14 +26,15 @@ use Rattle.rebuild.specs.Rebuild.{visit, look, pastSlot, walk}
 use Rattle.rebuild.specs.View.{Makes}
 use Rattle.rebuild.proofs.Keeping.{look-keeps}
 use Rattle.restart.specs.Walk.{recordAt, withSlot}
-use Rattle.restart.proofs.Making.{visited, makes-quiet, one-then}
+use Rattle.rebuild.proofs.Making.{visited, makes-quiet, one-then}
 use Rattle.restart.proofs.Walking.{stop-below, walk-zero, walk-one, walk-more, walk-enough, walk-empty}
 use Rattle.restart.proofs.Slots.{none-behind, before-at}
+use Rattle.questions.proofs.Given.{neither, passed}
 
 -- an entry that no question refuses has at most four samples
 count-few : (e : Entry) → asksEntry e ≡ 0 → e .count ≤ 4
 unfolding asksEntry
-count-few e z = leb-true (e .count) 4 (said-yes (leb (e .count) 4) 4 (first-yes (unless (leb (e .count) 4) 5) (asksSamples (used e)) z))
+count-few e z = leb-true (e .count) 4 (passed (leb (e .count) 4) 4 (neither (unless (leb (e .count) 4) 5) (asksSamples (used e)) z .0))
 
 -- ---- an entry looked at
 pub not-visited : (e : Entry) (r : Rebuild) (h : Homing) (b : List Float) → trail.TrailFit (h .trail) (length b) → e .ride < r .recovered

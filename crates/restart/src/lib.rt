@@ -144,21 +144,12 @@ fn walk_slots(
 
 // ---- the calls
 
-fn is_decided(stage: Stage) -> bool
-    ensures { λ b. ⌜ b ≡ rule.isDecided stage ⌝ }
-{
-    match stage {
-        Stage::Pending(_) => false,
-        Stage::Decided => true,
-    }
-}
-
 // Every slot is read, and the breadcrumb is settled.
 fn finished(r: Rebuild, upper: usize) -> bool
     ensures { λ b. ⌜ b ≡ rule.takesOver upper r ⌝ }
 {
     let stage = r.stage;
-    is_decided(stage) & caught_up(r, upper)
+    rebuild::is_decided(stage) & caught_up(r, upper)
 }
 
 // The state and the crumb buffer, then the file.

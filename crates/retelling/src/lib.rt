@@ -4,13 +4,11 @@ mod lines;
 
 use answers::Verdict;
 use rebuild::Rebuild;
-use rebuild::Stage;
 use restart::Stepped;
 ghost use mathlib.Core.Path.{_≡_};
 ghost use Prim.Native.Nat.{_≤_};
 ghost use lib.ListN.{length};
 ghost use Rattle.crumbs.specs.Crumb.{crumbs};
-ghost use Rattle.rebuild.specs.Rebuild.{isDecided};
 ghost use Rattle.retelling.specs.Writing.{WritesWhole};
 ghost use Rattle.retelling.specs.Retold.{Retells};
 ghost use Rattle.retelling.specs.Told.{told, Rebuilds};
@@ -21,15 +19,6 @@ const NUMBERS: usize = crumbs::STRIDE * 512;
 // As many slots as a file can have records.
 const SLOTS: usize = 682;
 
-fn is_decided(stage: Stage) -> bool
-    ensures { λ b. ⌜ b ≡ isDecided stage ⌝ }
-{
-    match stage {
-        Stage::Pending(_) => false,
-        Stage::Decided => true,
-    }
-}
-
 // What is told of a rebuild: where it was not refused, how it stands and the first `len` crumbs of the
 // buffer.
 fn put_told(text: &mut [u8], answer: Verdict, r: Rebuild, len: usize, buf: &[f32]) -> usize
@@ -39,7 +28,7 @@ fn put_told(text: &mut [u8], answer: Verdict, r: Rebuild, len: usize, buf: &[f32
     match answer {
         Verdict::Is(_) => {
             let stage = r.stage;
-            lines::put_rebuilt(text, len, r.clock_ms, is_decided(stage), buf)
+            lines::put_rebuilt(text, len, r.clock_ms, rebuild::is_decided(stage), buf)
         }
         Verdict::Refused(number) => lines::put_refused(text, number),
     }

@@ -1,7 +1,7 @@
 -- A call that only answers leaves the state as it is, asked or refused. Assumes nothing.
 use Prim.Native.Nat.{ℕ, zero, suc, _+_, _-_, _≤_}
 use mathlib.Core.Path.{_≡_, refl, sym, ap}
-use mathlib.Core.Bool.{Bool, true, false, _&&_}
+use mathlib.Core.Bool.{Bool, true, false, _&&_, and-eq-true-iff}
 use mathlib.Core.List.{List, [], _∷_}
 use native.Mathlib.Omega.{arith}
 use lib.Dec.{eqb}
@@ -16,7 +16,7 @@ use Rattle.course.specs.Fix.{Fix}
 use Rattle.calls.specs.Calls.{Call, Ask, Len, Reset, EndReplay, SetCourse, SetAutoFollow, Observe, Replay, SetFollowing, asks, performs, afterCall}
 use Rattle.calls.specs.Promises.{Called}
 use Rattle.ride.specs.Script.{numbered, callOf}
-use Rattle.ride.proofs.Tests.{both, never}
+use Rattle.ride.proofs.Tests.{never}
 
 abbrev pub onlyAnswers : Call → Bool
 onlyAnswers (Ask q) = true
@@ -57,8 +57,8 @@ all (c ∷ cs) = onlyAnswers c && all cs
 
 each : (cs : List Call) → all cs ≡ true → (n : ℕ) → onlyAnswers (getD cs n (Ask Len)) ≡ true
 each [] e n = refl
-each (c ∷ cs) e zero = both (onlyAnswers c) (all cs) e .0
-each (c ∷ cs) e (suc n) = each cs (both (onlyAnswers c) (all cs) e .1) n
+each (c ∷ cs) e zero = and-eq-true-iff (onlyAnswers c) (all cs) .0 e .0
+each (c ∷ cs) e (suc n) = each cs (and-eq-true-iff (onlyAnswers c) (all cs) .0 e .1) n
 
 -- from 9 on, and any beyond
 pub answering : (op clock : ℕ) (line : List Float) (points : List Fix) → 9 ≤ op → onlyAnswers (callOf op clock line points) ≡ true

@@ -1,7 +1,7 @@
 -- The loop over the calls: those still to come, performed on the guide as it is, give what the whole list gives. Assumes nothing.
 use Prim.Native.Nat.{ℕ, _+_, _-_, _≤_, _<_}
 use mathlib.Core.Path.{_≡_, refl, sym, ap, ap₂, _∙_}
-use mathlib.Core.Bool.{Bool, true, false, _&&_, cond, not}
+use mathlib.Core.Bool.{Bool, true, false, _&&_, cond, not, and-eq-true-iff}
 use mathlib.Core.List.{List, [], _∷_}
 use native.Mathlib.Omega.{arith}
 use native.Mathlib.Numerals.{add-one}
@@ -22,7 +22,6 @@ use Rattle.journal.specs.Journal.{run}
 use Rattle.journal.proofs.Programs.{run-first}
 use Rattle.ride.specs.Script.{CallEntry, callEntries, callOf, readable, decode}
 use Rattle.ride.specs.Inner.{Performs}
-use Rattle.ride.proofs.Tests.{both}
 use Rattle.ride.proofs.Entries.{entryAt, length-entries, getD-entries}
 use Rattle.ride.proofs.Points.{part-fixes}
 
@@ -162,8 +161,9 @@ module _ {s : Script} {h₀ : Homing} {entry : List Float} {n m k at first : ℕ
       pub there : There s k at first
       unfolding readable
       there =
-          let a = both (leb size (s .room) && leb size (length (s .lines) - at)) (leb count (m - first)) (sym e ∙ not-false r yes) in
-          let b = both (leb size (s .room)) (leb size (length (s .lines) - at)) (a .0) in
+          let lent = leb size (s .room) && leb size (length (s .lines) - at) in
+          let a = and-eq-true-iff lent (leb count (m - first)) .0 (sym e ∙ not-false r yes) in
+          let b = and-eq-true-iff (leb size (s .room)) (leb size (length (s .lines) - at)) .0 (a .0) in
           let fits : size ≤ s .room = leb-true _ _ (b .0) in
           let some : size ≤ length (s .lines) - at = leb-true _ _ (b .1) in
           let few : count ≤ m - first = leb-true _ _ (a .1) in

@@ -13,6 +13,7 @@ use mir.ValLaws.{toZ-ofZ}
 use Rattle.state.specs.declared.Place.the-variants.{At, Missing}
 use Rattle.course.specs.Fix.{Fix}
 use Rattle.course.specs.Course.{fixes}
+use Rattle.course.proofs.Fixes.{handed, handed-same}
 use Rattle.ride.specs.Script.{placeIn, fixIn}
 
 no-longitudes : (lats : List ℤ) → fixes lats [] ≡ []
@@ -42,13 +43,6 @@ part-fixes first count lats lons =
     rw (e, take-fixes, drop-fixes)
 
 -- ---- the first point
--- a coordinate, taken out of its bits again
-abbrev handed : ℤ → ℤ
-handed z = toZ w32 (ofZ w32 z)
-
-handed-same : (z : ℤ) → mag z < 2 ^ 31 → handed z ≡ z
-handed-same z h = toZ-ofZ w32 z (record { sfits = h })
-
 module _ (lats lons : List ℤ) where
   pub no-place : length (fixes lats lons) ≡ 0 → placeIn (fixes lats lons) ≡ Missing
   unfolding fixes placeIn

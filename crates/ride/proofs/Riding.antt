@@ -1,7 +1,7 @@
 -- The calls performed from a new guide have the claim; where question 1 says no none is performed. Assumes nothing.
 use Prim.Native.Nat.{ℕ, _*_, _%_, _≤_}
 use mathlib.Core.Path.{_≡_, refl, sym, ap, _∙_}
-use mathlib.Core.Bool.{Bool, true, false, _&&_}
+use mathlib.Core.Bool.{Bool, true, false, _&&_, and-eq-true-iff}
 use mathlib.Core.List.{List}
 use native.Mathlib.Omega.{arith}
 use borrow.Author.Tests.{leb-true, eqb-true}
@@ -23,7 +23,7 @@ use Rattle.homing.specs.Answers.{saysReply}
 use Rattle.homing.specs.Promises.{MakesNew}
 use Rattle.ride.specs.Promises.{Rides}
 use Rattle.ride.specs.Inner.{Performs}
-use Rattle.ride.proofs.Tests.{both, never}
+use Rattle.ride.proofs.Tests.{never}
 use Rattle.history.proofs.History.{holds-same}
 
 -- ---- question 1
@@ -35,8 +35,8 @@ pub record Room (size : ℕ) : Type 0 where
 roomy : (size : ℕ) → question1 size ≡ true → Room size
 unfolding question1
 roomy size enough =
-    let a = both (whole size && leb 8 (capacity size)) (leb (capacity size) 4096) enough in
-    let b = both (whole size) (leb 8 (capacity size)) (a .0) in
+    let a = and-eq-true-iff (whole size && leb 8 (capacity size)) (leb (capacity size) 4096) .0 enough in
+    let b = and-eq-true-iff (whole size) (leb 8 (capacity size)) .0 (a .0) in
     record { whole-long = b .0; least = leb-true _ _ (b .1); most = leb-true _ _ (a .1) }
 
 long : (size : ℕ) → Room size → size ≡ stride * capacity size

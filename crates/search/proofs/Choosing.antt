@@ -1,7 +1,7 @@
 -- What is chosen so far, of the ends that are done: where it is, and that it is the first of least cost. Assumes nothing.
 use Prim.Native.Nat.{ℕ, zero, suc, _+_, _-_, _≤_, _<_}
 use mathlib.Core.Path.{_≡_, refl, sym, ap, _∙_, subst}
-use mathlib.Core.Bool.{Bool, true, false, cond}
+use mathlib.Core.Bool.{Bool, true, false, cond, true≢false}
 use mathlib.Core.List.{List}
 use mathlib.Core.Logic.{_⊎_, inl, inr}
 use native.Mathlib.Omega.{arith}
@@ -25,9 +25,6 @@ use Rattle.binary32.proofs.roots.Order.{not-less, lt-irrefl, le-lt}
 -- whatever is found is where p meets a segment tried
 abbrev pub OnlyMet : List Crumb → Point → Range → Best → Type 0
 OnlyMet line p ends best = (near : Nearest) → best ≡ Found near → Met line p ends near
-
-differ : {A : Type 0} → true ≡ false → A
-differ e = let z : _≡_ {A = ℕ} 0 1 = cc in absurd (omega arith)
 
 -- a test that cannot pass
 refuted : (b : Bool) → (b ≡ true → ⊥) → b ≡ false
@@ -119,7 +116,8 @@ module _ (line : List Crumb) (p : Point) (cost : ℕ → Cost) (earlier : ℕ �
       chosen (Least near least) h = by-test (lt c₀ least) refl
         where
           by-test : (b : Bool) → lt c₀ least ≡ b → Chosen done′ (cond b (Least (nearestOn line p end) c₀) (Least near least))
-          by-test true t = leads (λ e c d g. refuted (le c c₀) (λ u. differ (sym (le-lt c c₀ least u t) ∙ h .none-less e c d g)))
+          by-test true t =
+              leads (λ e c d g. refuted (le c c₀) (λ u. absurd (true≢false (sym (le-lt c c₀ least u t) ∙ h .none-less e c d g))))
           by-test false t = keeps near least t h
 
     next : (best : SoFar) → Chosen done best → Chosen done′ (considered line p cost end best)

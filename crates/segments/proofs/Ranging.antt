@@ -1,7 +1,7 @@
 -- What lies too far off to have a cost, by its square. Assumes nothing.
 use Prim.Native.Nat.{ℕ, _-_}
 use mathlib.Core.Path.{_≡_, refl, sym, ap, _∙_, subst}
-use mathlib.Core.Bool.{Bool, true, false, not}
+use mathlib.Core.Bool.{Bool, true, false, not, true≢false}
 use mathlib.Core.List.{List}
 use lib.Dec.{T}
 use lib.Ieee.{Float, binary32, ofBits, lt, le, fits}
@@ -27,9 +27,6 @@ use Rattle.segments.specs.Line.{at}
 use Rattle.segments.specs.Segment.{meets, nearestOn}
 use Rattle.segments.specs.Square.{squareOn}
 
-never : {A : Type 0} → true ≡ false → A
-never e = absurd (subst T e tt)
-
 -- ---- a segment's square
 module _ (line : List Crumb) (p : Point) (end : ℕ) where
   pub on-is : nearestOn line p end .off ≡ root binary32 (squareOn line p end)
@@ -53,12 +50,12 @@ unfolding searchM constant ofBits root lt
 above = refl
 
 pub flip : (b : Bool) → not b ≡ true → b ≡ false
-flip true h = never (sym h)
+flip true h = absurd (true≢false (sym h))
 flip false h = refl
 
 pub flop : (b : Bool) → not b ≡ false → b ≡ true
 flop true h = refl
-flop false h = never h
+flop false h = absurd (true≢false h)
 
 module _ (by : Ranking) (p : Point) (a b : Crumb) {s : Float} (S : s ≡ offSquare p (point a) (point b)) where
   off-at : (end : ℕ) → not (lt s bar) ≡ true → le (meets a b p end .off) searchM ≡ false
@@ -74,4 +71,4 @@ module _ (by : Ranking) (p : Point) (a b : Crumb) {s : Float} (S : s ≡ offSqua
   far-ahead {heading} e h end = let k = off-at end h in rw (e, k, ahead)
 
 pub not-told : {A : Type 0} → false ≡ true → A
-not-told e = never (sym e)
+not-told e = absurd (true≢false (sym e))

@@ -49,42 +49,87 @@ stateOf h b =
       guide = h .guide;
     }
 
+-- the state of these groups
+abbrev pub stateWith : Track → Frame → Place → Spot → ℕ → Motion → Follow → Course → Bool → Bool → Lap → ℕ → Shown → State
+stateWith track frame fed here hereMs motion follow course autoFollow arrived lap updatedMs guide =
+    record {
+      track = track;
+      frame = frame;
+      fed = fed;
+      here = here;
+      hereMs = hereMs;
+      motion = motion;
+      follow = follow;
+      course = course;
+      autoFollow = autoFollow;
+      arrived = arrived;
+      lap = lap;
+      updatedMs = updatedMs;
+      guide = guide;
+    }
+
 -- the state with one of its groups replaced
 abbrev pub withTrack : Track → State → State
-withTrack x s = record { track = x; frame = s .frame; fed = s .fed; here = s .here; hereMs = s .hereMs; motion = s .motion; follow = s .follow; course = s .course; autoFollow = s .autoFollow; arrived = s .arrived; lap = s .lap; updatedMs = s .updatedMs; guide = s .guide }
+withTrack x s =
+    stateWith x (s .frame) (s .fed) (s .here) (s .hereMs) (s .motion) (s .follow)
+    (s .course) (s .autoFollow) (s .arrived) (s .lap) (s .updatedMs) (s .guide)
 
 abbrev pub withFrame : Frame → State → State
-withFrame x s = record { track = s .track; frame = x; fed = s .fed; here = s .here; hereMs = s .hereMs; motion = s .motion; follow = s .follow; course = s .course; autoFollow = s .autoFollow; arrived = s .arrived; lap = s .lap; updatedMs = s .updatedMs; guide = s .guide }
+withFrame x s =
+    stateWith (s .track) x (s .fed) (s .here) (s .hereMs) (s .motion) (s .follow)
+    (s .course) (s .autoFollow) (s .arrived) (s .lap) (s .updatedMs) (s .guide)
 
 abbrev pub withFed : Place → State → State
-withFed x s = record { track = s .track; frame = s .frame; fed = x; here = s .here; hereMs = s .hereMs; motion = s .motion; follow = s .follow; course = s .course; autoFollow = s .autoFollow; arrived = s .arrived; lap = s .lap; updatedMs = s .updatedMs; guide = s .guide }
+withFed x s =
+    stateWith (s .track) (s .frame) x (s .here) (s .hereMs) (s .motion) (s .follow)
+    (s .course) (s .autoFollow) (s .arrived) (s .lap) (s .updatedMs) (s .guide)
 
 abbrev pub withHere : Spot → State → State
-withHere x s = record { track = s .track; frame = s .frame; fed = s .fed; here = x; hereMs = s .hereMs; motion = s .motion; follow = s .follow; course = s .course; autoFollow = s .autoFollow; arrived = s .arrived; lap = s .lap; updatedMs = s .updatedMs; guide = s .guide }
+withHere x s =
+    stateWith (s .track) (s .frame) (s .fed) x (s .hereMs) (s .motion) (s .follow)
+    (s .course) (s .autoFollow) (s .arrived) (s .lap) (s .updatedMs) (s .guide)
 
 abbrev pub withHereMs : ℕ → State → State
-withHereMs x s = record { track = s .track; frame = s .frame; fed = s .fed; here = s .here; hereMs = x; motion = s .motion; follow = s .follow; course = s .course; autoFollow = s .autoFollow; arrived = s .arrived; lap = s .lap; updatedMs = s .updatedMs; guide = s .guide }
+withHereMs x s =
+    stateWith (s .track) (s .frame) (s .fed) (s .here) x (s .motion) (s .follow)
+    (s .course) (s .autoFollow) (s .arrived) (s .lap) (s .updatedMs) (s .guide)
 
 abbrev pub withMotion : Motion → State → State
-withMotion x s = record { track = s .track; frame = s .frame; fed = s .fed; here = s .here; hereMs = s .hereMs; motion = x; follow = s .follow; course = s .course; autoFollow = s .autoFollow; arrived = s .arrived; lap = s .lap; updatedMs = s .updatedMs; guide = s .guide }
+withMotion x s =
+    stateWith (s .track) (s .frame) (s .fed) (s .here) (s .hereMs) x (s .follow)
+    (s .course) (s .autoFollow) (s .arrived) (s .lap) (s .updatedMs) (s .guide)
 
 abbrev pub withFollow : Follow → State → State
-withFollow x s = record { track = s .track; frame = s .frame; fed = s .fed; here = s .here; hereMs = s .hereMs; motion = s .motion; follow = x; course = s .course; autoFollow = s .autoFollow; arrived = s .arrived; lap = s .lap; updatedMs = s .updatedMs; guide = s .guide }
+withFollow x s =
+    stateWith (s .track) (s .frame) (s .fed) (s .here) (s .hereMs) (s .motion) x
+    (s .course) (s .autoFollow) (s .arrived) (s .lap) (s .updatedMs) (s .guide)
 
 abbrev pub withCourse : Course → State → State
-withCourse x s = record { track = s .track; frame = s .frame; fed = s .fed; here = s .here; hereMs = s .hereMs; motion = s .motion; follow = s .follow; course = x; autoFollow = s .autoFollow; arrived = s .arrived; lap = s .lap; updatedMs = s .updatedMs; guide = s .guide }
+withCourse x s =
+    stateWith (s .track) (s .frame) (s .fed) (s .here) (s .hereMs) (s .motion) (s .follow)
+    x (s .autoFollow) (s .arrived) (s .lap) (s .updatedMs) (s .guide)
 
 abbrev pub withAutoFollow : Bool → State → State
-withAutoFollow x s = record { track = s .track; frame = s .frame; fed = s .fed; here = s .here; hereMs = s .hereMs; motion = s .motion; follow = s .follow; course = s .course; autoFollow = x; arrived = s .arrived; lap = s .lap; updatedMs = s .updatedMs; guide = s .guide }
+withAutoFollow x s =
+    stateWith (s .track) (s .frame) (s .fed) (s .here) (s .hereMs) (s .motion) (s .follow)
+    (s .course) x (s .arrived) (s .lap) (s .updatedMs) (s .guide)
 
 abbrev pub withArrived : Bool → State → State
-withArrived x s = record { track = s .track; frame = s .frame; fed = s .fed; here = s .here; hereMs = s .hereMs; motion = s .motion; follow = s .follow; course = s .course; autoFollow = s .autoFollow; arrived = x; lap = s .lap; updatedMs = s .updatedMs; guide = s .guide }
+withArrived x s =
+    stateWith (s .track) (s .frame) (s .fed) (s .here) (s .hereMs) (s .motion) (s .follow)
+    (s .course) (s .autoFollow) x (s .lap) (s .updatedMs) (s .guide)
 
 abbrev pub withLap : Lap → State → State
-withLap x s = record { track = s .track; frame = s .frame; fed = s .fed; here = s .here; hereMs = s .hereMs; motion = s .motion; follow = s .follow; course = s .course; autoFollow = s .autoFollow; arrived = s .arrived; lap = x; updatedMs = s .updatedMs; guide = s .guide }
+withLap x s =
+    stateWith (s .track) (s .frame) (s .fed) (s .here) (s .hereMs) (s .motion) (s .follow)
+    (s .course) (s .autoFollow) (s .arrived) x (s .updatedMs) (s .guide)
 
 abbrev pub withUpdatedMs : ℕ → State → State
-withUpdatedMs x s = record { track = s .track; frame = s .frame; fed = s .fed; here = s .here; hereMs = s .hereMs; motion = s .motion; follow = s .follow; course = s .course; autoFollow = s .autoFollow; arrived = s .arrived; lap = s .lap; updatedMs = x; guide = s .guide }
+withUpdatedMs x s =
+    stateWith (s .track) (s .frame) (s .fed) (s .here) (s .hereMs) (s .motion) (s .follow)
+    (s .course) (s .autoFollow) (s .arrived) (s .lap) x (s .guide)
 
 abbrev pub withGuide : Shown → State → State
-withGuide x s = record { track = s .track; frame = s .frame; fed = s .fed; here = s .here; hereMs = s .hereMs; motion = s .motion; follow = s .follow; course = s .course; autoFollow = s .autoFollow; arrived = s .arrived; lap = s .lap; updatedMs = s .updatedMs; guide = x }
+withGuide x s =
+    stateWith (s .track) (s .frame) (s .fed) (s .here) (s .hereMs) (s .motion) (s .follow)
+    (s .course) (s .autoFollow) (s .arrived) (s .lap) (s .updatedMs) x

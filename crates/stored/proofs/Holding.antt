@@ -1,7 +1,7 @@
 -- Whether a state is held, and what loading gives. Assumes nothing.
 use Prim.Native.Nat.{ℕ, _≤_, _<_}
 use mathlib.Core.Path.{_≡_, refl, sym, ap, _∙_}
-use mathlib.Core.Bool.{Bool, true, false, _&&_, cond, false≢true, true≢false}
+use mathlib.Core.Bool.{Bool, true, false, _&&_, cond, false≢true, true≢false, and-eq-true-iff, and-false}
 use mathlib.Core.List.{List}
 use mathlib.Core.Option.{Option, some, none}
 use native.Mathlib.Omega.{arith}
@@ -16,14 +16,6 @@ use Rattle.stored.specs.Inner.{Loads}
 use Rattle.stored.specs.Parts.{wordCount, numberCount}
 use Rattle.stored.proofs.fields.Limits.{within-room}
 pub use Rattle.stored.proofs.stored_rebuild.Holding.{rebuild-has-room}
-
-and-false : (b : Bool) → (b && false) ≡ false
-and-false true = refl
-and-false false = refl
-
-both : (a b : Bool) → (a && b) ≡ true → (a ≡ true) × (b ≡ true)
-both true b h = (refl, h)
-both false b h = absurd (false≢true h)
 
 pub outside : (w : List ℕ) (n : List Float) → within mosts w ≡ false → false ≡ holds w n
 unfolding holds
@@ -40,8 +32,8 @@ inside w n h = sym (ap (λ b. eqb (wordAt w 0) mark && (b && leb numberCount (le
 pub loads-room : (w : List ℕ) (n : List Float) → holds w n ≡ true → (wordCount ≤ length w) × (numberCount ≤ length n)
 unfolding holds mosts
 loads-room w n h =
-    let rest = both (eqb (wordAt w 0) mark) (within mosts w && leb numberCount (length n)) h .1 in
-    let two = both (within mosts w) (leb numberCount (length n)) rest in
+    let rest = and-eq-true-iff (eqb (wordAt w 0) mark) (within mosts w && leb numberCount (length n)) .0 h .1 in
+    let two = and-eq-true-iff (within mosts w) (leb numberCount (length n)) .0 rest in
     (within-room mosts w (two .0), leb-true numberCount (length n) (two .1))
 
 pub loads-there : (w : List ℕ) (n : List Float) {h : Homing} → holds w n ≡ true → h ≡ homingAt w n → Loads w n h true

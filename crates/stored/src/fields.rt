@@ -12,7 +12,6 @@ ghost use mathlib.Core.Path.{_≡_};
 ghost use Prim.Native.Nat.{_+_, _<_, _≤_};
 ghost use lib.ListN.{length};
 ghost use lib.Seq.{paste};
-ghost use Rattle.log.specs.Entry.{signed as signedOf};
 ghost use Rattle.stored.specs.Fields.{most32, most16, most8, wordAt, narrowAt, flagAt, signedAt, pointAt, spotAt, headingAt, placeRead, lineOfTag, stageOfTag, modeOfTag, flagOf, unsigned as unsignedOf, spotFlag, pointIn, headingFlag, headingIn, placeFlag, latIn, lonIn, lineTag, stageTag, modeTag};
 
 // The most that a word may be, by its field's type.
@@ -95,21 +94,11 @@ pub fn usize_at(words: &[u64], i: usize) -> usize
     words[i] as usize
 }
 
-// Two's complement: from 2^31 on, a number stands for the one 2^32 below it.
-fn signed(n: u32) -> i32
-    ensures { λ r. ⌜ r ≡ signedOf n ⌝ }
-{
-    if n < 2147483648 {
-        return n as i32;
-    }
-    -1 - ((4294967295 - n) as i32)
-}
-
 fn i32_at(words: &[u64], i: usize) -> i32
     requires { ⌜ i < length (now words) ⌝ }
     ensures { λ r. ⌜ r ≡ signedAt (now (words .entry)) i ⌝ }
 {
-    signed(u32_at(words, i))
+    log::signed(u32_at(words, i))
 }
 
 fn point_at(numbers: &[f32], j: usize) -> Point

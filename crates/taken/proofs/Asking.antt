@@ -2,7 +2,7 @@
 use Prim.Native.Nat.{ℕ, _≤_}
 use native.Mathlib.Omega.{arith}
 use mathlib.Core.Path.{_≡_, refl}
-use mathlib.Core.Bool.{true, _&&_}
+use mathlib.Core.Bool.{true, _&&_, and-eq-true-iff}
 use mathlib.Core.List.{List, [], _∷_}
 use borrow.Author.Tests.{lt-ltb, le-leb, leb-true}
 use lib.Dec.{leb}
@@ -18,7 +18,7 @@ use Rattle.course.specs.Fix.{Fix}
 use Rattle.calls.specs.Questions.{question1, segmentFits, followFits, countsFit, spotsFit, numbersFit, stateFits, heldFits, latitudeFits, longitudeFits, asksFix, _orElse_, asksFixes}
 use Rattle.calls.specs.Calls.{pointOf, asksPlace}
 use Rattle.taken.specs.Taken.{FixOnGlobe, FixesOnGlobe}
-use Rattle.taken.proofs.Tests.{both, and-left, and-right}
+use Rattle.taken.proofs.Tests.{both}
 use Rattle.taken.proofs.Bounds.{along-fits, factor-fits}
 use Rattle.taken.proofs.Laid.{most, laid-fits}
 use Rattle.taken.proofs.Recording.{places-fit, retrace-fits}
@@ -33,9 +33,10 @@ pub record Room (C : ℕ) : Type 0 where
 pub room-of : (size : ℕ) → question1 size ≡ true → Room (capacity size)
 unfolding question1
 room-of size e =
-    let ab = and-left (whole size && leb 8 (capacity size)) (leb (capacity size) 4096) e in
-    let l : 8 ≤ capacity size = leb-true 8 (capacity size) (and-right (whole size) (leb 8 (capacity size)) ab) in
-    let m : capacity size ≤ 4096 = leb-true (capacity size) 4096 (and-right (whole size && leb 8 (capacity size)) (leb (capacity size) 4096) e) in
+    let ab = and-eq-true-iff (whole size && leb 8 (capacity size)) (leb (capacity size) 4096) .0 e .0 in
+    let l : 8 ≤ capacity size = leb-true 8 (capacity size) (and-eq-true-iff (whole size) (leb 8 (capacity size)) .0 ab .1) in
+    let most = and-eq-true-iff (whole size && leb 8 (capacity size)) (leb (capacity size) 4096) .0 e .1 in
+    let m : capacity size ≤ 4096 = leb-true (capacity size) 4096 most in
     record { least = omega arith; most-room = m }
 
 -- ---- question 10

@@ -75,7 +75,7 @@ along-share t a b s A B =
 less : (m d : ℕ) → 0 < d → m * 1 ≤ 1 * 2 ^ 53 * d → m * 1 < 4656613 * 2 ^ 31 * d
 less m d D h = omega arith
 
-some-more : (m d : ℕ) → 0 < d → 0 < m * 1 + 4656613 * 2 ^ 31 * d
+pub some-more : (m d : ℕ) → 0 < d → 0 < m * 1 + 4656613 * 2 ^ 31 * d
 some-more m d D = omega arith
 
 below-end : (x : Float) → Within far x → T (lt x (fin false 4656613 (pos 31)))

@@ -2,7 +2,7 @@
 use Prim.Native.Nat.{ℕ, _≤_, _<_}
 use native.Mathlib.Omega.{arith}
 use mathlib.Core.Path.{_≡_, refl, sym, subst}
-use mathlib.Core.Bool.{Bool, true, false, cond, true≢false}
+use mathlib.Core.Bool.{Bool, true, false, cond, true≢false, and-eq-true-iff}
 use mathlib.Core.List.{List}
 use borrow.Author.Tests.{ltb-true, leb-true}
 use lib.Dec.{ltb}
@@ -34,7 +34,7 @@ use Rattle.follow.specs.Record.{afterThinning, recordedIn, recorded, keepIn, ad
 use Rattle.follow.specs.Parts.{alongAt, courseFrom, leads, stopped, heldOff}
 use Rattle.follow.specs.Engage.{engageAt, engage, cutTo, leaveAt, forgotten, stopNothing, stopCourse, stopBreadcrumb, stopOn, stop}
 use Rattle.joining.specs.Join.{joinedTo, joinOn, mayJoin, joinWith, joining}
-use Rattle.taken.proofs.Tests.{one-of, and-left}
+use Rattle.taken.proofs.Tests.{one-of}
 use Rattle.taken.proofs.Bounds.{Along, far, along-start, along-far}
 use Rattle.taken.proofs.Laid.{most, laid-at}
 use Rattle.taken.proofs.Recording.{Recorded, uncounted, Onward, keep-onward, flush-onward, add-onward, grows, cut-recorded, forgotten-recorded, forgotten-none}
@@ -170,7 +170,7 @@ module _ (C : ℕ) (course : List Crumb) (lined : Lined course) where
 
   two : (l : List Crumb) → leads l ≡ true → 2 ≤ length l
   unfolding leads
-  two l e = leb-true 2 (length l) (and-left _ _ e)
+  two l e = leb-true 2 (length l) (and-eq-true-iff _ _ .0 e .0)
 
   pub engage-kept : (now : ℕ) (s : State) → Kept C (length course) s → Kept C (length course) (engage course now s .state)
   unfolding engage

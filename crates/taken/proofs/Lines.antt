@@ -1,7 +1,7 @@
 -- The guide made anew, and its course, within the state's bounds. Assumes nothing.
 use Prim.Native.Nat.{ℕ, suc, _+_, _≤_}
 use native.Mathlib.Omega.{arith}
-use mathlib.Core.Path.{_≡_, refl, sym, ap, subst}
+use mathlib.Core.Path.{_≡_, refl, sym, subst}
 use mathlib.Core.Bool.{Bool, false}
 use mathlib.Core.List.{List, [], _∷_, reverse, reverseAux}
 use mathlib.Core.Option.{Option, none, some}
@@ -22,6 +22,7 @@ use Rattle.follow.specs.Parts.{stopped}
 use Rattle.follow.specs.Engage.{stopCourse}
 use Rattle.course.specs.Fix.{Fix, framed}
 use Rattle.course.specs.Course.{placeBehind, placed, noOrigin, lineOf}
+use Rattle.course.proofs.Placing.{length-behind}
 use Rattle.calls.specs.Fix.{unheaded}
 use Rattle.calls.specs.Line.{noLap, new, lined, awaiting, reset, offCourse, setCourse}
 use Rattle.taken.specs.Taken.{FixesOnGlobe}
@@ -40,11 +41,6 @@ globe-aux (x ∷ xs) ys h k = globe-aux xs (x ∷ ys) (h .1) (h .0, k)
 
 globe-reverse : (xs : List Fix) → FixesOnGlobe xs → FixesOnGlobe (reverse xs)
 globe-reverse xs h = globe-aux xs [] h tt
-
-length-behind : (f : Frame) (o : Option Crumb) (xs : List Fix) → length (placeBehind f o xs) ≡ length xs
-unfolding placeBehind
-length-behind f o [] = refl
-length-behind f o (x ∷ xs) = ap suc (length-behind f _ xs)
 
 laid-behind : (i : ℕ) (a : Crumb) (f : Frame) (xs : List Fix) → i + length xs ≤ most → CrumbAt i a → Framed f → FixesOnGlobe xs → Laid (suc i) (placeBehind f (some a) xs)
 unfolding placeBehind alongBehind
@@ -92,7 +88,7 @@ line-lined f xs few h g = let s = line-short f xs few h g in record { laid = s .
 zero-along : Along far plusZero
 zero-along = along-far 0 plusZero (omega arith) along-start
 
-factor-start : Within (frac 5) mPerE7
+pub factor-start : Within (frac 5) mPerE7
 unfolding mPerE7 constant
 factor-start = lit≤ tt
 

@@ -70,11 +70,11 @@ pub record Moving (m : Motion) : Type 0 where
   pub from : Spotted (m .from)
   pub heading : headingFits (m .heading) ≡ true
 
-known-fits : (a b : Point) → headingFits (Known (bearing a b)) ≡ true
+pub known-fits : (a b : Point) → headingFits (Known (bearing a b)) ≡ true
 unfolding headingFits
 known-fits a b = lt-ltb (bearing a b) turn (bearing-below a b)
 
-unknown-fits : headingFits Unknown ≡ true
+pub unknown-fits : headingFits Unknown ≡ true
 unfolding headingFits
 unknown-fits = refl
 

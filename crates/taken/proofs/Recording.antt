@@ -18,17 +18,18 @@ use Rattle.crumbs.specs.declared.Crumb.{Crumb}
 use Rattle.crumbs.specs.Crumb.{point}
 use Rattle.crumbs.specs.Choice.{last}
 use Rattle.trail.specs.Notes.{Note, thinnedIn}
-use Rattle.trail.specs.Trail.{Track, withCrumbs, fresh, toleranceM, thin, put, keep, flush, wait, simplify, add, resetTrack}
+use Rattle.trail.specs.Trail.{retraceFixes, Track, withCrumbs, fresh, toleranceM, thin, put, keep, flush, wait, simplify, add, resetTrack}
 use Rattle.trail.proofs.Rules.{keep-full, keep-room, flush-none, flush-some, bends, simplify-bends, simplify-straight, add-first, near, add-near, add-far}
 use Rattle.trail.proofs.Theorems.{Sound, thin-sound, flush-sound, Holding, MayKeep, nothing, one, Keeps, full}
 use Rattle.trail.proofs.Theorems as trail
 use Rattle.follow.specs.Engage.{forgotten}
-use Rattle.joining.specs.Join.{retraceFixes, withRetrace}
+use Rattle.joining.specs.Join.{withRetrace}
 use Rattle.joining.specs.Retrace.{lenBefore}
 use Rattle.calls.specs.Questions.{placesFit, retraceFits}
 use Rattle.taken.proofs.Tests.{one-of}
 use Rattle.taken.proofs.Bounds.{place-fits}
 use Rattle.taken.proofs.Laid.{most, Laid, laid-take, laid-put, laid-thin}
+use Rattle.journal.proofs.Calls.{new-tolerance}
 
 -- ---- places that wait
 abbrev pub Places : List Point → Type 0
@@ -146,18 +147,14 @@ module _ (C : ℕ) (least : 3 ≤ C) (room : C ≤ most) where
       by (some a) e = far a e (near C p t a) refl
 
 -- ---- nothing recorded, and what is cut off or forgotten
-tolerance-least : le plusZero toleranceM ≡ true
-unfolding le lt toleranceM constant
-tolerance-least = refl
-
 module _ (C : ℕ) where
   pub fresh-recorded : Recorded C fresh
   unfolding fresh
-  fresh-recorded = record { sound = record { held = omega arith; waiting = omega arith; tolerance = tolerance-least }; laid = tt; waiting = tt }
+  fresh-recorded = record { sound = record { held = omega arith; waiting = omega arith; tolerance = new-tolerance }; laid = tt; waiting = tt }
 
   pub reset-recorded : (t : Track) → Recorded C (resetTrack t .track)
   unfolding resetTrack
-  reset-recorded t = record { sound = record { held = omega arith; waiting = omega arith; tolerance = tolerance-least }; laid = tt; waiting = tt }
+  reset-recorded t = record { sound = record { held = omega arith; waiting = omega arith; tolerance = new-tolerance }; laid = tt; waiting = tt }
 
   -- the first n crumbs, with nothing that waits and no turn-round
   pub cut-recorded : (n : ℕ) (t : Track) → Recorded C t → Recorded C (withCrumbs (take n (t .crumbs)) (forgotten t))

@@ -3,7 +3,7 @@ use Prim.Native.Nat.{ℕ, _≤_}
 use native.Mathlib.Omega.{arith}
 use mathlib.Core.Path.{_≡_, refl, sym, ap, _∙_, subst}
 use mathlib.Core.Logic.{_≢_}
-use mathlib.Core.Bool.{Bool, true, _&&_}
+use mathlib.Core.Bool.{Bool, true, _&&_, and-eq-true-iff}
 use mathlib.Core.List.{List, []}
 use borrow.Author.Tests.{le-leb, leb-true, eqb-true, eqb-false}
 use lib.Dec.{leb, eqb}
@@ -21,7 +21,7 @@ use Rattle.calls.specs.Questions.{question1, question4, stateFits, heldFits, li
 use Rattle.calls.specs.Line.{new, setCourse}
 use Rattle.calls.specs.Calls.{Loan, noBuffer, crumbBuffer, lineBuffer, bothBuffers, lineForCourse, Query, Call, Ask, Reset, EndReplay, SetCourse, SetAutoFollow, Observe, Replay, SetFollowing, arguments, asksLent, asks, courseIn, performs, afterCall}
 use Rattle.taken.specs.Taken.{FixesOnGlobe, InRange, placedOf, Lendable, LendsLine, Lent, lineLeft, lineAfter, Own, start, called, refused, BufferAfter, EveryTaken, AnyLineAtFirst, EveryLineAgain}
-use Rattle.taken.proofs.Tests.{either, both, and-left, and-right}
+use Rattle.taken.proofs.Tests.{either, both}
 use Rattle.taken.proofs.Laid.{most, laid-fits}
 use Rattle.taken.proofs.State.{Lined, Kept}
 use Rattle.taken.proofs.Calls.{replay-kept, end-replay-kept, auto-follow-kept, following-kept, observe-kept}
@@ -39,10 +39,10 @@ roomy : (size n : ℕ) → question4 size n ≡ true → Roomy size n
 unfolding question4
 roomy size n e =
     let long = whole size && leb (capacity size) points in
-    let fits : long ≡ true = and-left long (leb n (capacity size)) e in
+    let fits : long ≡ true = and-eq-true-iff long (leb n (capacity size)) .0 e .0 in
     record {
-      short = leb-true (capacity size) points (and-right (whole size) (leb (capacity size) points) fits);
-      room = leb-true n (capacity size) (and-right long (leb n (capacity size)) e);
+      short = leb-true (capacity size) points (and-eq-true-iff (whole size) (leb (capacity size) points) .0 fits .1);
+      room = leb-true n (capacity size) (and-eq-true-iff long (leb n (capacity size)) .0 e .1);
       none = both fits (le-leb 0 (capacity size) (omega arith));
     }
 

@@ -2,7 +2,7 @@
 use Prim.Native.Nat.{ℕ, _≤_, _<_}
 use native.Mathlib.Omega.{arith}
 use mathlib.Core.Path.{_≡_, refl}
-use mathlib.Core.Bool.{Bool, true, false, _&&_, _||_}
+use mathlib.Core.Bool.{Bool, true, false, _&&_, _||_, and-eq-true-iff}
 use mathlib.Core.List.{List}
 use borrow.Author.Tests.{leb-true, lt-ltb}
 use lib.Dec.{leb}
@@ -37,7 +37,7 @@ use Rattle.matching.specs.Match.{onCourse, onLine, aroundSegment, nearer, isNum
 use Rattle.matching.specs.Followed.{followedOn, followed, progress, nearest, widened}
 use Rattle.update.specs.Update.{begun, matchedAt, endedWith, atCourseEnd, matchedTo, matchFrom, followOn, update}
 use Rattle.calls.specs.Questions.{guideFits, shownFits}
-use Rattle.taken.proofs.Tests.{either, one-of, and-right}
+use Rattle.taken.proofs.Tests.{either, one-of}
 use Rattle.taken.proofs.Bounds.{Along, far}
 use Rattle.taken.proofs.Laid.{most}
 use Rattle.taken.proofs.Moving.{step-start}
@@ -172,4 +172,5 @@ module _ (C : ℕ) (least : 3 ≤ C) (room : C ≤ most) (course : List Crumb) (
   unfolding update
   update-kept now s k =
       either KD (onLine (begun p now s .follow .line) && leb 2 (length (followed course (begun p now s))))
-      (λ e. follow-on-kept now _ (begun-kept now s k) (leb-true _ _ (and-right (onLine (begun p now s .follow .line)) _ e))) (λ e. direct-kept _ (begun-kept now s k))
+      (λ e. follow-on-kept now _ (begun-kept now s k) (leb-true _ _ (and-eq-true-iff (onLine (begun p now s .follow .line)) _ .0 e .1)))
+      (λ e. direct-kept _ (begun-kept now s k))

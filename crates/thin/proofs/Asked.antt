@@ -1,7 +1,7 @@
 -- What a call that passes question 9 has. Assumes nothing.
 use Prim.Native.Nat.{ℕ, _≤_}
-use mathlib.Core.Path.{_≡_, refl, sym}
-use mathlib.Core.Bool.{Bool, true, false, _&&_}
+use mathlib.Core.Path.{_≡_}
+use mathlib.Core.Bool.{Bool, true, false, and-eq-true-iff}
 use native.Mathlib.Omega.{arith}
 use borrow.Author.Tests.{leb-true}
 use lib.Ieee.{Float, le}
@@ -11,10 +11,6 @@ use Rattle.thin.specs.Questions.{question9}
 
 pub true-false : _≡_ {A = Bool} true false → ⊥
 true-false e = let z : _≡_ {A = ℕ} 0 1 = cc in omega arith
-
-and-true : (a b : Bool) → (a && b) ≡ true → (a ≡ true) × (b ≡ true)
-and-true true b h = (refl, h)
-and-true false b h = absurd (true-false (sym h))
 
 pub record Asked (size n : ℕ) (t : Float) : Type 0 where
   pub whole-long : whole size ≡ true
@@ -26,10 +22,10 @@ pub record Asked (size n : ℕ) (t : Float) : Type 0 where
 pub asked : (size n : ℕ) (t : Float) → question9 size n t ≡ true → Asked size n t
 unfolding question9
 asked size n t h =
-    let e = and-true _ _ h in
-    let d = and-true _ _ (e .0) in
-    let c = and-true _ _ (d .0) in
-    let b = and-true _ _ (c .0) in
+    let e = and-eq-true-iff _ _ .0 h in
+    let d = and-eq-true-iff _ _ .0 (e .0) in
+    let c = and-eq-true-iff _ _ .0 (d .0) in
+    let b = and-eq-true-iff _ _ .0 (c .0) in
     record {
       whole-long = b .0;
       least = leb-true _ _ (b .1);

@@ -1,6 +1,6 @@
 -- What the bounds say of a place between. Assumes nothing.
 use mathlib.Core.Path.{_≡_, refl, sym, ap, _∙_, subst}
-use mathlib.Core.Bool.{Bool, true, false, not}
+use mathlib.Core.Bool.{Bool, true, false, not, false≢true}
 use lib.Dec.{T}
 use lib.Ieee.{Float, nan, inf, fin, binary32, ofBits, div, lt, eq, le, fits}
 use Rattle.binary32.specs.Root.{root}
@@ -12,22 +12,15 @@ use Rattle.binary32.proofs.roots.Bounds.{root-accept, root-reject}
 use Rattle.plane.proofs.squares.Far.{off-fits, off-not-below, off-is}
 use Rattle.thin.specs.Bounds.{Under, Over}
 
-never : {A : Type 0} → false ≡ true → A
-never e = absurd (subst (λ (b : Bool). T (not b)) e tt)
-
 no-most : (s : Float) → le s nan ≡ true → ⊥
 unfolding le lt eq
-no-most nan h = never h
-no-most (inf s) h = never h
-no-most (fin s m e) h = never h
+no-most nan h = absurd (false≢true h)
+no-most (inf s) h = absurd (false≢true h)
+no-most (fin s m e) h = absurd (false≢true h)
 
 no-least : (s : Float) → le nan s ≡ true → ⊥
 unfolding le lt eq
-no-least s h = never h
-
-pub no-number : div binary32 (ofBits binary32 0) (ofBits binary32 0) ≡ nan
-unfolding div ofBits
-no-number = refl
+no-least s h = absurd (false≢true h)
 
 module _ {most x : Float} where
   pub under-found : {r : Float} → T (fits binary32 x) → r ≡ root binary32 x → le r most ≡ true → Under most x
@@ -86,5 +79,5 @@ module _ (most : Float) {t : Bool} {p a b x y z : Point} (e : t ≡ not (le (off
   leaves n = flip (le (offSegment x y z) most) (sym read ∙ n)
     where
       flip : (b : Bool) → not b ≡ true → b ≡ false
-      flip true k = never k
+      flip true k = absurd (false≢true k)
       flip false k = refl

@@ -29,6 +29,10 @@ minStepM = constant 5 1
 unfoldable pub toleranceM : Float
 toleranceM = constant 6 1
 
+-- homing.rs, `RETRACE_FIXES`: so many fixes in a row back along the breadcrumb follow it
+abbrev pub retraceFixes : ℕ
+retraceFixes = 8
+
 -- What is recorded: the crumbs held, the tolerance, the places that wait, each oldest first; and the turn-round count, with how many crumbs were
 -- held before the turn.
 pub record Track : Type 0 where

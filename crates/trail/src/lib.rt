@@ -25,6 +25,8 @@ pub const MIN_STEP_M: f32 = 5.0;
 pub const TOLERANCE_M: f32 = 6.0;
 // The most places that wait.
 pub const WINDOW: usize = 48;
+// So many fixes in a row back along the breadcrumb follow it.
+pub const RETRACE_FIXES: u8 = 8;
 
 // The breadcrumb's state beside the window and the buffer that holds its crumbs. The window has the
 // places since the last kept crumb, oldest first: place i at 2i and 2i + 1.

@@ -40,7 +40,7 @@ stop-on-line line.Nothing C s = refl
 stop-on-line line.Course C s = refl
 stop-on-line line.Breadcrumb C s = left-line C (s .follow .matched) (s .follow .segment) _
 
-stop-line : (C : ℕ) (s : State) → stop C s .state .course .«line_len» ≡ s .course .«line_len»
+pub stop-line : (C : ℕ) (s : State) → stop C s .state .course .«line_len» ≡ s .course .«line_len»
 unfolding stop
 stop-line C s = stop-on-line (s .follow .line) C s
 

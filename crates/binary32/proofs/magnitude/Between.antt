@@ -19,6 +19,7 @@ use Rattle.binary32.proofs.magnitude.Size.{Within, Share, pow}
 use Rattle.binary32.proofs.magnitude.Round.{round-value, round-held, grid-le, Held, held, units-held, within-of-values, value-of-within, value-finite}
 use Rattle.binary32.proofs.magnitude.Laws.{within-finite}
 use Rattle.binary32.proofs.magnitude.Units.{fl, fl-near, fl-mono, fl-back, add-units}
+use Rattle.binary32.proofs.magnitude.Shares.{at-most}
 
 -- x is finite, with the sign s, and n units in size
 abbrev pub Units : Float → Bool → ℕ → Type 0
@@ -66,9 +67,6 @@ gap true false a b t = unlike-signs true a b t
 gap true true a b t = alike true (true && ltb a b) a b t
 
 -- ---- a share of a held value lies between 0 and that value
-at-most : (t td x xd : ℕ) → t ≤ td → t * x * xd ≤ x * (td * xd)
-at-most t td x xd h = le-trans (mul-le-mul-right xd (mul-le-mul-right x h)) (le-of-eq (ap (λ (z : ℕ). z * xd) (mul-comm td x) ∙ mul-assoc x td xd))
-
 nothing : (m t x d : ℕ) → m ≡ 0 → m * t * x * 1 ≤ 0 * 1 * d
 nothing m t x d e = subst (λ (z : ℕ). z * t * x * 1 ≤ 0 * 1 * d) (sym e) (le-of-eq (simp (zero-mul)))
 

@@ -20,11 +20,9 @@ use Rattle.binary32.proofs.magnitude.Round.{round-within, round-held, H
 use Rattle.binary32.proofs.magnitude.Signs.{value-nonneg, zero-nonneg, zero-fits}
 use Rattle.binary32.proofs.magnitude.Tests.{nonneg→le, le→nonneg}
 use Rattle.binary32.proofs.magnitude.Laws.{test→within, within-trans, within-finite, cond-within}
+use Rattle.binary32.proofs.magnitude.Shares.{not-zero}
 
 -- ---- a quotient, by a divisor that is c at least in size
-not-zero : (n : ℕ) → 0 < n → n ≡ 0 → ⊥
-not-zero n h e = omega arith
-
 ratio : (M D N E P G L R : ℕ) → M * D ≤ N * E → P * G ≤ L * R → M * G * (P * D) ≤ N * R * (L * E)
 ratio M D N E P G L R h k =
     le-trans (le-of-eq (simp (mul-assoc, mul-comm, mul-left-comm))) (le-trans (mul-le-mul h k) (le-of-eq (simp (mul-assoc, mul-comm, mul-left-comm))))

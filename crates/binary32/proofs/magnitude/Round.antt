@@ -23,7 +23,7 @@ pub round-value : (f : Format) (s : Bool) (a c : ℕ) → grid f a c < overflow 
 round-value f s a c h = subst (λ (z : Float). HasValue z s (grid f a c) (2 ^ low f)) (sym (round-is f s a c)) (units-val f s (kept (prec f) (a * 2 ^ low f) c) (drop (prec f) (a * 2 ^ low f) c) h)
 
 -- ---- the order of two values that are not negative, as one of fractions
-or-split : (a b : Bool) → T (a || b) → T a ⊎ T b
+pub or-split : (a b : Bool) → T (a || b) → T a ⊎ T b
 or-split true b t = inl tt
 or-split false b t = inr t
 

@@ -34,8 +34,8 @@ pub round-no-nan : (f : Format) (s : Bool) (a c : ℕ) → T (not (isNan (round 
 round-no-nan f s a c = subst (λ (z : Float). T (not (isNan z))) (sym (round-is f s a c)) (units-no-nan f s (kept (prec f) (a * 2 ^ low f) c) (drop (prec f) (a * 2 ^ low f) c))
 
 -- ---- div
-some-num : (n : ℕ) → 0 < n → n ≡ 0 → ⊥
-some-num n h e = omega arith
+pub not-zero : (n : ℕ) → 0 < n → n ≡ 0 → ⊥
+not-zero n h e = omega arith
 
 lt-num : (n : ℕ) (t : Bool) (d : ℤ) → T (lt plusZero (fin t n d)) → 0 < n
 unfolding lt
@@ -54,7 +54,7 @@ div-no-nan f (fin s m e) (inf t) p q h = absurd q
 div-no-nan f (fin s m e) (fin t n d) p q h = go (eqb n 0) (eqb→eq n 0)
   where
     go : (b : Bool) → (T b → n ≡ 0) → T (not (isNan (cond b (cond (eqb m 0) nan (inf (unlike s t))) (round f (unlike s t) (m * up e * down d) (n * up d * down e)))))
-    go true g = absurd (some-num n (lt-num n t d h) (g tt))
+    go true g = absurd (not-zero n (lt-num n t d h) (g tt))
     go false g = round-no-nan f (unlike s t) (m * up e * down d) (n * up d * down e)
 
 -- ---- the clamp
@@ -93,7 +93,7 @@ pub clamp-div : (f : Format) (x y : Float) → T (finite x) → T (finite y) →
 clamp-div f x y p q h = clamp-share (div f x y) (div-no-nan f x y p q h)
 
 -- ---- a share of a value that the format holds lies between 0 and that value
-at-most : (t td x xd : ℕ) → t ≤ td → t * x * xd ≤ x * (td * xd)
+pub at-most : (t td x xd : ℕ) → t ≤ td → t * x * xd ≤ x * (td * xd)
 at-most t td x xd h = le-trans (mul-le-mul-right xd (mul-le-mul-right x h)) (le-of-eq (ap (λ (z : ℕ). z * xd) (mul-comm td x) ∙ mul-assoc x td xd))
 
 part-of : (s : Bool) (m : ℕ) (e : ℤ) → Share (fin s m e) → m * up e ≤ down e

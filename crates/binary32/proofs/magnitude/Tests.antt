@@ -12,6 +12,7 @@ use lib.Ieee.Fits.{up-pos, down-pos, and-l, and-r, eq→eqb}
 use lib.Ieee.Scale.{finite}
 use Rattle.binary32.specs.Limits.{sizeOf, plusZero}
 use Rattle.binary32.proofs.magnitude.Size.{Within, NonNeg}
+use Rattle.binary32.proofs.magnitude.Round.{or-split}
 
 or-l : (a b : Bool) → T a → T (a || b)
 or-l true b t = tt
@@ -24,10 +25,6 @@ or-r false b t = t
 and-both : (a b : Bool) → T a → T b → T (a && b)
 and-both true b t u = u
 and-both false b t u = t
-
-or-split : (a b : Bool) → T (a || b) → T a ⊎ T b
-or-split true b t = inl tt
-or-split false b t = inr t
 
 -- a ≤ b with both signs clear, and with both set; a negative number and one that is not
 le-clear : (a b : ℕ) → a ≤ b → T (below false a false b || level false a false b)

@@ -1,6 +1,5 @@
 -- `binary32::nearest_root` meets its contract: the guess is returned only where it is the nearest whole number. Assumes nothing.
 use mathlib.Core.Path.{_≡_, sym, subst}
-use mathlib.Core.Bool.{not}
 use Prim.Native.Nat.{ℕ, _*_, _%_, _^_, _≤_, _<_}
 use native.Mathlib.Nat.{mul-le-mul, lt-of-le-of-lt}
 use native.Mathlib.Omega.{arith}
@@ -13,13 +12,7 @@ use Rattle.binary32.proofs.nearest_root.Reads as reads
 use Rattle.binary32.proofs.nearest_root.Lts as lts
 use Rattle.binary32.proofs.guess.Reads as guess-reads
 use Rattle.binary32.proofs.searched.Reads as searched-reads
-
--- a value that equals itself is no NaN
-no-nan : (x : Float) → T (eq x x) → T (not (isNan x))
-unfolding eq isNan
-no-nan nan t = absurd t
-no-nan (inf s) t = tt
-no-nan (fin s m e) t = tt
+use Rattle.binary32.proofs.Casting.{a-number}
 
 -- a remainder by 2 ^ 25, squared, fits
 square-small : (a : ℕ) → a % 33554432 * (a % 33554432) < 2 ^ 64
@@ -31,7 +24,7 @@ guess-requires : tie.Need-guess-requires
 guess-requires c κs = search needs
 
 float-to-bits-g : tie.Need-float-to-bits-g
-float-to-bits-g c = no-nan _ (subst T (sym (c .if1 .taken)) tt)
+float-to-bits-g c = a-number _ (subst T (sym (c .if1 .taken)) tt)
 
 mul-s : tie.Need-mul-s
 mul-s c = record { fits = square-small _ }

@@ -5,7 +5,7 @@ use mathlib.Core.Logic.{_⊎_, inl, inr}
 use Prim.Native.Nat.{ℕ, zero, suc, _+_, _-_, _*_, _/_, _^_, _≤_, _<_}
 use native.Mathlib.Nat.{eq-zero-or-pos, le-of-lt, lt-of-not-le}
 use native.Mathlib.Omega.{arith}
-use mathlib.Core.Bool.{Bool, true, false, not, _&&_, _||_, Bool·beq, cond}
+use mathlib.Core.Bool.{Bool, true, false, not, _&&_, _||_, Bool·beq, cond, true≢false}
 use borrow.Author.Tests.{ltb-true, ltb-false, lt-ltb, eqb-true, eqb-false}
 use lib.IntN.{ℤ}
 use lib.Dec.{T, ltb, eqb, eqb-refl}
@@ -16,9 +16,6 @@ use Rattle.binary32.specs.Root.{root, rootOf, halves}
 use Rattle.binary32.proofs.roots.Order.{lt-irrefl, le-lt}
 use Rattle.binary32.proofs.roots.Monotone.{clear, root-less}
 
-never : {A : Type 0} → true ≡ false → A
-never e = absurd (subst T e tt)
-
 -- ---- no NaN
 abbrev pub real : Float → Bool
 real nan = false
@@ -27,17 +24,17 @@ real (fin s m e) = true
 
 real-left : (x y : Float) → le x y ≡ true → T (real x)
 unfolding le lt eq
-real-left nan y h = never (sym h)
+real-left nan y h = absurd (true≢false (sym h))
 real-left (inf s) y h = tt
 real-left (fin s m e) y h = tt
 
-real-right : (x y : Float) → le x y ≡ true → T (real y)
+pub real-right : (x y : Float) → le x y ≡ true → T (real y)
 unfolding le lt eq
-real-right nan y h = never (sym h)
-real-right (inf s) nan h = never (sym h)
+real-right nan y h = absurd (true≢false (sym h))
+real-right (inf s) nan h = absurd (true≢false (sym h))
 real-right (inf s) (inf t) h = tt
 real-right (inf s) (fin t n d) h = tt
-real-right (fin s m e) nan h = never (sym h)
+real-right (fin s m e) nan h = absurd (true≢false (sym h))
 real-right (fin s m e) (inf t) h = tt
 real-right (fin s m e) (fin t n d) h = tt
 
@@ -68,7 +65,7 @@ root-real f (fin false (suc m) e) c r = let h = 2 ^ suc (low f) in round-real f 
 
 -- ---- of two numbers one is at most the other
 or-false : (a b : Bool) → (a || b) ≡ false → (a ≡ false) × (b ≡ false)
-or-false true b h = never h
+or-false true b h = absurd (true≢false h)
 or-false false b h = (refl, h)
 
 more : (a b : ℕ) (c : Bool) → (ltb a b || (eqb a b && true)) ≡ false → b < a
@@ -78,7 +75,7 @@ more a b c h =
     lt-of-not-le (λ (k : a ≤ b). differ (eqb a b) refl (g .1) (omega arith))
   where
     differ : (t : Bool) → eqb a b ≡ t → (t && true) ≡ false → a ≡ b → ⊥
-    differ true e n s = never n
+    differ true e n s = absurd (true≢false n)
     differ false e n s = eqb-false a b e s
 
 signed : (s t : Bool) (a b : ℕ) → (below s a t b || level s a t b) ≡ false → below t b s a ≡ true
@@ -89,10 +86,10 @@ signed true true a b h =
     lt-ltb a b (lt-of-not-le (λ (k : b ≤ a). differ (eqb a b) refl (g .1) (omega arith)))
   where
     differ : (t : Bool) → eqb a b ≡ t → (t && true) ≡ false → a ≡ b → ⊥
-    differ true e n s = never n
+    differ true e n s = absurd (true≢false n)
     differ false e n s = eqb-false a b e s
 signed false true a b h = elim (eq-zero-or-pos (b + a)) [
-  | inl z ↦ let u : a ≡ 0 = omega arith in let v : b ≡ 0 = omega arith in never (sym (same a b u v) ∙ h)
+  | inl z ↦ let u : a ≡ 0 = omega arith in let v : b ≡ 0 = omega arith in absurd (true≢false (sym (same a b u v) ∙ h))
   | inr g ↦ lt-ltb 0 (b + a) g
 ]
   where
@@ -103,7 +100,7 @@ signed true false a b h =
     let l = ltb-false 0 (a + b) (g .0) in
     let u : a ≡ 0 = omega arith in
     let v : b ≡ 0 = omega arith in
-    never (sym (same a b u v) ∙ g .1)
+    absurd (true≢false (sym (same a b u v) ∙ g .1))
   where
     same : (a b : ℕ) → a ≡ 0 → b ≡ 0 → (eqb a b && eqb a 0) ≡ true
     same a b u v = ap (λ (k : ℕ). eqb k b && eqb k 0) u ∙ ap (λ (k : ℕ). eqb 0 k && eqb 0 0) v
@@ -112,19 +109,19 @@ pub not-most : (x y : Float) → T (real x) → T (real y) → le x y ≡ false 
 unfolding le lt eq
 not-most nan y p q h = absurd p
 not-most (inf s) nan p q h = absurd q
-not-most (inf true) (inf true) p q h = never h
-not-most (inf true) (inf false) p q h = never h
+not-most (inf true) (inf true) p q h = absurd (true≢false h)
+not-most (inf true) (inf false) p q h = absurd (true≢false h)
 not-most (inf false) (inf true) p q h = refl
-not-most (inf false) (inf false) p q h = never h
-not-most (inf true) (fin t n d) p q h = never h
+not-most (inf false) (inf false) p q h = absurd (true≢false h)
+not-most (inf true) (fin t n d) p q h = absurd (true≢false h)
 not-most (inf false) (fin t n d) p q h = refl
 not-most (fin s m e) nan p q h = absurd q
 not-most (fin s m e) (inf true) p q h = refl
-not-most (fin s m e) (inf false) p q h = never h
+not-most (fin s m e) (inf false) p q h = absurd (true≢false h)
 not-most (fin s m e) (fin t n d) p q h = signed s t (m * up e * down d) (n * up d * down e) h
 
 -- ---- the two bounds
-by-cases : {A : Type 0} (b : Bool) → (b ≡ true → A) → (b ≡ false → A) → A
+pub by-cases : {A : Type 0} (b : Bool) → (b ≡ true → A) → (b ≡ false → A) → A
 by-cases true f g = f refl
 by-cases false f g = g refl
 
@@ -133,10 +130,10 @@ root-accept f x lo most p q c h k =
     by-cases (le (root f x) most) (λ e. e) (λ e.
     let g = not-most (root f x) most (root-real f x c (real-left x lo h)) (real-right (root f lo) most k) e in
     let l = root-less f lo x q p (le-lt (root f lo) most (root f x) k g) in
-    never (sym (le-lt x lo x h l) ∙ lt-irrefl x))
+    absurd (true≢false (sym (le-lt x lo x h l) ∙ lt-irrefl x)))
 
 pub root-reject : (f : Format) (x hi most : Float) → T (fits f x) → T (fits f hi) → le hi x ≡ true → lt most (root f hi) ≡ true → le (root f x) most ≡ false
 root-reject f x hi most p q h k =
     by-cases (le (root f x) most) (λ e.
     let l = root-less f x hi p q (le-lt (root f x) most (root f hi) e k) in
-    never (sym (le-lt hi x hi h l) ∙ lt-irrefl hi)) (λ e. e)
+    absurd (true≢false (sym (le-lt hi x hi h l) ∙ lt-irrefl hi))) (λ e. e)

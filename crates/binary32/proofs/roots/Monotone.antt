@@ -5,7 +5,7 @@ use mathlib.Core.Logic.{_⊎_, inl, inr}
 use Prim.Native.Nat.{ℕ, zero, suc, _+_, _-_, _*_, _/_, _%_, _^_, _≤_, _<_}
 use native.Mathlib.Nat.{le-refl, le-trans, le-of-eq, le-of-lt, lt-of-lt-of-le, lt-of-le-of-lt, lt-irrefl, not-le-of-lt, lt-of-not-le, le-of-suc-le-suc, eq-or-lt-of-le, eq-zero-or-pos, mul-one, one-mul, zero-mul, mul-comm, mul-assoc, mul-left-comm, mul-right-comm, mul-pos, mul-le-mul-right, mul-lt-mul-of-pos-right, lt-of-mul-lt-mul-right, le-of-mul-le-mul-right, eq-of-mul-eq-mul-right, mul-div-cancel, zero-lt-suc}
 use native.Mathlib.Omega.{arith}
-use mathlib.Core.Bool.{Bool, true, false, not, _&&_, _||_, cond}
+use mathlib.Core.Bool.{Bool, true, false, not, _&&_, _||_, cond, false≢true}
 use lib.IntN.{ℤ, pos, negsuc}
 use lib.Dec.{T, leb, ltb, eqb, leb→le, ltb→lt, lt→ltb, nltb→le, lit<}
 use lib.Pow.{pow-add, pow-pos, pow-lt}
@@ -19,7 +19,7 @@ use lib.Ieee.Scale.{overflow}
 use lib.Ieee.Positive.{num, den, den-pos, positive, value→cross, value-pos, positive-of-value, own-value}
 use Rattle.binary32.specs.Root.{root, rootOf}
 use Rattle.binary32.specs.Nearest.{NoneNearer}
-use Rattle.binary32.proofs.Nearest.{root-positive, rootOf-fits, root-nearest, root-finite}
+use Rattle.binary32.proofs.Nearest.{root-positive, rootOf-fits, root-nearest, root-finite, value-one}
 use Rattle.binary32.proofs.roots.Order.{lt-irrefl as less-irrefl, le-lt}
 
 -- ---- a value that the format holds, in units of its smallest: m * 2 ^ i with m below 2 ^ prec
@@ -83,9 +83,6 @@ units f (fin false (suc m) e) t p =
         }
 
 -- ---- the same for a result, of which some number of units is known
-value-one : (x : Float) (a b c : ℕ) → HasValue x false a c → HasValue x false b c → a ≡ b
-value-one x a b c h k = eq-of-mul-eq-mul-right (den x) (den-pos x) a b (sym (value→cross x a c h) ∙ value→cross x b c k)
-
 pub record Digits (f : Format) (R : ℕ) : Type 0 where
   pub m : ℕ
   pub i : ℕ
@@ -159,19 +156,16 @@ same-value f x y X Y p q u w e =
     sym (ofBits-toBits f x p) ∙ ap (λ (b : ℕ). ofBits f b) (bits f x X u ∙ ap (λ (z : ℕ). pattern f z) e ∙ sym (bits f y Y w)) ∙ ofBits-toBits f y q
 
 -- ---- the law, for every two values that the format holds
-never : {A : Type 0} → false ≡ true → A
-never e = absurd (subst (λ (b : Bool). T (not b)) e tt)
-
 yes : {b : Bool} → T b → b ≡ true
 yes {b = true} t = refl
 yes {b = false} t = absurd t
 
 -- what is less than itself, or less than what it is at least, is nothing
 not-back : (x y : Float) → T (le y x) → lt x y ≡ true → ⊥
-not-back x y h k = never (sym (less-irrefl y) ∙ le-lt y x y (yes h) k)
+not-back x y h k = absurd (false≢true (sym (less-irrefl y) ∙ le-lt y x y (yes h) k))
 
 not-self : (x y : Float) → x ≡ y → lt x y ≡ true → ⊥
-not-self x y e k = never (sym (less-irrefl y) ∙ subst (λ (z : Float). lt z y ≡ true) e k)
+not-self x y e k = absurd (false≢true (sym (less-irrefl y) ∙ subst (λ (z : Float). lt z y ≡ true) e k))
 
 crosses : (a c b d X Y l : ℕ) → 0 < c → 0 < d → a * l ≡ X * c → b * l ≡ Y * d → X < Y → a * d < b * c
 crosses a c b d X Y l C D e g h =
@@ -196,9 +190,9 @@ above f x y p q P Q k =
 -- nothing is less than a NaN
 no-nan : (x : Float) → lt x nan ≡ true → ⊥
 unfolding lt
-no-nan nan k = never k
-no-nan (inf s) k = never k
-no-nan (fin s m e) k = never k
+no-nan nan k = absurd (false≢true k)
+no-nan (inf s) k = absurd (false≢true k)
+no-nan (fin s m e) k = absurd (false≢true k)
 
 nothing : (a b : ℕ) → ltb a (0 * b) ≡ true → ⊥
 nothing a b e = let h : a < 0 * b = ltb→lt a (0 * b) (subst (λ (z : Bool). T z) (sym e) tt) in let g : 0 * b ≡ 0 = zero-mul b in omega arith
@@ -208,8 +202,8 @@ from-zero : (f : Format) (z : Float) (t : Bool) (d : ℤ) (R : ℕ) → HasValue
 unfolding lt
 from-zero f nan t d R v k = absurd v
 from-zero f (inf s) t d R v k = absurd v
-from-zero f (fin true m e) t d R v k = never (sym (v .0))
-from-zero f (fin false m e) true d R v k = never k
+from-zero f (fin true m e) t d R v k = absurd (false≢true (sym (v .0)))
+from-zero f (fin false m e) true d R v k = absurd (false≢true k)
 from-zero f (fin false m e) false d R v k = nothing (m * up e * down d) (down e) (subst (λ (z : ℕ). ltb (m * up e * down d) (z * down e) ≡ true) (zero-mul (up d)) k)
 
 -- the root of a value above zero is no less than a zero
@@ -232,25 +226,25 @@ zero-less false e n d =
 -- Where the root of x is less than that of y, x is less than y.
 pub root-less : (f : Format) (x y : Float) → T (fits f x) → T (fits f y) → lt (root f x) (root f y) ≡ true → lt x y ≡ true
 unfolding root lt
-root-less f nan y p q k = never k
-root-less f (inf true) y p q k = never k
-root-less f (inf false) nan p q k = never k
-root-less f (inf false) (inf true) p q k = never k
-root-less f (inf false) (inf false) p q k = never k
-root-less f (inf false) (fin t zero d) p q k = never k
-root-less f (inf false) (fin true (suc n) d) p q k = never k
+root-less f nan y p q k = absurd (false≢true k)
+root-less f (inf true) y p q k = absurd (false≢true k)
+root-less f (inf false) nan p q k = absurd (false≢true k)
+root-less f (inf false) (inf true) p q k = absurd (false≢true k)
+root-less f (inf false) (inf false) p q k = absurd (false≢true k)
+root-less f (inf false) (fin t zero d) p q k = absurd (false≢true k)
+root-less f (inf false) (fin true (suc n) d) p q k = absurd (false≢true k)
 root-less f (inf false) (fin false (suc n) d) p q k = absurd (inf-first (rootOf f (suc n * up d) (down d)) k)
   where
     inf-first : (z : Float) → lt (inf false) z ≡ true → ⊥
-    inf-first nan k = never k
-    inf-first (inf s) k = never k
-    inf-first (fin s m e) k = never k
-root-less f (fin true (suc m) e) y p q k = never k
-root-less f (fin s zero e) nan p q k = never k
-root-less f (fin s zero e) (inf true) p q k = never k
+    inf-first nan k = absurd (false≢true k)
+    inf-first (inf s) k = absurd (false≢true k)
+    inf-first (fin s m e) k = absurd (false≢true k)
+root-less f (fin true (suc m) e) y p q k = absurd (false≢true k)
+root-less f (fin s zero e) nan p q k = absurd (false≢true k)
+root-less f (fin s zero e) (inf true) p q k = absurd (false≢true k)
 root-less f (fin s zero e) (inf false) p q k = refl
 root-less f (fin s zero e) (fin t zero d) p q k = k
-root-less f (fin s zero e) (fin true (suc n) d) p q k = never k
+root-less f (fin s zero e) (fin true (suc n) d) p q k = absurd (false≢true k)
 root-less f (fin s zero e) (fin false (suc n) d) p q k = zero-less s e n d
 root-less f (fin false (suc m) e) nan p q k = absurd (no-nan (rootOf f (suc m * up e) (down e)) k)
 root-less f (fin false (suc m) e) (inf true) p q k = absurd (no-nan (rootOf f (suc m * up e) (down e)) k)
@@ -265,10 +259,10 @@ less-of-values : (x y : Float) (R S l : ℕ) → 0 < l → HasValue x false R l 
 unfolding lt
 less-of-values nan y R S l L u w h = absurd u
 less-of-values (inf s) y R S l L u w h = absurd u
-less-of-values (fin true m e) y R S l L u w h = never (sym (u .0))
+less-of-values (fin true m e) y R S l L u w h = absurd (false≢true (sym (u .0)))
 less-of-values (fin false m e) nan R S l L u w h = absurd w
 less-of-values (fin false m e) (inf t) R S l L u w h = absurd w
-less-of-values (fin false m e) (fin true n d) R S l L u w h = never (sym (w .0))
+less-of-values (fin false m e) (fin true n d) R S l L u w h = absurd (false≢true (sym (w .0)))
 less-of-values (fin false m e) (fin false n d) R S l L u w h =
     yes (lt→ltb (m * up e * down d) (n * up d * down e) (crosses (m * up e) (down e) (n * up d) (down d) R S l (down-pos e) (down-pos d) (u .1) (w .1) h))
 
@@ -306,7 +300,7 @@ apart f x y p q P Q h k =
     (crossed-back (num x) (den x) (num y) (den y) X Y l (den-pos x) (den-pos y) (pow-pos (low f)) (value→cross x X l (u .value)) (value→cross y Y l (w .value)) h) in
     elim (eq-or-lt-of-le o) [
       | inl e ↦ same-value f (root f x) (root f y) (r .0) (s .0) (root-fits f x P) (root-fits f y Q) (r .1) (s .1) e
-      | inr g ↦ never (sym k ∙ less-of-values (root f x) (root f y) (r .0) (s .0) l (pow-pos (low f)) (r .1) (s .1) g)
+      | inr g ↦ absurd (false≢true (sym k ∙ less-of-values (root f x) (root f y) (r .0) (s .0) l (pow-pos (low f)) (r .1) (s .1) g))
     ]
   where
     crossed-back : (a c b d X Y l : ℕ) → 0 < c → 0 < d → 0 < l → a * l ≡ X * c → b * l ≡ Y * d → a * d < b * c → X < Y
@@ -348,22 +342,24 @@ not-under-nought a d e k = nothing a (down e) (subst (λ (z : ℕ). ltb a (z * d
 
 pub root-tie : (f : Format) (x y : Float) → T (fits f x) → T (fits f y) → T (clear x) → lt x y ≡ true → lt (root f x) (root f y) ≡ false → root f x ≡ root f y
 unfolding root lt
-root-tie f nan y p q c h k = never h
+root-tie f nan y p q c h k = absurd (false≢true h)
 root-tie f (inf true) y p q c h k = absurd c
-root-tie f (inf false) nan p q c h k = never h
-root-tie f (inf false) (inf t) p q c h k = never h
-root-tie f (inf false) (fin t n d) p q c h k = never h
+root-tie f (inf false) nan p q c h k = absurd (false≢true h)
+root-tie f (inf false) (inf t) p q c h k = absurd (false≢true h)
+root-tie f (inf false) (fin t n d) p q c h k = absurd (false≢true h)
 root-tie f (fin true m e) y p q c h k = absurd c
-root-tie f (fin false zero e) nan p q c h k = never h
-root-tie f (fin false zero e) (inf true) p q c h k = never h
-root-tie f (fin false zero e) (inf false) p q c h k = never (sym k)
-root-tie f (fin false zero e) (fin true n d) p q c h k = never h
+root-tie f (fin false zero e) nan p q c h k = absurd (false≢true h)
+root-tie f (fin false zero e) (inf true) p q c h k = absurd (false≢true h)
+root-tie f (fin false zero e) (inf false) p q c h k = absurd (false≢true (sym k))
+root-tie f (fin false zero e) (fin true n d) p q c h k = absurd (false≢true h)
 root-tie f (fin false zero e) (fin false zero d) p q c h k = absurd (not-under-nought (0 * up e * down d) d e h)
-root-tie f (fin false zero e) (fin false (suc n) d) p q c h k = never (sym k ∙ root-some f (fin false (suc n) d) e q (lt→ltb 0 (suc n) (zero-lt-suc n)))
-root-tie f (fin false (suc m) e) nan p q c h k = never h
-root-tie f (fin false (suc m) e) (inf true) p q c h k = never h
-root-tie f (fin false (suc m) e) (inf false) p q c h k = never (sym k ∙ root-under-inf f (fin false (suc m) e) p (lt→ltb 0 (suc m) (zero-lt-suc m)))
-root-tie f (fin false (suc m) e) (fin true n d) p q c h k = never h
+root-tie f (fin false zero e) (fin false (suc n) d) p q c h k =
+    absurd (false≢true (sym k ∙ root-some f (fin false (suc n) d) e q (lt→ltb 0 (suc n) (zero-lt-suc n))))
+root-tie f (fin false (suc m) e) nan p q c h k = absurd (false≢true h)
+root-tie f (fin false (suc m) e) (inf true) p q c h k = absurd (false≢true h)
+root-tie f (fin false (suc m) e) (inf false) p q c h k =
+    absurd (false≢true (sym k ∙ root-under-inf f (fin false (suc m) e) p (lt→ltb 0 (suc m) (zero-lt-suc m))))
+root-tie f (fin false (suc m) e) (fin true n d) p q c h k = absurd (false≢true h)
 root-tie f (fin false (suc m) e) (fin false zero d) p q c h k = absurd (not-under-nought (suc m * up e * down d) d e h)
 root-tie f (fin false (suc m) e) (fin false (suc n) d) p q c h k =
     apart f (fin false (suc m) e) (fin false (suc n) d) p q (lt→ltb 0 (suc m) (zero-lt-suc m)) (lt→ltb 0 (suc n) (zero-lt-suc n))

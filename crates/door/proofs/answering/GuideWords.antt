@@ -3,7 +3,7 @@ use Prim.Native.Nat.{ℕ, zero, suc, _+_, _≤_, _<_}
 use native.Mathlib.Omega.{arith}
 use mathlib.Core.Path.{_≡_, refl, sym, ap, _∙_}
 use mathlib.Core.Logic.{_≢_}
-use mathlib.Core.Bool.{Bool, true, false, _&&_, cond, not}
+use mathlib.Core.Bool.{Bool, true, false, _&&_, cond, not, and-eq-true-iff}
 use mathlib.Core.List.{List, [], _∷_, _++_}
 use mathlib.Core.Option.{none, some}
 use borrow.Author.Tests.{leb-true, le-leb, lt-leb, not-true, not-false}
@@ -55,11 +55,6 @@ module _ (w : List ℕ) where
   unfolding areGuide
   tested long = simp (le-leb guideSize (length w) long)
 
-split : (a b : Bool) → (a && b) ≡ true → (a ≡ true) × (b ≡ true)
-split true b e = (refl, e)
-split false true e = (e, refl)
-split false false e = (e, e)
-
 -- what words that are a guide allow
 pub record Read (w : List ℕ) : Type 0 where
   pub long : guideSize ≤ length w
@@ -69,10 +64,10 @@ pub record Read (w : List ℕ) : Type 0 where
 pub are-read : (w : List ℕ) → areGuide w ≡ true → Read w
 unfolding areGuide
 are-read w e =
-    let both = split _ _ e in
-    let angles = split _ _ (both .1) in
+    let both = and-eq-true-iff _ _ .0 e in
+    let angles = and-eq-true-iff _ _ .0 (both .1) in
     record {
-      long = leb-true guideSize (length w) (split _ _ (split _ _ (both .0) .0) .0);
+      long = leb-true guideSize (length w) (and-eq-true-iff _ _ .0 (and-eq-true-iff _ _ .0 (both .0) .0) .0);
       bearing = leb-true (wordAt w 7) most16 (angles .0);
       heading = leb-true (wordAt w 9) most16 (angles .1);
     }
@@ -116,6 +111,10 @@ flag-most false = refl
 known-most : (h : Heading) → leb (headingFlag h) 1 ≡ true
 known-most (heading.Known a) = refl
 known-most heading.Unknown = refl
+
+heading-back : (h : Heading) → headingOf (eqb (headingFlag h) 1) (headingIn h) ≡ h
+heading-back (heading.Known a) = refl
+heading-back heading.Unknown = refl
 
 long-enough : (n : ℕ) → guideSize ≤ suc (suc (suc (suc (suc (suc (suc (suc (suc (suc n)))))))))
 long-enough n = omega arith

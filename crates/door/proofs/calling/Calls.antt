@@ -2,7 +2,7 @@
 use mathlib.Core.Path.{_≡_, refl, sym, ap, _∙_, subst}
 use Prim.Native.Nat.{ℕ, zero, suc, _≤_, _<_, _^_}
 use native.Mathlib.Omega.{arith}
-use mathlib.Core.Bool.{Bool, true, false, not}
+use mathlib.Core.Bool.{Bool, true, false, not, and-eq-true-iff}
 use mathlib.Core.List.{List}
 use borrow.Author.Tests.{leb-true}
 use lib.Dec.{leb, eqb·suc-zero}
@@ -16,8 +16,7 @@ use Rattle.course.specs.Fix.{Fix}
 use Rattle.course.proofs.Fixes.{handed}
 use Rattle.fix.proofs.Arriving.{fixAt, handed-fix}
 use Rattle.calls.specs.Questions.{question1, unless, _orElse_}
-use Rattle.calls.specs.Promises.{Answer, answer}
-use Rattle.questions.proofs.Counted.{split}
+use Rattle.calls.specs.Promises.{answer}
 use Rattle.homing.specs.declared.Changed.{Changed}
 use Rattle.homing.specs.Answers.{saysReply}
 use Rattle.homing.specs.Promises.{MakesNew, Replays}
@@ -66,7 +65,7 @@ module _ {b : List Float} {w : List ℕ} {n : List Float} {made : Changed} {numb
 
 pub room-found : (w : List ℕ) (n : List Float) {fits : Bool} → fits ≡ roomFor w n → not fits ≡ false → (wordCount ≤ length w) × (numberCount ≤ length n)
 room-found w n is e =
-    let two = split (leb wordCount (length w)) (leb numberCount (length n)) (sym is ∙ was-true e) in
+    let two = and-eq-true-iff (leb wordCount (length w)) (leb numberCount (length n)) .0 (sym is ∙ was-true e) in
     (leb-true wordCount (length w) (two .0), leb-true numberCount (length n) (two .1))
 
 -- ---- a fix handed on by its bits is the same

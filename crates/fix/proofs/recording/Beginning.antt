@@ -20,7 +20,7 @@ use Rattle.search.specs.declared.Join.the-variants.{Segment, NoSegment}
 use Rattle.search.specs.Course.{joined}
 use Rattle.search.proofs.Theorems.{joined-end}
 use Rattle.trail.specs.declared.Trail.{Trail}
-use Rattle.trail.specs.Trail.{Track}
+use Rattle.trail.specs.Trail.{retraceFixes, Track}
 use Rattle.trail.specs.View.{track}
 use Rattle.trail.specs.View as trail
 use Rattle.state.specs.declared.Line.the-variants as lines
@@ -35,7 +35,7 @@ use Rattle.follow.specs.Engage.{engageAt, engage}
 use Rattle.joining.specs.declared.Joined.{Joined}
 use Rattle.joining.specs.declared.Retraced.{Retraced}
 use Rattle.joining.specs.View.{Joins, Retraces}
-use Rattle.joining.specs.Join.{joinedTo, joinOn, mayJoin, joinWith, joining, retraceFixes, withRetrace, retracing}
+use Rattle.joining.specs.Join.{joinedTo, joinOn, mayJoin, joinWith, joining, withRetrace, retracing}
 use Rattle.joining.specs.Retrace.{ridesBack, lenBefore}
 use Rattle.follow.specs.View.{HomingFit, courseOf, SameHeld, Asks}
 use Rattle.follow.proofs.Engaging.{leads-some}

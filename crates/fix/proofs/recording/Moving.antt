@@ -17,6 +17,7 @@ use Rattle.state.specs.State.{State, stateOf}
 use Rattle.state.specs.Rule.{Done, done, andThen}
 use Rattle.follow.specs.declared.Answered.{Answered}
 use Rattle.follow.specs.View.{HomingFit, Asks}
+use Rattle.follow.proofs.Recording.{max-le}
 use Rattle.guide.specs.declared.Told.{Told}
 use Rattle.update.specs.View.{Updates}
 use Rattle.update.proofs.Updating.{fit-same}
@@ -25,9 +26,6 @@ use Rattle.fix.specs.Ready.{Ready}
 
 len-le : (a b : ℕ) → a ≡ b → a ≤ b
 len-le a b e = omega (arith, e)
-
-max-le : (a b c : ℕ) → a ≤ b → max a c ≤ max b c
-max-le a b c h = omega arith
 
 -- a rule from a state g that the state h came to with its buffer untouched
 pub updates-after : (whole rule : ℕ → State → Done Event) (h g : Homing) (entry exit : List Float) (r : Told) → g .trail .len ≤ h .trail .len

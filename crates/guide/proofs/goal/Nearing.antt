@@ -1,7 +1,7 @@
 -- The nearest segment lies within 500 m where some segment does, unless the first one tried is a NaN away: then nothing is less, and it stays. Assumes nothing.
 use Prim.Native.Nat.{ℕ, zero, suc, _-_, _*_, _≤_, _<_}
 use mathlib.Core.Path.{_≡_, refl, sym, ap, _∙_, subst}
-use mathlib.Core.Bool.{Bool, true, false, _&&_, _||_, cond}
+use mathlib.Core.Bool.{Bool, true, false, _&&_, _||_, cond, true≢false}
 use mathlib.Core.List.{List}
 use native.Mathlib.Omega.{arith}
 use borrow.Author.Tests.{eq-eqb}
@@ -25,25 +25,22 @@ use Rattle.search.specs.Search.{falling, count, every}
 use Rattle.search.specs.Course.{closer, costAnywhere, courseNear}
 use Rattle.plane.proofs.squares.Far.{far}
 use Rattle.binary32.proofs.roots.Order.{lt-irrefl, le-lt}
-use Rattle.binary32.proofs.roots.Bounds.{real, root-real, not-most}
+use Rattle.binary32.proofs.roots.Bounds.{real, root-real, not-most, by-cases, real-right}
 use Rattle.guide.specs.Goal.{foundAny}
 use Rattle.guide.specs.Near.{liesNear, someNear}
-
-never : {A : Type 0} → true ≡ false → A
-never e = absurd (subst T e tt)
 
 -- ---- NaNs
 no-number : (x : Float) → eq x x ≡ false → x ≡ nan
 unfolding eq
 no-number nan h = refl
-no-number (inf true) h = never h
-no-number (inf false) h = never h
-no-number (fin true m e) h = let n = m * up e * down e in never (sym (ap (λ (b : Bool). b && true) (eq-eqb n n refl)) ∙ h)
-no-number (fin false m e) h = let n = m * up e * down e in never (sym (ap (λ (b : Bool). b && true) (eq-eqb n n refl)) ∙ h)
+no-number (inf true) h = absurd (true≢false h)
+no-number (inf false) h = absurd (true≢false h)
+no-number (fin true m e) h = let n = m * up e * down e in absurd (true≢false (sym (ap (λ (b : Bool). b && true) (eq-eqb n n refl)) ∙ h))
+no-number (fin false m e) h = let n = m * up e * down e in absurd (true≢false (sym (ap (λ (b : Bool). b && true) (eq-eqb n n refl)) ∙ h))
 
 number : (x : Float) → eq x x ≡ true → T (real x)
 unfolding eq
-number nan h = never (sym h)
+number nan h = absurd (true≢false (sym h))
 number (inf s) h = tt
 number (fin s m e) h = tt
 
@@ -56,35 +53,20 @@ under-nan (fin s m e) = refl
 
 left-real : (x y : Float) → lt x y ≡ true → T (real x)
 unfolding lt
-left-real nan y h = never (sym h)
+left-real nan y h = absurd (true≢false (sym h))
 left-real (inf s) y h = tt
 left-real (fin s m e) y h = tt
-
-right-real : (x y : Float) → le x y ≡ true → T (real y)
-unfolding le lt eq
-right-real nan y h = never (sym h)
-right-real (inf true) nan h = never (sym h)
-right-real (inf false) nan h = never (sym h)
-right-real (inf s) (inf t) h = tt
-right-real (inf s) (fin t n d) h = tt
-right-real (fin s m e) nan h = never (sym h)
-right-real (fin s m e) (inf t) h = tt
-right-real (fin s m e) (fin t n d) h = tt
 
 -- ---- order
 less-le : (x y : Float) → lt x y ≡ true → le x y ≡ true
 unfolding le
 less-le x y h = ap (λ (b : Bool). b || eq x y) h
 
-by-cases : {A : Type 0} (b : Bool) → (b ≡ true → A) → (b ≡ false → A) → A
-by-cases true f g = f refl
-by-cases false f g = g refl
-
 less-most : (x y z : Float) → lt x y ≡ true → le y z ≡ true → le x z ≡ true
 less-most x y z h k =
     by-cases (le x z) (λ e. e) (λ e.
-    let l = not-most x z (left-real x y h) (right-real y z k) e in
-    never (sym (le-lt x y x (less-le x y h) (le-lt y z x k l)) ∙ lt-irrefl x))
+    let l = not-most x z (left-real x y h) (real-right y z k) e in
+    absurd (true≢false (sym (le-lt x y x (less-le x y h) (le-lt y z x k l)) ∙ lt-irrefl x)))
 
 -- ---- the search
 module _ (line : List Crumb) (p : Point) where
@@ -136,7 +118,9 @@ module _ (line : List Crumb) (p : Point) where
       go : ((c : Float) (n : Nearest) → n .off ≡ c → T (real c) → le c dropM ≡ false → shown (falling rule k k (Least n c)) ≡ someNear line p k) → (d b : Bool) → le (near (suc k) .off) dropM ≡ d → lt (near (suc k) .off) cost ≡ b
           → shown (falling rule k k (cond b (Least (near (suc k)) (near (suc k) .off)) (Least old cost))) ≡ elim d [ true ↦ true | false ↦ someNear line p k ]
       go below true true n l = stays-near k (near (suc k)) (near (suc k) .off) refl n
-      go below true false n l = never (sym (le-lt (near (suc k) .off) dropM cost n (not-most cost dropM r (right-real (near (suc k) .off) dropM n) h)) ∙ l)
+      go below true false n l =
+          let less = not-most cost dropM r (real-right (near (suc k) .off) dropM n) h in
+          absurd (true≢false (sym (le-lt (near (suc k) .off) dropM cost n less) ∙ l))
       go below false true n l = below (near (suc k) .off) (near (suc k)) refl (left-real (near (suc k) .off) cost l) n
       go below false false n l = below cost old e r h
 

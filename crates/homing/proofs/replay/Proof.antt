@@ -8,13 +8,13 @@ use Rattle.course.specs.Fix.{Fix}
 use Rattle.calls.specs.Fix.{replay}
 use Rattle.calls.specs.Calls as call
 use Rattle.calls.specs.Calls.{asks, performs}
-use Rattle.questions.proofs.Given.{crumbs-given}
+use Rattle.questions.proofs.Given.{crumbs-given, neither}
 use Rattle.answers.proofs.Answering.{no, yes}
 use Rattle.homing.specs.declared.Changed.{Changed}
 use Rattle.homing.specs.Answers.{saysReply}
 use Rattle.homing.specs.Promises.{Replays}
 use Rattle.fix.proofs.Arriving.{handed-fix}
-use Rattle.homing.proofs.Calling.{or-zero, refuses, takes-rule}
+use Rattle.homing.proofs.Calling.{refuses, takes-rule}
 use borrow.Author.Needs.{needs}
 use Rattle.homing.proofs.replay.Statement.{statement}
 use Rattle.homing.proofs.replay.Tie as tie
@@ -47,7 +47,7 @@ replay-requires : tie.Need-replay-requires
 unfolding asks
 replay-requires c κs =
     let g = c .before .before .before .before .before .args in
-    crumbs-given _ (g .h) (now (g .crumbs)) (or-zero _ _ (sym (c .before .before .asks-replay .ensures 0) ∙ c .before .if1 .left)) .trail
+    crumbs-given _ (g .h) (now (g .crumbs)) (neither _ _ (sym (c .before .before .asks-replay .ensures 0) ∙ c .before .if1 .left) .0) .trail
 
 taken-requires : tie.Need-taken-requires
 taken-requires c κs = search needs

@@ -14,10 +14,11 @@ use Rattle.calls.specs.Calls.{asks, courseIn, performs}
 use Rattle.answers.proofs.Answering.{no, yes}
 use Rattle.homing.specs.Answers.{saysSight}
 use Rattle.fix.proofs.Arriving.{handed-fix}
-use Rattle.homing.proofs.Calling.{or-zero, refuses, takes-rule, same-at, ready}
+use Rattle.homing.proofs.Calling.{refuses, takes-rule, same-at, ready}
 use borrow.Author.Needs.{needs}
 use Rattle.homing.proofs.seen.Statement.{statement}
 use Rattle.homing.proofs.seen.Tie as tie
+use Rattle.questions.proofs.Given.{neither}
 
 asks-seen-requires : tie.Need-asks-seen-requires
 asks-seen-requires c κs = search needs
@@ -42,7 +43,7 @@ seen-requires : tie.Need-seen-requires
 unfolding asks
 seen-requires c κs =
     let g = c .before .before .before .before .before .before .args in
-    ready _ (now (g .line)) (g .h) (now (g .crumbs)) (or-zero _ _ (sym (c .before .before .asks-seen .ensures 0) ∙ c .before .if1 .left))
+    ready _ (now (g .line)) (g .h) (now (g .crumbs)) (neither _ _ (sym (c .before .before .asks-seen .ensures 0) ∙ c .before .if1 .left) .0)
 
 same-length-2 : tie.Need-same-length-2
 same-length-2 c = search needs

@@ -5,12 +5,12 @@ use mathlib.Core.List.{[]}
 use Rattle.course.specs.Course.{fixes}
 use Rattle.calls.specs.Calls as call
 use Rattle.calls.specs.Calls.{asks, performs}
-use Rattle.questions.proofs.Given.{line-given}
+use Rattle.questions.proofs.Given.{line-given, neither}
 use Rattle.answers.proofs.Answering.{no, yes}
 use Rattle.homing.specs.declared.Changed.{Changed}
 use Rattle.homing.specs.Answers.{saysReply}
 use Rattle.homing.specs.Promises.{SetsCourse}
-use Rattle.homing.proofs.Calling.{or-zero, refuses, takes, places-line}
+use Rattle.homing.proofs.Calling.{refuses, takes, places-line}
 use borrow.Author.Needs.{needs}
 use Rattle.homing.proofs.set_course.Statement.{statement}
 use Rattle.homing.proofs.set_course.Tie as tie
@@ -44,7 +44,8 @@ set-course-requires : tie.Need-set-course-requires
 unfolding asks
 set-course-requires c κs =
     let g = c .before .before .before .before .before .args in
-    line-given (now (g .line)) _ (g .h) [] (or-zero _ _ (sym (c .before .before .asks-course .ensures []) ∙ c .before .if1 .left)) .1 .room
+    let asked = neither _ _ (sym (c .before .before .asks-course .ensures []) ∙ c .before .if1 .left) .0 in
+    line-given (now (g .line)) _ (g .h) [] asked .1 .room
 
 taken-requires : tie.Need-taken-requires
 taken-requires c κs = search needs

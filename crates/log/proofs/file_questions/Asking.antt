@@ -1,7 +1,7 @@
 -- Samples and records that are asked one after another: where those passed say nothing, those to come say what all do. Assumes nothing.
 use Prim.Native.Nat.{ℕ, zero, suc, _+_, _-_, _/_, _%_, _^_, _≤_, _<_}
 use mathlib.Core.Path.{_≡_, refl, sym, ap, ap₂, _∙_}
-use mathlib.Core.Bool.{Bool, true, false, not, _&&_}
+use mathlib.Core.Bool.{Bool, true, false, not, _&&_, and-eq-true-iff}
 use mathlib.Core.Logic.{_≢_}
 use mathlib.Core.List.{List, [], _∷_}
 use native.Mathlib.Nat.{sub-zero}
@@ -22,7 +22,7 @@ use Rattle.calls.specs.Questions.{asksFix, _orElse_}
 use Rattle.log.specs.Entry.{nextOf, recordCount, recordsFrom, chain, countOf, sampleStart, sampleAt, noSample, sampleIf, sampleOf, samplesOf, used, kindNumber, entryAt}
 use Rattle.calls.specs.Calls.{asksPlace}
 use Rattle.log.specs.Questions.{question6, question7, question8, asksSamples, asksEntry, asksRecord, asksRecords, asksChain, asksFile}
-use Rattle.log.proofs.file_questions.Chain.{and-left, and-right, ends, steps-are}
+use Rattle.log.proofs.file_questions.Chain.{ends, steps-are}
 
 -- ---- the count of steps
 ends-out : (n count : ℕ) (f : List ℕ) (r : ℕ) → r ≢ 0 → count ≤ r → ends n count f r ≡ false
@@ -226,6 +226,6 @@ counted size {b} e h =
     let two = eqb (size % 96) 0 && leb 1 (size / 96) in
     let high = leb (size / 96) 682 in
     record {
-      least = leb-true 1 (size / 96) (and-right (eqb (size % 96) 0) (leb 1 (size / 96)) (and-left two high all));
-      most = leb-true (size / 96) 682 (and-right two high all);
+      least = leb-true 1 (size / 96) (and-eq-true-iff (eqb (size % 96) 0) (leb 1 (size / 96)) .0 (and-eq-true-iff two high .0 all .0) .1);
+      most = leb-true (size / 96) 682 (and-eq-true-iff two high .0 all .1);
     }

@@ -2,7 +2,7 @@
 -- steps tells is what question 7 asks. Assumes nothing.
 use Prim.Native.Nat.{ℕ, zero, suc, _+_, _≤_, _<_}
 use mathlib.Core.Path.{_≡_, refl, sym, ap, _∙_}
-use mathlib.Core.Bool.{Bool, true, false, not, _&&_, _||_, cond, true≢false, false≢true}
+use mathlib.Core.Bool.{Bool, true, false, not, _&&_, _||_, cond, true≢false, false≢true, and-eq-true-iff}
 use mathlib.Core.Logic.{_≢_}
 use mathlib.Core.List.{List, [], _∷_}
 use native.Mathlib.Nat.{le-of-suc-le-suc}
@@ -18,14 +18,6 @@ use Rattle.log.specs.Theorems.{Ends, over, on}
 pub by : {P : Type 0} (b : Bool) → (b ≡ true → P) → (b ≡ false → P) → P
 by true y n = y refl
 by false y n = n refl
-
-pub and-left : (a b : Bool) → (a && b) ≡ true → a ≡ true
-and-left true b e = refl
-and-left false b e = absurd (false≢true e)
-
-pub and-right : (a b : Bool) → (a && b) ≡ true → b ≡ true
-and-right true b e = e
-and-right false b e = absurd (false≢true e)
 
 pub or-left : (a b : Bool) → (a || b) ≡ false → a ≡ false
 or-left true b e = absurd (true≢false e)
@@ -116,8 +108,8 @@ below-without : (n : ℕ) (l : List ℕ) → below (suc n) l ≡ true → below 
 unfolding below without
 below-without n [] h = refl
 below-without n (z ∷ l) h =
-    let later = below-without n l (and-right (ltb z (suc n)) (below (suc n) l) h) in
-    let under = ltb-true z (suc n) (and-left (ltb z (suc n)) (below (suc n) l) h) in
+    let later = below-without n l (and-eq-true-iff (ltb z (suc n)) (below (suc n) l) .0 h .1) in
+    let under = ltb-true z (suc n) (and-eq-true-iff (ltb z (suc n)) (below (suc n) l) .0 h .0) in
     by (eqb n z)
     (λ t. rw t later)
     (λ t.
@@ -139,7 +131,7 @@ longest x (z ∷ l) h =
 few : (n : ℕ) (l : List ℕ) → below n l ≡ true → twice l ≡ false → length l ≤ n
 unfolding below
 few zero [] b h = omega arith
-few zero (z ∷ l) b h = let under = ltb-true z 0 (and-left (ltb z 0) (below 0 l) b) in absurd (omega arith)
+few zero (z ∷ l) b h = let under = ltb-true z 0 (and-eq-true-iff (ltb z 0) (below 0 l) .0 b .0) in absurd (omega arith)
 few (suc n) l b h =
     let less = few n (without n l) (below-without n l b) (twice-without n l h) in
     let most = longest n l h in
@@ -163,8 +155,8 @@ ended (suc n) count f zero h = record { whole = over; inside = refl }
 ended (suc n) count f (suc r) h =
     let b = ltb (suc r) count in
     let next = ends n count f (nextOf f (suc r)) in
-    let later = ended n count f (nextOf f (suc r)) (and-right b next h) in
-    record { whole = on (later .whole); inside = rw (and-left b next h) (later .inside) }
+    let later = ended n count f (nextOf f (suc r)) (and-eq-true-iff b next .0 h .1) in
+    record { whole = on (later .whole); inside = rw (and-eq-true-iff b next .0 h .0) (later .inside) }
 
 -- a walk that does not end takes every step
 long : (n count : ℕ) (f : List ℕ) (r : ℕ) → ends n count f r ≡ false → below count (recordsFrom n f r) ≡ true → length (recordsFrom n f r) ≡ n
@@ -173,8 +165,8 @@ long zero count f r h b = refl
 long (suc n) count f zero h b = absurd (true≢false h)
 long (suc n) count f (suc r) h b =
     let rest = below count (recordsFrom n f (nextOf f (suc r))) in
-    let under = and-left (ltb (suc r) count) rest b in
-    ap suc (long n count f (nextOf f (suc r)) (rw under at h) (and-right (ltb (suc r) count) rest b))
+    let under = and-eq-true-iff (ltb (suc r) count) rest .0 b .0 in
+    ap suc (long n count f (nextOf f (suc r)) (rw under at h) (and-eq-true-iff (ltb (suc r) count) rest .0 b .1))
 
 no-zero : (n : ℕ) (f : List ℕ) (r : ℕ) → stands zero (recordsFrom n f r) ≡ false
 unfolding stands recordsFrom

@@ -14,7 +14,7 @@ use Rattle.log.specs.Entry.{nextOf, kindNumber, entryAt, chain, entries,
 use Rattle.log.specs.Questions.{stands, question8, asksEntry, asksRecord}
 use Rattle.log.specs.Theorems.{Ends, Accepted}
 use Rattle.log.proofs.file_questions.Chain.{ends-over, ends-on}
-use Rattle.log.proofs.file_questions.Theorems.{first-yes, then-yes, said-yes}
+use Rattle.questions.proofs.Given.{neither, passed}
 
 -- ---- a list from place k on
 module _ {A : Type 0} (g : ℕ → A) where
@@ -90,8 +90,8 @@ module _ {f : List ℕ} {k r : ℕ} (b : Before f k r) where
 -- ---- what no question refuses of a record
 pub record-kind : (f : List ℕ) (r : ℕ) → asksRecord f r ≡ 0 → question8 (kindNumber f r) ≡ true
 unfolding asksRecord
-record-kind f r e = said-yes (question8 (kindNumber f r)) 7 (first-yes _ (asksEntry (entryAt f r)) e)
+record-kind f r e = passed (question8 (kindNumber f r)) 7 (neither _ (asksEntry (entryAt f r)) e .0)
 
 pub record-entry : (f : List ℕ) (r : ℕ) → asksRecord f r ≡ 0 → asksEntry (entryAt f r) ≡ 0
 unfolding asksRecord
-record-entry f r e = then-yes (unless (question8 (kindNumber f r)) 8) (asksEntry (entryAt f r)) e
+record-entry f r e = neither (unless (question8 (kindNumber f r)) 8) (asksEntry (entryAt f r)) e .1

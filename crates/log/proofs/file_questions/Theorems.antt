@@ -1,54 +1,43 @@
 -- The proof of `specs/Theorems.antt`. Assumes nothing.
 use Prim.Native.Nat.{ℕ, zero, suc, _+_, _*_, _/_, _%_, _≤_, _<_}
 use mathlib.Core.Path.{_≡_, refl, sym, ap, ap₂, _∙_}
-use mathlib.Core.Bool.{Bool, true, false, not, _&&_, or-true, false≢true}
+use mathlib.Core.Bool.{Bool, true, false, not, _&&_, or-true, false≢true, and-eq-true-iff}
 use mathlib.Core.List.{List, [], _∷_, map}
 use native.Mathlib.Nat.{add-zero, add-assoc, div-add-mod'}
 use native.Mathlib.Omega.{arith}
 use borrow.Author.Tests.{eqb-true, eq-eqb, ltb-true, not-true}
-use lib.Dec.{leb, ltb, eqb, eqb·suc-zero}
+use lib.Dec.{leb, ltb, eqb}
 use lib.ListN.{length}
 use Rattle.calls.specs.Questions.{latitudeFits, longitudeFits, asksFix, _orElse_, unless}
 use Rattle.log.specs.Entry.{byteAt, u32At, u64At, i32At, signed, recordCount, nextOf, rideOf, kindNumber, countOf, sampleStart, kindOf, hasPlace, hasUtc, placeAt, utcAt, sampleAt, sampleIf, sampleOf, samplesOf, entryAt, recovered, recordsFrom, chain, entries, used}
 use Rattle.calls.specs.Calls.{asksPlace}
 use Rattle.log.specs.Questions.{question6, question7, question8, below, stands, twice, asksSamples, asksEntry, asksRecord, asksRecords, asksChain, asksFile}
 use Rattle.log.specs.Theorems.{Accepted, EveryAccepted, Same, SameSample, SameRecord, SameRead, Alike, OnlyRead, example, Example}
-use Rattle.log.proofs.file_questions.Chain.{by, and-left, and-right, ended, steps-are}
+use Rattle.log.proofs.file_questions.Chain.{by, ended, steps-are}
 use Rattle.log.proofs.file_questions.Asking.{Counted, counted}
+use Rattle.questions.proofs.Given.{neither, passed}
 
 -- ---- what a file that no question refuses gives
-pub first-yes : (a b : ℕ) → (a orElse b) ≡ 0 → a ≡ 0
-first-yes zero b e = refl
-first-yes (suc a) b e = rw (eqb·suc-zero a) at e
-
-pub then-yes : (a b : ℕ) → (a orElse b) ≡ 0 → b ≡ 0
-then-yes zero b e = e
-then-yes (suc a) b e = let z : suc a ≡ 0 = rw (eqb·suc-zero a) at e in absurd (omega arith)
-
-pub said-yes : (b : Bool) (n : ℕ) → unless b (suc n) ≡ 0 → b ≡ true
-said-yes true n e = refl
-said-yes false n e = absurd (omega arith)
-
 each-asked : (f l : List ℕ) (r : ℕ) → asksRecords f l ≡ 0 → stands r l ≡ true → asksRecord f r ≡ 0
 unfolding asksRecords stands
 each-asked f [] r e h = absurd (false≢true h)
 each-asked f (s ∷ l) r e h =
     by (eqb r s)
-    (λ t. rw (eqb-true r s t) (first-yes (asksRecord f s) (asksRecords f l) e))
-    (λ t. each-asked f l r (then-yes (asksRecord f s) (asksRecords f l) e) (rw t at h))
+    (λ t. rw (eqb-true r s t) (neither (asksRecord f s) (asksRecords f l) e .0))
+    (λ t. each-asked f l r (neither (asksRecord f s) (asksRecords f l) e .1) (rw t at h))
 
 module _ (f : List ℕ) (e : asksFile f ≡ 0) where
   chain-asked : asksChain f ≡ 0
   unfolding asksFile
-  chain-asked = first-yes (asksChain f) (asksRecords f (chain f)) e
+  chain-asked = neither (asksChain f) (asksRecords f (chain f)) e .0
 
   size-fits : question6 (length f) ≡ true
   unfolding asksChain
-  size-fits = said-yes (question6 (length f)) 5 (first-yes (unless (question6 (length f)) 6) (unless (question7 f) 7) chain-asked)
+  size-fits = passed (question6 (length f)) 5 (neither (unless (question6 (length f)) 6) (unless (question7 f) 7) chain-asked .0)
 
   chain-fits : question7 f ≡ true
   unfolding asksChain
-  chain-fits = said-yes (question7 f) 6 (then-yes (unless (question6 (length f)) 6) (unless (question7 f) 7) chain-asked)
+  chain-fits = passed (question7 f) 6 (neither (unless (question6 (length f)) 6) (unless (question7 f) 7) chain-asked .1)
 
   sizes : Counted (length f)
   sizes = counted (length f) (sym size-fits) refl
@@ -58,7 +47,8 @@ module _ (f : List ℕ) (e : asksFile f ≡ 0) where
   whole-records =
       let n = length f in
       let two = eqb (n % 96) 0 && leb 1 (n / 96) in
-      let part = eqb-true (n % 96) 0 (and-left (eqb (n % 96) 0) (leb 1 (n / 96)) (and-left two (leb (n / 96) 682) size-fits)) in
+      let some = and-eq-true-iff two (leb (n / 96) 682) .0 size-fits .0 in
+      let part = eqb-true (n % 96) 0 (and-eq-true-iff (eqb (n % 96) 0) (leb 1 (n / 96)) .0 some .0) in
       let all = div-add-mod' n 96 in
       omega arith
 
@@ -72,8 +62,8 @@ module _ (f : List ℕ) (e : asksFile f ≡ 0) where
         most = sizes .most;
         ends = steps .whole;
         inside = steps .inside;
-        once = not-true (twice (chain f)) (and-right (below (recordCount f) (chain f)) (not (twice (chain f))) chain-fits);
-        each = λ r h. each-asked f (chain f) r (then-yes (asksChain f) (asksRecords f (chain f)) e) h;
+        once = not-true (twice (chain f)) (and-eq-true-iff (below (recordCount f) (chain f)) (not (twice (chain f))) .0 chain-fits .1);
+        each = λ r h. each-asked f (chain f) r (neither (asksChain f) (asksRecords f (chain f)) e .1) h;
       }
 
 pub every-accepted : EveryAccepted

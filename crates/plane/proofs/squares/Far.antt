@@ -1,7 +1,7 @@
 -- A square has the distance as its root, is a value of the format and not below zero. Where it is not less than a bar whose root is above `most`, the distance
 -- is not at most `most`. Assumes nothing.
 use mathlib.Core.Path.{_≡_, refl, sym, ap, _∙_, subst}
-use mathlib.Core.Bool.{Bool, true, false}
+use mathlib.Core.Bool.{Bool, true, false, true≢false}
 use lib.Dec.{T}
 use lib.Ieee.{Float, binary32, lt, le, fits}
 use lib.Ieee.Fits.{add-fits}
@@ -12,9 +12,6 @@ use Rattle.plane.specs.Plane.{distance, project, offSegment}
 use Rattle.binary32.proofs.roots.Order.{le-lt}
 use Rattle.binary32.proofs.roots.Monotone.{clear, square-clear, sum-clear, root-less}
 use Rattle.plane.specs.Square.{square, offSquare}
-
-never : {A : Type 0} → true ≡ false → A
-never e = absurd (subst T e tt)
 
 pub square-fits : (a b : Point) → T (fits binary32 (square a b))
 unfolding square
@@ -47,7 +44,7 @@ pub far : (s bar most : Float) → T (fits binary32 s) → T (fits binary32 bar)
 far s bar most t u above h = go (le (root binary32 s) most) refl
   where
     go : (b : Bool) → le (root binary32 s) most ≡ b → b ≡ false
-    go true e = never (sym (root-less binary32 s bar t u (le-lt (root binary32 s) most (root binary32 bar) e above)) ∙ h)
+    go true e = absurd (true≢false (sym (root-less binary32 s bar t u (le-lt (root binary32 s) most (root binary32 bar) e above)) ∙ h))
     go false e = refl
 
 pub far-off : (bar most : Float) → T (fits binary32 bar) → lt most (root binary32 bar) ≡ true → (p a b : Point) → lt (offSquare p a b) bar ≡ false → le (offSegment p a b) most ≡ false

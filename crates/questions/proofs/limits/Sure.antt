@@ -1,7 +1,7 @@
 -- A crumb between the two bounds fits. Assumes nothing.
 use Prim.Native.Nat.{_^_}
 use mathlib.Core.Path.{_≡_, sym, ap, _∙_}
-use mathlib.Core.Bool.{Bool, true, _&&_}
+use mathlib.Core.Bool.{Bool, true, _&&_, and-eq-true-iff}
 use lib.Ieee.{Float, neg, le}
 use Rattle.binary32.specs.Arithmetic.{constant}
 use Rattle.binary32.specs.Limits.{plusZero}
@@ -11,7 +11,6 @@ use Rattle.calls.specs.Questions.{sized, placeFits, upTo, alongFits, crumbFits}
 use Rattle.questions.specs.Sure.{placeMost, alongSure, leastSure, mostSure}
 use Rattle.questions.proofs.limits.Numbers.{sized-within}
 use Rattle.questions.proofs.Exact.{sized-tested, sure-along}
-use Rattle.questions.proofs.Counted.{split}
 
 fits-size : (x : Float) → le (neg placeMost) x ≡ true → le x placeMost ≡ true → sized x ≡ true
 unfolding placeMost constant neg
@@ -24,11 +23,11 @@ fits-along x l h = ap (λ (b : Bool). b && upTo (10 ^ 16) 1 x) l ∙ sure-along 
 six : (a b c d e f : Bool) → (a && b && c && d && e && f) ≡ true
     → (a ≡ true) × (b ≡ true) × (c ≡ true) × (d ≡ true) × (e ≡ true) × (f ≡ true)
 six a b c d e f h =
-    let p = split (a && b && c && d && e) f h in
-    let q = split (a && b && c && d) e (p .0) in
-    let r = split (a && b && c) d (q .0) in
-    let s = split (a && b) c (r .0) in
-    let t = split a b (s .0) in
+    let p = and-eq-true-iff (a && b && c && d && e) f .0 h in
+    let q = and-eq-true-iff (a && b && c && d) e .0 (p .0) in
+    let r = and-eq-true-iff (a && b && c) d .0 (q .0) in
+    let s = and-eq-true-iff (a && b) c .0 (r .0) in
+    let t = and-eq-true-iff a b .0 (s .0) in
     (t .0, t .1, s .1, r .1, q .1, p .1)
 
 pub sure-fits : (c : Crumb) → between leastSure mostSure c ≡ true → crumbFits c ≡ true

@@ -1,9 +1,9 @@
 -- `restart::asks_step` meets its contract: the state and the crumb buffer, then the file. Assumes nothing.
 use Rattle.restart.specs.Promises.{asksStep}
-use Rattle.restart.proofs.Calling.{or-this, or-next}
 use borrow.Author.Needs.{needs}
 use Rattle.restart.proofs.asks_step.Statement.{statement}
 use Rattle.restart.proofs.asks_step.Tie as tie
+use Rattle.homing.proofs.Calling.{or-this, or-next}
 
 asks-crumbs-requires : tie.Need-asks-crumbs-requires
 asks-crumbs-requires c κs = search needs

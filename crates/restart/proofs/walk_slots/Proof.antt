@@ -1,7 +1,7 @@
 -- `restart::walk_slots` meets its contract: each slot with a record is looked at, and those behind the chain's end are passed at once. Assumes nothing.
 use Prim.Native.Nat.{_-_}
 use native.Mathlib.Omega.{arith}
-use Rattle.restart.proofs.Making.{visited}
+use Rattle.rebuild.proofs.Making.{visited}
 use Rattle.restart.proofs.Stepping.{Going, going-start, going-count, going-on, going-past, going-out}
 use Rattle.restart.proofs.walk_slots.Statement.{statement}
 use Rattle.restart.proofs.walk_slots.Tie as tie

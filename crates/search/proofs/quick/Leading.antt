@@ -2,7 +2,7 @@
 -- has it can differ only where two roots tie; where the least square tried before has a larger root, none does. Assumes nothing.
 use Prim.Native.Nat.{ℕ, zero, suc, _+_, _-_, _≤_, _<_}
 use mathlib.Core.Path.{_≡_, refl, sym, ap, _∙_, subst}
-use mathlib.Core.Bool.{Bool, true, false, not, _||_, cond}
+use mathlib.Core.Bool.{Bool, true, false, not, _||_, cond, true≢false}
 use mathlib.Core.List.{List}
 use native.Mathlib.Omega.{arith}
 use borrow.Author.Tests.{eqb-true, eqb-false}
@@ -36,9 +36,6 @@ use Rattle.segments.specs.Square.{squareOn}
 use Rattle.segments.proofs.Ranging.{on-is, on-fits, on-not-below}
 use Rattle.search.specs.Square.{reaches, overtakes, takesLead}
 
-never : {A : Type 0} → true ≡ false → A
-never e = absurd (subst T e tt)
-
 module _ (line : List Crumb) (p : Point) where
   abbrev pub Tracks : SoFar → Lead → Type 0
   Tracks Empty lead = lead .best ≡ 0
@@ -54,12 +51,16 @@ module _ (line : List Crumb) (p : Point) where
   step near cost end lead E t true true B D = (E, off-is end, on-fits line p end, λ k. refl)
   step near cost end lead E t true false B D =
       let s = squareOn line p end in
-      let k : lt (root binary32 s) (root binary32 (lead .least)) ≡ false = subst (λ (z : Float). lt z (root binary32 (lead .least)) ≡ false) (off-is end) (subst (λ (z : Float). lt (nearestOn line p end .off) z ≡ false) (t .1) D) in
-      (E, t .1 ∙ sym (root-tie binary32 s (lead .least) (on-fits line p end) (t .2) (on-not-below line p end) B k), on-fits line p end, λ h. never (sym h ∙ k))
+      let k : lt (root binary32 s) (root binary32 (lead .least)) ≡ false = subst (λ (z : Float). lt z (root binary32 (lead .least)) ≡ false) (off-is end) (subst (λ (z : Float). lt (nearestOn line p end .off) z ≡ false) (t .1) D) in (
+        E,
+        t .1 ∙ sym (root-tie binary32 s (lead .least) (on-fits line p end) (t .2) (on-not-below line p end) B k),
+        on-fits line p end,
+        λ h. absurd (true≢false (sym h ∙ k)),
+      )
   step near cost end lead E t false true B D =
       let s = squareOn line p end in
       let k : lt (root binary32 s) (root binary32 (lead .least)) ≡ true = subst (λ (z : Float). lt z (root binary32 (lead .least)) ≡ true) (off-is end) (subst (λ (z : Float). lt (nearestOn line p end .off) z ≡ true) (t .1) D) in
-      never (sym (root-less binary32 s (lead .least) (on-fits line p end) (t .2) k) ∙ B)
+      absurd (true≢false (sym (root-less binary32 s (lead .least) (on-fits line p end) (t .2) k) ∙ B))
   step near cost end lead E t false false B D = t
 
   first : (end : ℕ) (lead : Lead) (b : Bool) → eqb (lead .best) 0 ≡ b → lead .best ≡ 0 → 0 < end

@@ -2,7 +2,7 @@
 use mathlib.Core.Path.{_≡_, refl, sym, ap, _∙_, subst}
 use Prim.Native.Nat.{ℕ, _-_, _≤_, _<_}
 use native.Mathlib.Omega.{arith}
-use mathlib.Core.Bool.{Bool, true, false, _&&_, true≢false, false≢true}
+use mathlib.Core.Bool.{Bool, true, false, true≢false, false≢true}
 use mathlib.Core.List.{List, []}
 use lib.Dec.{leb}
 use lib.ListN.{length}
@@ -34,10 +34,12 @@ use Rattle.follow.specs.Record.{afterThinning, recordedIn, recorded, keepIn, fl
 use Rattle.follow.specs.Parts.{courseFrom, leads, stopped, heldOff}
 use Rattle.follow.specs.Engage.{engageAt, engage, cutTo, leaveAt, stopNothing, stopCourse, stopBreadcrumb, stopOn, stop}
 use Rattle.follow.specs.View.{HomingFit, courseOf, Changes, Follows, SameHeld, Asks}
+use Rattle.follow.proofs.Engaging.{long}
 use Rattle.segments.specs.Inner.{InLine}
 use Rattle.matching.specs.Match.{onCourse, onLine}
 use Rattle.calls.specs.Follow.{nearHere}
 use Rattle.steer.proofs.way_home.Keeping.{gives}
+use Rattle.update.proofs.Ending.{stop-line}
 
 -- ---- by the line that is followed
 module _ (r : Homing) (room lineRoom : ℕ) (t : trail.TrailFit (r .trail) room) (c : r .course .«line_len» ≤ capacity lineRoom) where
@@ -100,24 +102,9 @@ stop-idle : (C : ℕ) (s : State) → stop C s .state .follow .line ≡ line.Not
 unfolding stop
 stop-idle C s = stop-on-idle (s .follow .line) C s
 
-left-len : (C : ℕ) (matched : Spot) (segment : ℕ) (s : State) → leaveAt C matched segment s .state .course .«line_len» ≡ s .course .«line_len»
-unfolding leaveAt keepIn recorded recordedIn cutTo
-left-len C Nowhere segment s = refl
-left-len C (At p) segment s = refl
-
-stop-on-len : (l : Line) (C : ℕ) (s : State) → stopOn l C s .state .course .«line_len» ≡ s .course .«line_len»
-unfolding stopOn stopNothing stopCourse heldOff stopBreadcrumb
-stop-on-len line.Nothing C s = refl
-stop-on-len line.Course C s = refl
-stop-on-len line.Breadcrumb C s = left-len C (s .follow .matched) (s .follow .segment) _
-
-stop-len : (C : ℕ) (s : State) → stop C s .state .course .«line_len» ≡ s .course .«line_len»
-unfolding stop
-stop-len C s = stop-on-len (s .follow .line) C s
-
 module _ (h t : Homing) (entry mid : List Float) (d : Follows stop h entry t mid) where
   pub line-stopped : t .course .«line_len» ≡ h .course .«line_len»
-  line-stopped = ap (λ (s : State). s .course .«line_len») (d .same) ∙ stop-len _ (stateOf h entry)
+  line-stopped = ap (λ (s : State). s .course .«line_len») (d .same) ∙ stop-line _ (stateOf h entry)
 
   pub idle-stopped : t .follow .line ≡ line.Nothing
   idle-stopped = ap (λ (s : State). s .follow .line) (d .same) ∙ stop-idle _ (stateOf h entry)
@@ -159,14 +146,6 @@ fit-held t r room f s =
       waiting = subst (λ (n : ℕ). n ≤ windowPlaces) (sym (s .waiting)) (f .waiting);
       tolerance = subst (λ (x : Float). le plusZero x ≡ true) (sym (s .tolerance)) (f .tolerance);
     }
-
-both : (a b : Bool) → (a && b) ≡ true → a ≡ true
-both true b e = refl
-both false b e = absurd (false≢true e)
-
-long : (l : List Crumb) → leads l ≡ true → 2 ≤ length l
-unfolding leads
-long l e = leb-true 2 (length l) (both (leb 2 (length l)) _ e)
 
 module _ (course : List Crumb) (now : ℕ) (s : State) where
   engage-gives : (b : Bool) → leads (s .track .crumbs) ≡ b → engage course now s ≡ gives course now s b

@@ -1,5 +1,5 @@
 -- An i32 written as two's complement, and read back. Assumes nothing.
-use Prim.Native.Nat.{ℕ, zero, suc, _-_, _^_, _≤_, _<_}
+use Prim.Native.Nat.{ℕ, suc, _-_, _^_, _≤_, _<_}
 use mathlib.Core.Path.{_≡_, refl, sym, subst}
 use mathlib.Core.Bool.{true, false, true≢false}
 use native.Mathlib.Omega.{arith}
@@ -12,6 +12,7 @@ use mir.Val.{Fits, SFits, toZ, ofZ}
 use mir.ValLaws.{toZ-ofZ}
 use Rattle.log.specs.Entry.{signed}
 use Rattle.stored.specs.Fields.{unsigned}
+use Rattle.binary32.proofs.Casting.{flipped}
 
 -- a number below 0: what the machine makes of -1 - z
 pub record Below (z y : ℤ) : Type 0 where
@@ -24,13 +25,6 @@ pub record Below (z y : ℤ) : Type 0 where
 pub record From (z y : ℤ) : Type 0 where
   pub cast : T (nonNeg y) × Fits w64 (natAbs y)
   pub result : natAbs y ≡ unsigned z
-
-flipped : (n : ℕ) → negsuc 0 -ℤ negsuc n ≡ pos n
-flipped zero = refl
-flipped (suc n) =
-    let e : ltb (suc (suc n)) 1 ≡ false = le-ltb (suc (suc n)) 1 (omega arith) in
-    let d : suc (suc n) - 1 ≡ suc n = omega arith in
-    simp (e, d)
 
 at-below : (n : ℕ) → n < 2 ^ 31 → Below (negsuc n) (pos n)
 at-below n h =

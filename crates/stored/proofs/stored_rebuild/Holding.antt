@@ -1,7 +1,7 @@
 -- Whether a rebuild is held, and what loading gives. Assumes nothing.
 use Prim.Native.Nat.{ℕ, _≤_, _<_}
 use mathlib.Core.Path.{_≡_, refl, sym, ap, _∙_}
-use mathlib.Core.Bool.{Bool, true, false, _&&_, cond, false≢true, true≢false}
+use mathlib.Core.Bool.{Bool, true, false, _&&_, cond, false≢true, true≢false, and-eq-true-iff, and-false}
 use mathlib.Core.List.{List}
 use mathlib.Core.Option.{Option, some, none}
 use native.Mathlib.Omega.{arith}
@@ -12,14 +12,6 @@ use Rattle.stored.specs.Fields.{within, wordAt}
 use Rattle.stored.specs.Rebuilt.{rebuildMark, rebuildCount, rebuildMosts, holdsRebuild, rebuildAt, storedRebuild, RebuildHasRoom}
 use Rattle.stored.specs.Inner.{LoadsRebuild}
 use Rattle.stored.proofs.fields.Limits.{within-room}
-
-and-false : (b : Bool) → (b && false) ≡ false
-and-false true = refl
-and-false false = refl
-
-both : (a b : Bool) → (a && b) ≡ true → (a ≡ true) × (b ≡ true)
-both true b h = (refl, h)
-both false b h = absurd (false≢true h)
 
 pub outside-rebuild : (w : List ℕ) → within rebuildMosts w ≡ false → false ≡ holdsRebuild w
 unfolding holdsRebuild
@@ -38,7 +30,7 @@ inside-rebuild w h = sym (ap (λ b. eqb (wordAt w 0) rebuildMark && b) h ∙ and
 
 pub loads-room-rebuild : (w : List ℕ) → holdsRebuild w ≡ true → rebuildCount ≤ length w
 unfolding holdsRebuild
-loads-room-rebuild w h = within-room rebuildMosts w (both (eqb (wordAt w 0) rebuildMark) (within rebuildMosts w) h .1)
+loads-room-rebuild w h = within-room rebuildMosts w (and-eq-true-iff (eqb (wordAt w 0) rebuildMark) (within rebuildMosts w) .0 h .1)
 
 pub loads-there-rebuild : (w : List ℕ) {r : Rebuild} → holdsRebuild w ≡ true → r ≡ rebuildAt w → LoadsRebuild w r true
 unfolding storedRebuild

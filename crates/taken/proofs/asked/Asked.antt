@@ -1,10 +1,10 @@
 -- A state that passes questions 1 and 10 passes them after `replay` of a fix in range and after `reset`, whatever lines were lent before. Assumes nothing.
-use Prim.Native.Nat.{ℕ, suc, zero, _*_, _≤_}
+use Prim.Native.Nat.{ℕ, _*_, _≤_}
 use native.Mathlib.Omega.{arith}
-use mathlib.Core.Path.{_≡_, refl, subst, sym}
-use mathlib.Core.Bool.{Bool, true, false, _&&_}
+use mathlib.Core.Path.{_≡_, subst, sym}
+use mathlib.Core.Bool.{Bool, true, _&&_, and-eq-true-iff}
 use mathlib.Core.List.{List, [], _∷_}
-use lib.Dec.{eqb, eqb·suc-zero}
+use lib.Dec.{eqb}
 use Rattle.crumbs.specs.Crumb.{stride, capacity}
 use Rattle.state.specs.State.{State}
 use Rattle.state.specs.Rule.{Done}
@@ -14,29 +14,22 @@ use Rattle.calls.specs.Fix.{replay}
 use Rattle.calls.specs.Line.{new, reset}
 use Rattle.calls.specs.Calls.{Call, Reset, Replay, asks, performs, afterCall}
 use Rattle.taken.specs.Taken.{FixOnGlobe}
-use Rattle.taken.proofs.Tests.{either, and-left, and-right, both}
+use Rattle.taken.proofs.Tests.{either, both}
 use Rattle.taken.proofs.Asking.{room-of, or-else-none}
 use Rattle.journal.specs.Journal.{run, journal}
 use Rattle.taken.proofs.asked.State.{Passing, parts-given, state-passes, held-passes, replay-passing, reset-passing}
 use Rattle.taken.proofs.asked.Measured.{Measured, new-measured, turn-measured}
+use Rattle.questions.proofs.Given.{passed, neither}
 
 -- ---- the questions
 says-yes : {b : Bool} (n : ℕ) → b ≡ true → unless b n ≡ 0
 says-yes n e = rw e
 
-was-yes : (b : Bool) (n : ℕ) → unless b (suc n) ≡ 0 → b ≡ true
-was-yes true n e = refl
-was-yes false n e = absurd (omega arith)
-
-neither : (a b : ℕ) → (a orElse b) ≡ 0 → (a ≡ 0) × (b ≡ 0)
-neither zero b e = (refl, e)
-neither (suc a) b e = absurd (omega (arith, rw (eqb·suc-zero a) at e))
-
 -- ---- one call
 -- the state alone
 pub reset-asked-state : (s : State) → asksState s ≡ 0 → asksState (reset s .state) ≡ 0
 unfolding asksState
-reset-asked-state s e = says-yes 10 (state-passes {C = 0} (reset s .state) (reset-passing 0 s (was-yes (stateFits s) 9 e)))
+reset-asked-state s e = says-yes 10 (state-passes {C = 0} (reset s .state) (reset-passing 0 s (passed (stateFits s) 9 e)))
 
 module _ (size : ℕ) where
   record Given (s : State) : Type 0 where
@@ -49,11 +42,11 @@ module _ (size : ℕ) where
   given s e =
       let ten = stateFits s && heldFits (capacity size) s in
       let n = neither (unless (question1 size) 1) (unless ten 10) e in
-      let k = was-yes ten 9 (n .1) in
+      let k = passed ten 9 (n .1) in
       record {
-        one = was-yes (question1 size) 0 (n .0);
-        state = and-left (stateFits s) (heldFits (capacity size) s) k;
-        held = and-right (stateFits s) (heldFits (capacity size) s) k;
+        one = passed (question1 size) 0 (n .0);
+        state = and-eq-true-iff (stateFits s) (heldFits (capacity size) s) .0 k .0;
+        held = and-eq-true-iff (stateFits s) (heldFits (capacity size) s) .0 k .1;
       }
 
   passes : (s : State) → question1 size ≡ true → Passing (capacity size) s → asksCrumbs size s ≡ 0

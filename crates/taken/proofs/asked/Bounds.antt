@@ -2,7 +2,7 @@
 use Prim.Native.Nat.{ℕ, suc, _+_, _-_, _*_, _^_, _≤_, _<_}
 use native.Mathlib.Omega.{arith}
 use mathlib.Core.Path.{_≡_, sym, _∙_}
-use mathlib.Core.Bool.{true, false}
+use mathlib.Core.Bool.{true, false, and-eq-true-iff}
 use lib.IntN.{pos, negsuc}
 use lib.Dec.{T, lit<, lit≤, lt→ltb, ltb→lt}
 use lib.Pow.{pow-pos}
@@ -24,7 +24,8 @@ use Rattle.plane.specs.Plane.{distance}
 use Rattle.calls.specs.Questions.{sized, placeFits, alongFits}
 use Rattle.questions.specs.Sure.{placeMost}
 use Rattle.questions.proofs.Exact.{sized-tested, alongEnd, whole-part, small-part, along-tested}
-use Rattle.taken.proofs.Tests.{and-left, and-right, both}
+use Rattle.taken.proofs.Tests.{both}
+use Rattle.taken.proofs.Bounds.{some-more}
 
 -- ---- a place that passes question 10
 -- 100,000,000 m, twice it, and 400,000,000 m, which is more than two such places are apart
@@ -60,8 +61,10 @@ unfolding distance placeFits add
 distance-apart a b A B =
     let e = b .east ⊖ a .east in
     let n = b .north ⊖ a .north in
-    let E = square e (gap (a .east) (b .east) (and-left (sized (a .east)) (sized (a .north)) A) (and-left (sized (b .east)) (sized (b .north)) B)) in
-    let N = square n (gap (a .north) (b .north) (and-right (sized (a .east)) (sized (a .north)) A) (and-right (sized (b .east)) (sized (b .north)) B)) in
+    let from = and-eq-true-iff (sized (a .east)) (sized (a .north)) .0 A in
+    let to = and-eq-true-iff (sized (b .east)) (sized (b .north)) .0 B in
+    let E = square e (gap (a .east) (b .east) (from .0) (to .0)) in
+    let N = square n (gap (a .north) (b .north) (from .1) (to .1)) in
     let s = e ⊗ e ⊕ n ⊗ n in
     let S : Within (pow 57) s = add-within binary32 (pow 56) (pow 56) (pow 57) (e ⊗ e) (n ⊗ n) tt E N in
     let P : NonNeg s =
@@ -107,16 +110,13 @@ pub along-given : (x : Float) → T (fits binary32 x) → alongFits x ≡ true �
 unfolding alongEnd constant
 along-given x f e =
     let t = along-tested x f ∙ e in
-    let a : T (le plusZero x) = passed (and-left (le plusZero x) _ t) in
-    let b : T (lt x (fin false 4656613 (pos 31))) = passed (and-right (le plusZero x) _ t) in
+    let a : T (le plusZero x) = passed (and-eq-true-iff (le plusZero x) _ .0 t .0) in
+    let b : T (lt x (fin false 4656613 (pos 31))) = passed (and-eq-true-iff (le plusZero x) _ .0 t .1) in
     let h = le→nonneg x (along-finite x a b) a in
     record { fits = f; least = h; most = below-end x f h b }
 
 less : (m d : ℕ) → 0 < d → m * 1 ≤ 9313225 * 2 ^ 30 * d → m * 1 < 4656613 * 2 ^ 31 * d
 less m d D h = omega arith
-
-some-more : (m d : ℕ) → 0 < d → 0 < m * 1 + 4656613 * 2 ^ 31 * d
-some-more m d D = omega arith
 
 before-end : (x : Float) → Within farthest x → T (lt x (fin false 4656613 (pos 31)))
 unfolding lt

@@ -8,7 +8,7 @@ use mathlib.Core.Bool.{Bool, true, false, _&&_}
 use mathlib.Core.List.{List, [], _∷_, _++_}
 use mathlib.Core.Option.{Option, none, some}
 use borrow.Author.Tests.{eqb-true}
-use lib.Dec.{T, leb, ltb, eqb, eqb·suc-zero, lit≤}
+use lib.Dec.{T, leb, ltb, eqb, lit≤}
 use lib.ListN.{length, take}
 use lib.Ieee.{Float, binary32, fits, lt}
 use lib.Ieee.Fits.{add-fits}
@@ -58,11 +58,12 @@ use Rattle.calls.specs.Follow.{updateHere, brought, engagedOr, wayHome, follow,
 use Rattle.calls.specs.Line.{new, reset, offCourse, setCourse}
 use Rattle.calls.specs.Questions.{asksCrumbs, asksBoth, _orElse_}
 use Rattle.calls.specs.Calls.{Call, Ask, Reset, EndReplay, SetCourse, SetAutoFollow, Observe, Replay, SetFollowing, pointOf, asksPlace, asks, courseIn, performs, afterCall}
-use Rattle.questions.proofs.Given.{fix-given}
+use Rattle.questions.proofs.Given.{fix-given, neither}
 use Rattle.taken.specs.Taken.{FixOnGlobe, FixesOnGlobe}
 use Rattle.taken.proofs.Tests.{either, one-of}
 use Rattle.taken.proofs.Moving.{Framed, located-framed}
 use Rattle.taken.proofs.asked.Recording.{Rounded}
+use Rattle.taken.proofs.Lines.{factor-start}
 
 -- ---- metres along that are values of binary32
 rounded-snoc : (l : List Crumb) (c : Crumb) → Rounded l → T (fits binary32 (c .along)) → Rounded (l ++ c ∷ [])
@@ -379,19 +380,11 @@ course-measured : (xs : List Fix) → Keeps (setCourse xs)
 unfolding setCourse
 course-measured xs s h = off-course (s .follow .line) s h
 
-factor-start : Within (frac 5) mPerE7
-unfolding mPerE7 constant
-factor-start = lit≤ tt
-
 pub new-measured : Measured new
 unfolding new fresh
 new-measured = (record { origin = tt; factor = factor-start }, tt)
 
 -- ---- every call that no question refuses
-second : (a b : ℕ) → (a orElse b) ≡ 0 → b ≡ 0
-second zero b e = e
-second (suc a) b e = absurd (omega (arith, rw (eqb·suc-zero a) at e))
-
 place-globe : (x : Place) → asksPlace x ≡ 0 → FixesOnGlobe (pointOf x)
 unfolding asksPlace
 place-globe (place.At lat lon) e = let l = fix-given (record { lat = lat; lon = lon }) e in (record { latitude = l .latitude; longitude = l .longitude }, tt)
@@ -406,8 +399,10 @@ module _ (size : ℕ) (least : 3 ≤ capacity size) where
   performs-measured Reset s e h = reset-measured s h
   performs-measured (SetCourse b xs) s e h = course-measured xs s h
   performs-measured (SetAutoFollow on) s e h = auto-measured (capacity size) least on s h
-  performs-measured (Observe b x now) s e h = observe-measured (capacity size) least (courseIn b s) now x (place-globe x (second (asksBoth size b s) (asksPlace x) e)) s h
-  performs-measured (Replay x now) s e h = replay-measured (capacity size) least x now (fix-globe x (second (asksCrumbs size s) _ e)) s h
+  performs-measured (Observe b x now) s e h =
+      observe-measured (capacity size) least (courseIn b s) now x (place-globe x (neither (asksBoth size b s) (asksPlace x) e .1)) s h
+  performs-measured (Replay x now) s e h =
+      replay-measured (capacity size) least x now (fix-globe x (neither (asksCrumbs size s) _ e .1)) s h
   performs-measured EndReplay s e h = h
   performs-measured (SetFollowing b on now) s e h = following-measured (capacity size) least (courseIn b s) now on s h
   performs-measured (Ask q) s e h = h

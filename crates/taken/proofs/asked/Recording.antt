@@ -3,7 +3,7 @@ use Prim.Native.Nat.{ℕ, _≤_}
 use native.Mathlib.Omega.{arith}
 use native.Mathlib.Decide.{ℕ-discrete}
 use mathlib.Core.Path.{_≡_, refl, subst}
-use mathlib.Core.Bool.{Bool, true, false, _&&_}
+use mathlib.Core.Bool.{Bool, true, false, _&&_, and-eq-true-iff}
 use mathlib.Core.List.{List, [], _∷_, _++_}
 use mathlib.Core.Option.{Option, none, some}
 use lib.Dec.{T}
@@ -19,7 +19,7 @@ use Rattle.trail.specs.Trail.{Track, thin, put, keep, flush, wait, simplify, ad
 use Rattle.trail.proofs.Rules.{keep-full, keep-room, flush-none, flush-some, bends, simplify-bends, simplify-straight, add-first, near, add-near, add-far}
 use Rattle.trail.proofs.Theorems.{Sound, thin-sound, flush-sound}
 use Rattle.calls.specs.Questions.{placeFits, placesFit, alongFits, crumbFits, crumbsFit}
-use Rattle.taken.proofs.Tests.{and-left, and-right, both}
+use Rattle.taken.proofs.Tests.{both}
 use Rattle.taken.proofs.Recording.{Counted, uncounted}
 use Rattle.taken.proofs.asked.Bounds.{Reaches, along-given, along-passes, along-start, along-step}
 
@@ -41,9 +41,12 @@ pub crumbs-given : (l : List Crumb) → Rounded l → crumbsFit l ≡ true → A
 unfolding crumbsFit crumbFits
 crumbs-given [] f e = tt
 crumbs-given (c ∷ l) f e =
-    let one = and-left (placeFits (point c) && alongFits (c .along)) (crumbsFit l) e in (
-      record { place = and-left (placeFits (point c)) (alongFits (c .along)) one; along = along-given (c .along) (f .0) (and-right (placeFits (point c)) (alongFits (c .along)) one) },
-      crumbs-given l (f .1) (and-right (placeFits (point c) && alongFits (c .along)) (crumbsFit l) e),
+    let one = and-eq-true-iff (placeFits (point c) && alongFits (c .along)) (crumbsFit l) .0 e .0 in (
+      record {
+        place = and-eq-true-iff (placeFits (point c)) (alongFits (c .along)) .0 one .0;
+        along = along-given (c .along) (f .0) (and-eq-true-iff (placeFits (point c)) (alongFits (c .along)) .0 one .1);
+      },
+      crumbs-given l (f .1) (and-eq-true-iff (placeFits (point c) && alongFits (c .along)) (crumbsFit l) .0 e .1),
     )
 
 pub crumbs-pass : (l : List Crumb) → AllPass l → crumbsFit l ≡ true
@@ -94,7 +97,7 @@ AllWait (p ∷ l) = (placeFits p ≡ true) × AllWait l
 pub window-given : (l : List Point) → placesFit l ≡ true → AllWait l
 unfolding placesFit
 window-given [] e = tt
-window-given (p ∷ l) e = (and-left (placeFits p) (placesFit l) e, window-given l (and-right (placeFits p) (placesFit l) e))
+window-given (p ∷ l) e = let both = and-eq-true-iff (placeFits p) (placesFit l) .0 e in (both .0, window-given l (both .1))
 
 pub window-passes : (l : List Point) → AllWait l → placesFit l ≡ true
 unfolding placesFit

@@ -2,7 +2,7 @@
 use Prim.Native.Nat.{ℕ, _≤_, _<_}
 use native.Mathlib.Omega.{arith}
 use mathlib.Core.Path.{_≡_, refl, sym, subst}
-use mathlib.Core.Bool.{Bool, true, false, _&&_, _||_}
+use mathlib.Core.Bool.{Bool, true, false, _&&_, _||_, and-eq-true-iff}
 use borrow.Author.Tests.{leb-true, ltb-true, le-leb, lt-ltb, ne-eqb}
 use lib.Dec.{leb, ltb, eqb}
 use lib.ListN.{length}
@@ -20,7 +20,7 @@ use Rattle.lap.specs.declared.Lap.{Lap}
 use Rattle.motion.specs.Heading.{elapsed, headingStepM, headingStaleMs, spotOr, renewed, aged, trackHeading}
 use Rattle.lap.specs.Lap.{movingAt, lapStart, stepFrom, stepPass}
 use Rattle.trail.specs.Notes.{thinnedIn}
-use Rattle.trail.specs.Trail.{Track, windowPlaces}
+use Rattle.trail.specs.Trail.{retraceFixes, Track, windowPlaces}
 use Rattle.trail.specs.Trail as trail
 use Rattle.trail.proofs.Theorems.{Sound, add-sound, add-keeps}
 use Rattle.state.specs.declared.Line.{Line}
@@ -31,16 +31,15 @@ use Rattle.state.specs.declared.Course.{Course}
 use Rattle.state.specs.State.{State, withFrame}
 use Rattle.follow.specs.Parts.{endedByThinning}
 use Rattle.follow.specs.Record.{afterThinning, recordedIn, recorded, addIn}
-use Rattle.joining.specs.Join.{retraceFixes}
 use Rattle.course.specs.Fix.{Fix, located}
 use Rattle.calls.specs.Questions.{placesFit, spotFits, alongFits, headingFits, shownFits, factorFits, segmentFits, followFits, retraceFits, countsFit, spotsFit, numbersFit, stateFits, crumbsFit, heldFits, placeFits}
 use Rattle.calls.specs.Fix.{headed, passOnly, replay, unheaded}
 use Rattle.calls.specs.Line.{noLap, lined, awaiting, reset}
 use Rattle.taken.specs.Taken.{FixOnGlobe}
-use Rattle.taken.proofs.Tests.{one-of, and-left, and-right, both}
+use Rattle.taken.proofs.Tests.{one-of, both}
 use Rattle.taken.proofs.Bounds.{place-fits, factor-fits}
 use Rattle.taken.proofs.Recording.{Counted, retrace-fits, grows, reset-recorded, reset-counted}
-use Rattle.taken.proofs.Moving.{Framed, located-framed, framed-place}
+use Rattle.taken.proofs.Moving.{Framed, located-framed, framed-place, known-fits, unknown-fits}
 use Rattle.taken.proofs.State.{nothing-shown}
 use Rattle.taken.proofs.asked.Recording.{Rounded, crumbs-given, crumbs-pass, window-given, window-passes, Recorded, Onward, add-onward}
 
@@ -62,7 +61,7 @@ pub record Passing (C : ℕ) (s : State) : Type 0 where
 
 -- ---- every test of several that say yes together
 yes3 : (a b c : Bool) → (a && b && c) ≡ true → (a ≡ true) × (b ≡ true) × (c ≡ true)
-yes3 a b c e = let ab = and-left (a && b) c e in (and-left a b ab, and-right a b ab, and-right (a && b) c e)
+yes3 a b c e = let abc = and-eq-true-iff (a && b) c .0 e in let ab = and-eq-true-iff a b .0 (abc .0) in (ab .0, ab .1, abc .1)
 
 yes5 : (a b c d f : Bool) → (a && b && c && d && f) ≡ true → (a ≡ true) × (b ≡ true) × (c ≡ true) × (d ≡ true) × (f ≡ true)
 yes5 a b c d f e =
@@ -76,7 +75,7 @@ yes8 a b c d f g h i e =
     let last = yes3 (a && b && c && d && f && g) h i e in
     let mid = yes3 (a && b && c && d) f g (last .0) in
     let ab = yes3 (a && b) c d (mid .0) in
-    (and-left a b (ab .0), and-right a b (ab .0), ab .1, ab .2, mid .1, mid .2, last .1, last .2)
+    (and-eq-true-iff a b .0 (ab .0) .0, and-eq-true-iff a b .0 (ab .0) .1, ab .1, ab .2, mid .1, mid .2, last .1, last .2)
 
 -- ---- what question 10 says of each
 retrace-given : (t : Track) → retraceFits t ≡ true → Counted t
@@ -84,8 +83,11 @@ unfolding retraceFits
 retrace-given t e =
     let few = ltb (t .retrace) retraceFixes in
     let back = eqb (t .retrace) 0 || leb (t .retraceLen) (length (t .crumbs)) in
-    let b : back ≡ true = and-right few back e in
-    record { few = ltb-true (t .retrace) retraceFixes (and-left few back e); back = λ ne. leb-true _ _ (rw (ne-eqb _ _ ne) at b) }
+    let b : back ≡ true = and-eq-true-iff few back .0 e .1 in
+    record {
+      few = ltb-true (t .retrace) retraceFixes (and-eq-true-iff few back .0 e .0);
+      back = λ ne. leb-true _ _ (rw (ne-eqb _ _ ne) at b);
+    }
 
 module _ (s : State) (e : stateFits s ≡ true) where
   abbrev on : Bool
@@ -93,7 +95,9 @@ module _ (s : State) (e : stateFits s ≡ true) where
 
   counts-given : (leb (length (s .track .window)) windowPlaces ≡ true) × (on ≡ true) × (retraceFits (s .track) ≡ true)
   unfolding stateFits countsFit
-  counts-given = yes3 (leb (length (s .track .window)) windowPlaces) on (retraceFits (s .track)) (and-left (countsFit s) (numbersFit s) e)
+  counts-given =
+      yes3 (leb (length (s .track .window)) windowPlaces) on (retraceFits (s .track))
+      (and-eq-true-iff (countsFit s) (numbersFit s) .0 e .0)
 
   numbers-given : (placesFit (s .track .window) ≡ true)
       × (spotsFit s ≡ true)
@@ -106,7 +110,8 @@ module _ (s : State) (e : stateFits s ≡ true) where
   unfolding stateFits numbersFit
   numbers-given =
       yes8 (placesFit (s .track .window)) (spotsFit s) (alongFits (s .course .along)) (alongFits (s .course .reached)) (headingFits (s .motion .heading))
-      (shownFits (s .guide)) (factorFits (s .frame .«east_per_e7»)) (le plusZero (s .track .tolerance)) (and-right (countsFit s) (numbersFit s) e)
+      (shownFits (s .guide)) (factorFits (s .frame .«east_per_e7»)) (le plusZero (s .track .tolerance))
+      (and-eq-true-iff (countsFit s) (numbersFit s) .0 e .1)
 
   spots-given : (spotFits (s .here) ≡ true)
       × (spotFits (s .motion .from) ≡ true)
@@ -126,11 +131,11 @@ module _ (s : State) (e : stateFits s ≡ true) where
             record {
               sound =
                   record {
-                    held = leb-true (length (t .crumbs)) C (and-left (leb (length (t .crumbs)) C) (crumbsFit (t .crumbs)) k);
+                    held = leb-true (length (t .crumbs)) C (and-eq-true-iff (leb (length (t .crumbs)) C) (crumbsFit (t .crumbs)) .0 k .0);
                     waiting = leb-true (length (t .window)) windowPlaces (counts-given .0);
                     tolerance = numbers-given .7;
                   };
-              crumbs = crumbs-given (t .crumbs) f (and-right (leb (length (t .crumbs)) C) (crumbsFit (t .crumbs)) k);
+              crumbs = crumbs-given (t .crumbs) f (and-eq-true-iff (leb (length (t .crumbs)) C) (crumbsFit (t .crumbs)) .0 k .1);
               waiting = window-given (t .window) (numbers-given .0);
             };
         counted = retrace-given t (counts-given .2);
@@ -170,8 +175,8 @@ longer-follow : (on : Line) (segment len len′ n : ℕ) → len ≤ len′ → 
 unfolding followFits segmentFits
 longer-follow line.Nothing segment len len′ n g h = refl
 longer-follow line.Breadcrumb segment len len′ n g h =
-    let below : segment < len = ltb-true segment len (and-right (leb 1 segment) (ltb segment len) h) in
-    both (and-left (leb 1 segment) (ltb segment len) h) (lt-ltb segment len′ (omega arith))
+    let below : segment < len = ltb-true segment len (and-eq-true-iff (leb 1 segment) (ltb segment len) .0 h .1) in
+    both (and-eq-true-iff (leb 1 segment) (ltb segment len) .0 h .0) (lt-ltb segment len′ (omega arith))
 longer-follow line.Course segment len len′ n g h = h
 
 record Followed (len n : ℕ) (f : Follow) : Type 0 where
@@ -245,14 +250,6 @@ spot-or : (x : Spot) (p : Point) → spotFits x ≡ true → placeFits p ≡ tru
 unfolding spotOr spotFits
 spot-or (At q) p h P = h
 spot-or Nowhere p h P = P
-
-known-fits : (a b : Point) → headingFits (Known (bearing a b)) ≡ true
-unfolding headingFits
-known-fits a b = lt-ltb (bearing a b) turn (bearing-below a b)
-
-unknown-fits : headingFits Unknown ≡ true
-unfolding headingFits
-unknown-fits = refl
 
 renewed-moves : (from p : Point) (now : ℕ) → placeFits p ≡ true → Moves (renewed from p now)
 unfolding renewed

@@ -24,14 +24,13 @@ returns c = not-held (c .before .before .before .load .ensures) (c .before .if1 
 set-following-requires : tie.Need-set-following-requires
 set-following-requires c κs = search needs
 
-verdict-written-requires : tie.Need-verdict-written-requires
-verdict-written-requires c κs = search needs
-
-number-of-verdict-requires : tie.Need-number-of-verdict-requires
-number-of-verdict-requires c κs = search needs
+put-verdict-requires : tie.Need-put-verdict-requires
+put-verdict-requires c κs = search needs
 
 keep-requires : tie.Need-keep-requires
-keep-requires c κs = room-read (c .before .before .before .before .before .before .before .before .before .before .before .before .before .load .ensures) (c .before .before .before .before .before .before .before .before .before .before .before .if1 .left)
+keep-requires c κs =
+    let answered = c .before .before .before .before .before .before .before .before .before .before in
+    room-read (answered .before .before .load .ensures) (answered .if1 .left)
 
 same-length-3 : tie.Need-same-length-3
 same-length-3 c = search needs
@@ -45,16 +44,16 @@ same-length-5 c = search needs
 returns-2 : tie.Need-returns-2
 unfolding isSet
 returns-2 c =
-    let kept = c .before .before .before .before .keep .ensures in
-    let made = c .before .before .before .before .before .before .before .before .before .before .before .before .before .set-following in
-    on-held (c .before .before .before .before .before .before .before .before .before .before .before .before .before .before .before .before .before .before .load .ensures) (c .before .before .before .before .before .before .before .before .before .before .before .before .before .before .before .before .if1 .left)
+    let last = c .before .before .before .before in
+    let kept = last .keep .ensures in
+    let told = last .before .before .before in
+    let put = told .put-verdict .ensures in
+    let asked = told .before .before .before .before .before in
+    let made = asked .set-following in
+    let answered = asked .before .before .before in
+    on-held (answered .before .before .load .ensures) (answered .if1 .left)
     (record {
-      made = record {
-        answer = made .result;
-        promised = made .ensures;
-        told = kept .0 ∙ c .before .before .before .before .before .before .before .number-of-verdict .ensures;
-        written = c .before .before .before .before .before .before .before .before .verdict-written .ensures;
-      };
+      made = record { answer = made .result; promised = made .ensures; told = kept .0 ∙ put .0; written = put .1 };
       state = refl;
     })
     (kept .1)
@@ -69,8 +68,7 @@ cittumay-set-following-spec =
     same-length-2
     returns
     set-following-requires
-    verdict-written-requires
-    number-of-verdict-requires
+    put-verdict-requires
     keep-requires
     same-length-3
     same-length-4

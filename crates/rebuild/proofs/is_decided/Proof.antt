@@ -1,9 +1,9 @@
--- `retelling::is_decided` meets its contract. Assumes nothing.
+-- `rebuild::is_decided` meets its contract. Assumes nothing.
 use mathlib.Core.Path.{sym, ap}
 use Rattle.rebuild.specs.Rebuild.{isDecided}
 use borrow.Author.Needs.{needs}
-use Rattle.retelling.proofs.is_decided.Statement.{statement}
-use Rattle.retelling.proofs.is_decided.Tie as tie
+use Rattle.rebuild.proofs.is_decided.Statement.{statement}
+use Rattle.rebuild.proofs.is_decided.Tie as tie
 
 enum-told : tie.Need-enum-told
 enum-told c = search needs

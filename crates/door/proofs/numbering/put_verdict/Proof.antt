@@ -1,4 +1,4 @@
--- `door::answering::put_verdict` meets its contract. Assumes nothing.
+-- `door::numbering::put_verdict` meets its contract. Assumes nothing.
 use mathlib.Core.Path.{_≡_, refl, sym, ap, _∙_}
 use Rattle.answers.specs.Answers.{saysVerdict}
 use Rattle.answers.specs.declared.Verdict.{Verdict}
@@ -6,8 +6,8 @@ use Rattle.door.specs.Answers.{flagged}
 use denote.Ref.{now}
 use Rattle.door.specs.Through.{numberOf, valuesOf}
 use borrow.Author.Needs.{needs}
-use Rattle.door.proofs.answering.put_verdict.Statement.{statement}
-use Rattle.door.proofs.answering.put_verdict.Tie as tie
+use Rattle.door.proofs.numbering.put_verdict.Statement.{statement}
+use Rattle.door.proofs.numbering.put_verdict.Tie as tie
 
 enum-known-answer : tie.Need-enum-known-answer
 enum-known-answer c = search needs
