@@ -6,8 +6,8 @@
 // `calling` has the calls that change the guide, `answering` those that only answer, `rebuilding` those of a
 // rebuild, `thinning` the thinning of a line by itself; `numbering` says how an answer becomes a number.
 
-mod answering;
-mod calling;
+pub mod answering;
+pub mod calling;
 mod numbering;
-mod rebuilding;
-mod thinning;
+pub mod rebuilding;
+pub mod thinning;

@@ -1,287 +1,244 @@
-// Performs a recorded ride and compares what the guide answers with what the Rust answered. Standard input
-// holds a script of the guide's calls, a line `answers`, and the Rust's transcript of that script. The file
-// `stdin` was printed by two programs in `oracle`: `recorded` made the script, and `drive` performed it by
-// the handed-over Rust. The text of each call is compared byte for byte with what stands at its place in
-// the transcript.
+// Replays a stored ride through the door, and compares what the guide answers with what the Rust answered. Standard
+// input holds, all little-endian,
+// - a header of three numbers of eight bytes: the letters RECORDED, how many calls follow, and how many numbers the
+//   guide's own crumb buffer has;
+// - for each call a record of 55 numbers of eight bytes: which call it is and its three numbers, how many bytes behind
+//   the record it is given, how many numbers it is lent for crumbs and as the line, what of its state is replaced, and
+//   its 42 stored answers (`records` has their places, oracle/README.md says what they are);
+// - behind a record what its call is given, then as patterns of four bytes the crumbs and the points of the course that
+//   the record counts among the answers;
+// - last a record of the same form for the ride's end, at which all crumbs and the course are told.
+// The file `stdin` was written by the program `recorded` of `oracle`, which performs the ride by the handed-over Rust.
+
+mod asking;
+mod comparing;
+mod performing;
+mod records;
 
 use course::POINTS;
-use libc::STDIN_FILENO;
-use libc::STDOUT_FILENO;
-use playing::Own;
-use playing::Ride;
-use preparing::FILE;
-use script::Call;
-ghost use Prim.Native.Nat.{_<_, _≤_};
-ghost use lib.ListN.{length};
+use performing::MOST_CRUMBS;
+use performing::MOST_LINE;
+use records::ANSWERS;
+use records::BLOCK;
+use records::HEADER;
+use records::RECORD;
+use stored::NUMBERS;
+use stored::REBUILD_WORDS;
+use stored::WORDS;
 
-// The most crumbs of a breadcrumb.
-const CRUMBS: usize = 4096;
+// ---- the format
 
-// The most numbers lent for crumbs, and for a line: a spoiled buffer is one number longer, or has room for one
-// place more.
-const CRUMBS_LENT: usize = crumbs::STRIDE * CRUMBS + 1;
-
-const LINE_LENT: usize = crumbs::STRIDE * (POINTS + 1);
-
-// The input, and the text of each call, are shorter than this.
-const TEXT: usize = 262144;
-
-// ---- what is printed
-
-fn print(text: &[u8]) {
-    io::write_all(STDOUT_FILENO, text);
-}
-
-fn print_number(n: u64) {
-    io::print_decimal(STDOUT_FILENO, n);
-}
-
-fn print_agree(calls: u64) {
-    print_number(calls);
-    print(b" calls agree");
-}
-
-fn unreadable(row: &[u8]) {
-    print(b"error: ");
-    print(row);
-    print(b"\n");
-}
-
-// The first `end` bytes of the text, which differ from what is stored.
-fn print_text(text: &[u8], end: usize) {
-    if end >= text.len() {
-        print(b"error: the text of a call is too long\n");
-        return;
-    }
-    print(&text[..end]);
-}
-
-// How many calls come before a call, whose numbers begin at 1.
-fn before(number: u64) -> u64 {
-    if number == 0 {
-        return 0;
-    }
-    number - 1
-}
-
-// A call whose text is not the stored one.
-fn print_unlike(number: u64, text: &[u8], end: usize) {
-    print_agree(before(number));
-    print(b", call ");
-    print_number(number);
-    print(b" does not:\n");
-    print_text(text, end);
-}
-
-// ---- comparing
-
-// Where the stored answers go on behind a call's text.
-enum Compared {
-    Same(usize),
-    Differs,
-}
-
-// Whether a text stands at a place of the stored answers.
-fn stands(answers: &[u8], place: usize, text: &[u8]) -> Compared {
-    let mut at = place;
-    let mut i = 0;
-    while i < text.len() {
-        if at >= answers.len() {
-            return Compared::Differs;
+// Whether a call is given no more than there is room for: points of a course, or a chain file; and a buffer to thin.
+fn fits_given(which: u64, first: usize, given: usize) -> bool {
+    match which {
+        performing::SET_COURSE => {
+            (given <= performing::POINT * POINTS) & (given % performing::POINT == 0)
         }
-        if answers[at] != text[i] {
-            return Compared::Differs;
-        }
-        at += 1;
-        i += 1;
+        performing::THIN => (given == 0) & (first <= MOST_CRUMBS),
+        performing::STEP => given <= BLOCK,
+        _ => given == 0,
     }
-    Compared::Same(at)
 }
 
-// As `stands`, for the first `end` bytes of the text. A text that fills its buffer may be cut off.
-fn compare(answers: &[u8], place: usize, text: &[u8], end: usize) -> Compared {
-    if end >= text.len() {
-        return Compared::Differs;
+// Whether a record is of the format: a call, or the ride's end.
+fn fits(record: &[u8; RECORD], is_end: bool) -> bool {
+    let which = records::field(record, records::CALL);
+    let crumbs = records::field(record, records::CRUMBS_LENT) as usize;
+    let line = records::field(record, records::LINE_LENT) as usize;
+    if (which > performing::END) | ((which == performing::END) != is_end) {
+        return false;
     }
-    stands(answers, place, &text[..end])
+    if (crumbs > MOST_CRUMBS) | (line > MOST_LINE) {
+        return false;
+    }
+    fits_given(
+        which,
+        records::field(record, records::FIRST) as usize,
+        records::field(record, records::GIVEN) as usize,
+    )
 }
 
-// Compares the text of a call, and prints it where it differs.
-fn compare_call(answers: &[u8], place: usize, number: u64, text: &[u8], end: usize) -> Compared {
-    let Compared::Same(behind) = compare(answers, place, text, end) else {
-        print_unlike(number, text, end);
-        return Compared::Differs;
-    };
-    Compared::Same(behind)
-}
+// ---- a call
 
-// As `compare_call`, for the text of a line, of which there is none where the line cannot be read.
-fn compare_line(
-    answers: &[u8],
-    place: usize,
+// Whether crumbs and course are those that stand behind the record.
+fn parts_agree(
     number: u64,
-    row: &[u8],
-    text: &[u8],
-    end: usize,
-) -> Compared {
-    if end == 0 {
-        unreadable(row);
-        return Compared::Differs;
-    }
-    compare_call(answers, place, number, text, end)
-}
-
-// ---- a script
-
-// Compares the lines behind a script, the last that are stored.
-fn compare_end(
-    out: &mut [u8],
-    number: u64,
-    answers: &[u8],
-    place: usize,
-    ride: Ride,
-    own: Own,
+    is_end: bool,
+    told: &[u64; ANSWERS],
     crumbs: &[f32],
     line: &[f32],
-) {
-    let end = playing::tell_end(out, ride, own, crumbs, line);
-    print_agree(number);
-    let Compared::Same(behind) = compare(answers, place, out, end) else {
-        print(b", the end does not:\n");
-        print_text(out, end);
-        return;
-    };
-    if behind < answers.len() {
-        print(b", but more is stored");
+    block: &mut [u8; BLOCK],
+) -> bool {
+    let held = crumbs::front(crumbs, told[records::CRUMBS] as usize);
+    if !comparing::numbers_agree(number, is_end, b"crumbs, number ", held, block) {
+        return false;
     }
-    print(b"\n");
+    let course = crumbs::front(line, told[records::COURSE] as usize);
+    comparing::numbers_agree(number, is_end, b"course, number ", course, block)
 }
 
-// Performs a script's lines from the one at `from` on, and compares them with the stored answers from
-// `begin` on, up to a line that cannot be read or differs.
-fn perform_lines(
-    out: &mut [u8],
-    script: &[u8],
-    from: usize,
-    answers: &[u8],
-    begin: usize,
-    fresh: Ride,
-    own: Own,
-    crumbs: &mut [f32],
-    line: &mut [f32],
-)
-    requires { ⌜ (0 < from) × (from ≤ length (now script)) ⌝ }
-{
-    let mut lats = [0i32; POINTS];
-    let mut lons = [0i32; POINTS];
-    let mut file = [0u8; FILE];
-    let mut number = 1u64;
-    let mut place = begin;
-    let mut ride = fresh;
-    let mut at = reading::next(script, from);
-    while at < script.len() {
-        let row = reading::line_at(script, at);
-        number += 1;
-        let done = playing::play(
-            out,
-            row,
-            number,
-            ride,
-            own,
-            crumbs,
-            line,
-            &mut lats,
-            &mut lons,
-            &mut file,
-        );
-        let Compared::Same(behind) = compare_line(answers, place, number, row, out, done.end) else {
-            return;
-        };
-        place = behind;
-        ride = done.ride;
-        at = reading::next(script, reading::behind(script, at));
-    }
-    compare_end(out, number, answers, place, ride, own, crumbs, line);
-}
-
-// As `perform_lines`, with the guide's making before them, whose line ends at `from`.
-fn perform_script(
-    out: &mut [u8],
-    script: &[u8],
-    from: usize,
-    answers: &[u8],
-    own: Own,
-    crumbs: &mut [f32],
-    line: &mut [f32],
-)
-    requires { ⌜ (0 < from) × (from ≤ length (now script)) ⌝ }
-{
-    let made = playing::begin(out, own, crumbs);
-    let Compared::Same(behind) = compare_call(answers, 0, 1, out, made.end) else {
-        return;
-    };
-    perform_lines(
-        out,
-        script,
-        from,
-        answers,
-        behind,
-        made.ride,
+// Performs a call that is given the front of the block, and compares it.
+fn perform(
+    number: u64,
+    is_end: bool,
+    record: &[u8; RECORD],
+    own: usize,
+    words: &mut [u64; WORDS],
+    numbers: &mut [f32; NUMBERS],
+    rebuild: &mut [u64; REBUILD_WORDS],
+    crumbs: &mut [f32; MOST_CRUMBS],
+    line: &mut [f32; MOST_LINE],
+    block: &mut [u8; BLOCK],
+) -> bool {
+    let mut told = [0u64; ANSWERS];
+    let mut thinned = [0.0; MOST_CRUMBS];
+    performing::perform(
+        record,
+        block,
         own,
+        words,
+        numbers,
+        rebuild,
         crumbs,
         line,
+        &mut thinned,
+        &mut told,
     );
+    if !comparing::agrees(number, is_end, record, &told) {
+        return false;
+    }
+    if records::field(record, records::CALL) == performing::THIN {
+        return parts_agree(number, is_end, &told, &thinned, line, block);
+    }
+    parts_agree(number, is_end, &told, crumbs, line, block)
 }
 
-// As `perform_script`, with room for so many crumbs, and for a course of so many points.
-fn perform_new(script: &[u8], from: usize, answers: &[u8], capacity: usize, room: usize)
-    requires { ⌜ (0 < from) × (from ≤ length (now script)) ⌝ }
-{
-    let mut out = [0u8; TEXT];
-    let mut crumbs = [0.0; CRUMBS_LENT];
-    let mut line = [0.0; LINE_LENT];
-    let own = Own {
-        crumbs: capacity,
-        line: room,
-    };
-    perform_script(&mut out, script, from, answers, own, &mut crumbs, &mut line);
+// Replays call `number`, from 0, or the end of so many calls. False: it differs or is not there, which is printed.
+fn replay(
+    number: u64,
+    is_end: bool,
+    own: usize,
+    words: &mut [u64; WORDS],
+    numbers: &mut [f32; NUMBERS],
+    rebuild: &mut [u64; REBUILD_WORDS],
+    crumbs: &mut [f32; MOST_CRUMBS],
+    line: &mut [f32; MOST_LINE],
+    block: &mut [u8; BLOCK],
+) -> bool {
+    let mut record = [0u8; RECORD];
+    if !records::read_record(&mut record) {
+        comparing::print_cut_off();
+        return false;
+    }
+    if !fits(&record, is_end) {
+        comparing::print_unreadable(number);
+        return false;
+    }
+    if !records::read(block, records::field(&record, records::GIVEN) as usize) {
+        comparing::print_cut_off();
+        return false;
+    }
+    perform(
+        number,
+        is_end,
+        &record,
+        own,
+        words,
+        numbers,
+        rebuild,
+        crumbs,
+        line,
+        block,
+    )
 }
 
-fn compare_script(script: &[u8], answers: &[u8]) {
-    let at = reading::next(script, 0);
-    if at == script.len() {
-        print(b"error: there is no script\n");
-        return;
+// ---- the ride
+
+// Replays so many calls and the end behind them, with a rebuild that has nothing to read. False: as `replay`.
+fn replay_all(
+    calls: u64,
+    own: usize,
+    words: &mut [u64; WORDS],
+    numbers: &mut [f32; NUMBERS],
+    rebuild: &mut [u64; REBUILD_WORDS],
+    crumbs: &mut [f32; MOST_CRUMBS],
+    line: &mut [f32; MOST_LINE],
+    block: &mut [u8; BLOCK],
+) -> bool {
+    door::rebuilding::cittumay_rebuild_new(rebuild, 0, 0);
+    for number in 0..calls {
+        if !replay(
+            number,
+            false,
+            own,
+            words,
+            numbers,
+            rebuild,
+            crumbs,
+            line,
+            block,
+        ) {
+            return false;
+        }
     }
-    let row = reading::line_at(script, at);
-    let Call::New(capacity, room) = script::call_of(reading::word(row), reading::numbers(row))
-    else {
-        unreadable(row);
-        return;
-    };
-    if capacity > CRUMBS || room > POINTS {
-        unreadable(row);
-        return;
-    }
-    perform_new(script, reading::behind(script, at), answers, capacity, room);
+    replay(
+        calls,
+        true,
+        own,
+        words,
+        numbers,
+        rebuild,
+        crumbs,
+        line,
+        block,
+    )
 }
 
-fn compare_text(text: &[u8]) {
-    let at = reading::answers_at(text);
-    if at == text.len() {
-        print(b"error: there is no line `answers`\n");
+// All calls agree.
+fn finish(calls: u64) {
+    if !records::ended() {
+        comparing::print(b"error: more follows the end\n");
         return;
     }
-    let answers = reading::behind(text, at);
-    compare_script(&text[..at], &text[answers..]);
+    comparing::print_agree(calls);
+    comparing::print(b"\n");
+}
+
+fn replay_ride(calls: u64, own: usize) {
+    let mut words = [0u64; WORDS];
+    let mut numbers = [0.0; NUMBERS];
+    let mut rebuild = [0u64; REBUILD_WORDS];
+    let mut crumbs = [0.0; MOST_CRUMBS];
+    let mut line = [0.0; MOST_LINE];
+    let mut block = [0u8; BLOCK];
+    if replay_all(
+        calls,
+        own,
+        &mut words,
+        &mut numbers,
+        &mut rebuild,
+        &mut crumbs,
+        &mut line,
+        &mut block,
+    ) {
+        finish(calls);
+    }
 }
 
 fn main() {
-    let mut buffer = [0u8; TEXT];
-    let n = io::read_full(STDIN_FILENO, &mut buffer);
-    if n == TEXT {
-        print(b"error: the input is too long\n");
+    let mut header = [0u8; HEADER];
+    if !records::read_header(&mut header) {
+        comparing::print(b"error: there is no header\n");
         return;
     }
-    compare_text(&buffer[..n]);
+    if records::header(&header, 0) != records::MARK {
+        comparing::print(b"error: this is no stored ride\n");
+        return;
+    }
+    let own = records::header(&header, records::OWN) as usize;
+    if own > MOST_CRUMBS {
+        comparing::print(b"error: no guide has so large a buffer\n");
+        return;
+    }
+    replay_ride(records::header(&header, records::CALLS), own);
 }

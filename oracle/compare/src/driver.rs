@@ -2,39 +2,47 @@
 use crate::coverage::Coverage;
 use crate::guide::Performs;
 use crate::original::{Buffers, Original};
-use crate::script::Script;
-use crate::transcript;
+use crate::script::{Call, Script};
+use crate::transcript::{Answer, Told};
 
-/// Writes the transcript by the Rust. An error where the script leaves the domain of comparison,
+/// What takes down a script's answers: as text (`transcript`), or as numbers (`recording`).
+pub trait Tells {
+    /// Behind `new`, a script's call 1.
+    fn begin(&mut self, told: &Told);
+    fn after(&mut self, number: usize, call: &Call, answer: &Answer, told: &Told);
+    fn end(&mut self, told: &Told);
+}
+
+/// Takes down the answers by the Rust. An error where the script leaves the domain of comparison,
 /// unless it may go `beyond`.
 pub fn drive(
     script: &Script,
     beyond: bool,
     coverage: &mut Coverage,
-    out: &mut String,
+    out: &mut impl Tells,
 ) -> Result<(), String> {
     let mut buffers = Buffers::of(script);
     let mut original = Original::new(&mut buffers);
-    *out += &transcript::begin(&original.told());
+    out.begin(&original.told());
     for (number, call) in (2..).zip(&script.calls) {
         let step = original.step(call);
-        *out += &transcript::after(number, call, &step.answer, &step.told);
+        out.after(number, call, &step.answer, &step.told);
         coverage.note(&step);
         if let Some(why) = step.leaves.filter(|_| !beyond) {
             return Err(format!("call {number}, {call}: the domain of comparison ends: {why}"));
         }
     }
     coverage.end_script();
-    *out += &transcript::end(&original.told());
+    out.end(&original.told());
     Ok(())
 }
 
-/// Writes the transcript by another guide.
-pub fn drive_by(guide: &mut impl Performs, script: &Script, out: &mut String) {
-    *out += &transcript::begin(&guide.told());
+/// Takes down the answers by another guide.
+pub fn drive_by(guide: &mut impl Performs, script: &Script, out: &mut impl Tells) {
+    out.begin(&guide.told());
     for (number, call) in (2..).zip(&script.calls) {
         let answer = guide.perform(call);
-        *out += &transcript::after(number, call, &answer, &guide.told());
+        out.after(number, call, &answer, &guide.told());
     }
-    *out += &transcript::end(&guide.told());
+    out.end(&guide.told());
 }

@@ -20,6 +20,7 @@ pub mod program;
 pub mod proved;
 pub mod questions;
 pub mod random;
+pub mod recording;
 pub mod reference;
 pub mod refusals;
 pub mod retelling;

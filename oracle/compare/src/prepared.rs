@@ -41,6 +41,16 @@ impl Prepared {
         }
     }
 
+    /// How many numbers a call is lent for crumbs, where the guide has so many of its own.
+    pub fn crumbs_lent(spoiled: Option<u8>, own: usize) -> usize {
+        spoiled.map_or(own, |which| [own + 1, 21][usize::from(which)])
+    }
+
+    /// The same for the line.
+    pub fn line_lent(spoiled: Option<u8>, own: usize) -> usize {
+        spoiled.map_or(own, |which| [own + 1, 6_147][usize::from(which)])
+    }
+
     /// Which of the things that this question refuses the next call is given.
     pub fn spoiled(&self, question: u8) -> Option<u8> {
         let spoil = self.spoils.iter().find(|spoil| spoil.question == question);

@@ -39,7 +39,7 @@ impl<G: Unasked> Performs for Asked<G> {
 }
 
 /// Whether a call is given what a question is put to: 1 the crumb buffer, 4 the line, 10 the state.
-fn is_given(call: &Call, question: u8) -> bool {
+pub fn is_given(call: &Call, question: u8) -> bool {
     use Call::{Ask, CaughtUp, Dump, Observe, Rebuild, Replay};
     use Call::{SetAutoFollow, SetCourse, SetFollowing, Step, Thin};
     match (question, call) {

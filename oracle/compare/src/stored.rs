@@ -4,10 +4,7 @@ use crate::guide::{Guide, Performs};
 use crate::prepared::Prepared;
 use crate::script::{Call, Script, Thin};
 use crate::transcript::{Answer, Thinned, Told, buffer};
-use crate::words::{
-    CLOCK, COURSE_ALONG, EAST_PER_E7, HEADING, HEADING_KNOWN, LINE, PENDING, RETRACE, SEGMENT,
-    SLOT, TOLERANCE, UTC, UTC_KNOWN, WINDOW_LEN,
-};
+use crate::words::{CLOCK, PENDING, Replaced, SLOT, UTC, UTC_KNOWN};
 use cittumay::{Homing, NUMBERS, REBUILD_WORDS, Rebuild, Refusal, STRIDE, WORDS, thin};
 use vana::state::RebuildState;
 
@@ -58,9 +55,8 @@ impl Stored {
     fn lent(&mut self, call: &Call) -> Result<Answer, Refusal> {
         let [crumbs, line, state] = [1, 4, 10].map(|question| self.prepared.spoiled(question));
         let (own_crumbs, own_line) = (self.crumbs.len(), self.line.len());
-        let lent_crumbs =
-            crumbs.map_or(own_crumbs, |which| [own_crumbs + 1, 21][usize::from(which)]);
-        let lent_line = line.map_or(own_line, |which| [own_line + 1, 6_147][usize::from(which)]);
+        let lent_crumbs = Prepared::crumbs_lent(crumbs, own_crumbs);
+        let lent_line = Prepared::line_lent(line, own_line);
         self.crumbs.resize(own_crumbs.max(lent_crumbs), 0.0);
         self.line.resize(lent_line, 0.0);
         let (words, numbers) = state.map_or(self.state, |which| spoiled(self.state, which));
@@ -95,15 +91,9 @@ fn performed(
 
 /// A state that question 10 refuses.
 fn spoiled((mut words, mut numbers): State, which: u8) -> State {
-    match which {
-        0 => words[RETRACE] = 8,
-        1 => words[WINDOW_LEN] = 49,
-        2 => numbers[TOLERANCE] = -1.0,
-        3 => numbers[EAST_PER_E7] = 1.0,
-        4 => (words[HEADING_KNOWN], words[HEADING]) = (1, 4_096),
-        5 => numbers[COURSE_ALONG] = -1.0,
-        _ => (words[LINE], words[SEGMENT]) = (1, 0),
-    }
+    let replaced = Replaced::by(which);
+    replaced.words.iter().for_each(|(at, word)| words[*at] = *word);
+    replaced.number.iter().for_each(|(at, number)| numbers[*at] = *number);
     (words, numbers)
 }
 

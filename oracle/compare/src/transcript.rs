@@ -1,6 +1,7 @@
 //! What a script's calls answer, as text. Only plain values come in, so that any guide's transcript
 //! is made here. Numbers are decimal, an f32 is its pattern in eight hexadecimal capitals, a flag is
 //! 0 or 1, and `-` stands for none.
+use crate::driver::Tells;
 use crate::script::{Call, Question};
 use std::fmt::{self, Display};
 use vana::state::RebuildState;
@@ -49,6 +50,21 @@ pub fn buffer(crumbs: &[Patterns<3>], size: usize) -> Vec<f32> {
 pub const EVENTS: [&str; 7] =
     ["-", "following", "off_track", "on_track", "dropped", "arrived", "course_end"];
 pub const MODES: [&str; 4] = ["direct", "track", "off_track", "arrived"];
+
+/// A script's transcript.
+impl Tells for String {
+    fn begin(&mut self, told: &Told) {
+        *self += &begin(told);
+    }
+
+    fn after(&mut self, number: usize, call: &Call, answer: &Answer, told: &Told) {
+        *self += &after(number, call, answer, told);
+    }
+
+    fn end(&mut self, told: &Told) {
+        *self += &end(told);
+    }
+}
 
 /// What is told behind a call.
 #[derive(PartialEq)]
@@ -183,7 +199,7 @@ fn each(crumbs: &[Patterns<3>]) -> String {
 }
 
 /// What stands in one line behind each call that may change something.
-const STATE: [Question; 7] = [
+pub const STATE: [Question; 7] = [
     Question::Following,
     Question::FollowingCourse,
     Question::CourseAhead,
@@ -194,7 +210,7 @@ const STATE: [Question; 7] = [
 ];
 
 /// The lines behind call `number`; what is told after it comes last.
-pub fn after(number: usize, call: &Call, answer: &Answer, told: &Told) -> String {
+fn after(number: usize, call: &Call, answer: &Answer, told: &Told) -> String {
     match call {
         Call::Ask(question) if !matches!(answer, Answer::Refused(_)) => {
             format!("{number} {}\n", told.answers.tell(*question))
@@ -214,7 +230,7 @@ fn alone(number: usize, call: &Call, answer: &Answer) -> String {
 }
 
 /// The lines behind `new`, a script's call 1.
-pub fn begin(told: &Told) -> String {
+fn begin(told: &Told) -> String {
     changed(1, "new", &Answer::Nothing, &told.answers)
 }
 
@@ -238,6 +254,6 @@ pub fn whole(number: usize, word: &str, answer: &Answer, told: &Told) -> String 
 }
 
 /// The lines behind a script.
-pub fn end(told: &Told) -> String {
+fn end(told: &Told) -> String {
     format!("end\n{}\n", told.answers.dump())
 }

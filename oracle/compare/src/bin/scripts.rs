@@ -139,9 +139,7 @@ fn equal(options: &Options, differs: Differs) -> Result<bool, String> {
     }
     println!("{}", coverage.per_thousand());
     println!("scripts: {scripts} scripts, {calls} calls, equal (seed {})", options.seed);
-    let mut unmet = coverage.unmet_at_random();
-    // The scripts that meet this are too long for a program.
-    unmet.retain(|class| options.program.is_none() || class != "thinning of 4,096 crumbs");
+    let unmet = coverage.unmet_at_random();
     unmet.iter().for_each(|class| println!("no call met: {class}"));
     Ok(unmet.is_empty())
 }

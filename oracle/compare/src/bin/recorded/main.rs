@@ -1,12 +1,13 @@
-//! Prints the stored input of the proved program `recorded`: some rides as one script. Fails where
-//! the script leaves the domain of comparison, or where a class of calls is not met.
+//! Writes the stored input of the proved program `recorded`: some rides as one script, with the Rust's answers. Fails
+//! where the script leaves the domain of comparison, or where a class of calls is not met.
 mod refused;
 mod restarts;
 
 use compare::Place;
 use compare::coverage::Coverage;
 use compare::driver::drive;
-use compare::options::{none, print, program};
+use compare::options::{Words, print, program, unknown};
+use compare::recording::Recording;
 use compare::script::{Call, Script};
 use std::process::ExitCode;
 
@@ -28,20 +29,34 @@ struct Rider {
 }
 
 const USAGE: &str = "\
-usage: recorded
-Prints the script of the stored ride, which the proved program `recorded` is run on.
+usage: recorded [--script]
+Writes the stored ride with the Rust's answers, which the proved program `recorded` is run on.
+  --script   prints its script instead
 ";
 
 fn main() -> ExitCode {
-    program(USAGE, none, |()| print(script()?.to_string()).map(|()| true))
+    program(USAGE, read, |is_script| {
+        let script = Script { capacity: 16, room: 24, calls: rides() };
+        let recording = recorded(&script)?;
+        if is_script { print(script.to_string()) } else { print(recording.bytes()) }?;
+        Ok(true)
+    })
 }
 
-fn script() -> Result<Script, String> {
-    let script = Script { capacity: 16, room: 24, calls: rides() };
-    let mut coverage = Coverage::default();
-    drive(&script, false, &mut coverage, &mut String::new())?;
+/// Whether the script is wanted.
+fn read(words: &mut Words) -> Result<bool, String> {
+    match words.next().as_deref() {
+        None => Ok(false),
+        Some("--script") => Ok(true),
+        Some(word) => unknown(word),
+    }
+}
+
+fn recorded(script: &Script) -> Result<Recording, String> {
+    let (mut coverage, mut recording) = (Coverage::default(), Recording::of(script));
+    drive(script, false, &mut coverage, &mut recording)?;
     let unmet = coverage.unmet();
-    if unmet.is_empty() { Ok(script) } else { Err(format!("no call met: {}", unmet.join("; "))) }
+    if unmet.is_empty() { Ok(recording) } else { Err(format!("no call met: {}", unmet.join("; "))) }
 }
 
 fn rides() -> Vec<Call> {

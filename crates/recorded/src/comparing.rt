@@ -1,0 +1,216 @@
+// What is told compared with what is stored, and what is printed of it.
+
+use crate::records;
+use crate::records::ANSWERS;
+use crate::records::BLOCK;
+use crate::records::RECORD;
+use crate::records::STORED;
+use libc::STDOUT_FILENO;
+ghost use Prim.Native.Nat.{_*_, _≤_};
+ghost use lib.ListN.{length};
+
+// ---- printing
+
+pub fn print(text: &[u8]) {
+    io::write_all(STDOUT_FILENO, text);
+}
+
+fn print_number(n: u64) {
+    io::print_decimal(STDOUT_FILENO, n);
+}
+
+pub fn print_agree(calls: u64) {
+    print_number(calls);
+    print(b" calls agree");
+}
+
+pub fn print_cut_off() {
+    print(b"error: the input ends within a call\n");
+}
+
+// A call, which is numbered from 0, whose record is not of the format.
+pub fn print_unreadable(number: u64) {
+    print(b"error: behind ");
+    print_number(number);
+    print(b" calls stands no record\n");
+}
+
+fn print_guide(k: usize) {
+    match k {
+        0 => print(b"mode"),
+        1 => print(b"guide's following"),
+        2 => print(b"guide's course"),
+        3 => print(b"course_near"),
+        4 => print(b"direct_m"),
+        5 => print(b"track_m"),
+        6 => print(b"off_m"),
+        7 => print(b"bearing"),
+        8 => print(b"whether the guide has a heading"),
+        _ => print(b"guide's heading"),
+    }
+}
+
+fn print_ahead(k: usize) {
+    match k {
+        0 => print(b" known"),
+        1 => print(b" end"),
+        2 => print(b" matched"),
+        3 => print(b" east"),
+        _ => print(b" north"),
+    }
+}
+
+fn print_riding(field: usize) {
+    match field {
+        records::FOLLOWING => print(b"following"),
+        records::FOLLOWING_COURSE => print(b"following_course"),
+        records::HEADING_KNOWN => print(b"heading known"),
+        records::HEADING => print(b"heading"),
+        records::BACK_KNOWN => print(b"way_back known"),
+        records::DIRECT => print(b"way_back direct"),
+        records::TRACK => print(b"way_back track"),
+        _ => print(b"len"),
+    }
+}
+
+fn print_last(field: usize) {
+    match field {
+        records::SLOT => print(b"slot"),
+        records::CLOCK => print(b"clock"),
+        records::PENDING => print(b"pending"),
+        records::UTC_KNOWN => print(b"pending time known"),
+        records::UTC => print(b"pending time"),
+        records::TOLERANCE => print(b"tolerance"),
+        records::PASSES => print(b"passes"),
+        records::CRUMBS => print(b"count of crumbs"),
+        _ => print(b"count of the course"),
+    }
+}
+
+fn print_first(field: usize) {
+    match field {
+        records::REFUSED => print(b"refusal"),
+        records::ANSWER => print(b"answer"),
+        records::BEHIND => print(b"refusal behind it"),
+        records::SHOWN => print(b"guide shown"),
+        _ => print(b"arrow"),
+    }
+}
+
+// An answer's name.
+fn print_field(field: usize) {
+    match field {
+        records::GUIDE..=13 => print_guide(field - records::GUIDE),
+        records::COURSE_AHEAD..=21 => {
+            print(b"course_ahead");
+            print_ahead(field - records::COURSE_AHEAD);
+        }
+        records::ROUTE_HOME..=26 => {
+            print(b"route_home");
+            print_ahead(field - records::ROUTE_HOME);
+        }
+        records::FOLLOWING..=records::LEN => print_riding(field),
+        records::SLOT..=records::COURSE => print_last(field),
+        _ => print_first(field),
+    }
+}
+
+// The number behind this one.
+fn next(number: u64) -> u64 {
+    if number == 0xffff_ffff_ffff_ffff {
+        return number;
+    }
+    number + 1
+}
+
+// Call `number`, from 0, or the end of so many calls, differs from what is stored.
+fn print_unlike(number: u64, is_end: bool) {
+    print_agree(number);
+    if is_end {
+        print(b", the end does not: ");
+        return;
+    }
+    print(b", call ");
+    print_number(next(number));
+    print(b" does not: ");
+}
+
+fn print_values(told: u64, stored: u64) {
+    print(b" is ");
+    print_number(told);
+    print(b", stored ");
+    print_number(stored);
+    print(b"\n");
+}
+
+// ---- comparing
+
+// The first answer that differs, or how many there are.
+fn unlike(record: &[u8; RECORD], told: &[u64; ANSWERS]) -> usize
+    ensures { λ r. ⌜ r ≤ 42 ⌝ }
+{
+    for k in 0..ANSWERS {
+        if told[k] != records::field(record, STORED + k) {
+            return k;
+        }
+    }
+    ANSWERS
+}
+
+// Whether the answers told are those stored. Where one is not, it is printed.
+pub fn agrees(number: u64, is_end: bool, record: &[u8; RECORD], told: &[u64; ANSWERS]) -> bool {
+    let k = unlike(record, told);
+    if k == ANSWERS {
+        return true;
+    }
+    print_unlike(number, is_end);
+    print_field(k);
+    print_values(told[k], records::field(record, STORED + k));
+    false
+}
+
+// The first number that is not the one whose pattern stands in the block, or how many there are.
+fn unlike_number(block: &[u8; BLOCK], numbers: &[f32]) -> usize
+    requires { ⌜ 4 * length (now numbers) ≤ 65568 ⌝ }
+    ensures { λ r. ⌜ r ≤ length (now (numbers .entry)) ⌝ }
+{
+    let mut i = 0;
+    while i < numbers.len() {
+        if binary32::pattern(numbers[i]) != records::pattern_at(block, i) {
+            return i;
+        }
+        i += 1;
+    }
+    i
+}
+
+// Whether the numbers are those that come next in the input, as patterns. Where one is not, it is printed.
+pub fn numbers_agree(
+    number: u64,
+    is_end: bool,
+    name: &[u8],
+    numbers: &[f32],
+    block: &mut [u8; BLOCK],
+) -> bool {
+    let n = numbers.len();
+    if n > BLOCK / 4 {
+        print_cut_off();
+        return false;
+    }
+    if !records::read(block, 4 * n) {
+        print_cut_off();
+        return false;
+    }
+    let k = unlike_number(block, numbers);
+    if k == n {
+        return true;
+    }
+    print_unlike(number, is_end);
+    print(name);
+    print_number(k as u64);
+    print_values(
+        binary32::pattern(numbers[k]) as u64,
+        records::pattern_at(block, k) as u64,
+    );
+    false
+}
