@@ -54,8 +54,8 @@ pub record AnswersGuide (h : Homing) (r : Showing) : Type 0 where
 pub record AnswersWayBack (h : Homing) (b : List Float) (r : Back) : Type 0 where
   pub says : saysBack r ≡ answerTo call.WayBack wayBack h b
 
--- "The held crumbs come back as the front part of the lent buffer"; "A refusal carries its number, [..] and where a part is returned that part is
--- empty." The number is 0 where no question says no.
+-- "The held crumbs come back as the front part of the lent buffer"; "A refusal carries its number, [..] and where a part is returned that
+-- part is empty." The number is 0 where no question says no.
 pub record ReturnsCrumbs (h : Homing) (b : List Float) (number : ℕ) (r : List Float) : Type 0 where
   pub asked : number ≡ asks (length b) (Ask call.Crumbs) (stateOf h b)
   pub numbers : number ≡ 0 → r ≡ inFront (h .trail .len) b

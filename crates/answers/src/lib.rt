@@ -16,7 +16,8 @@ ghost use Rattle.crumbs.specs.Crumb.{capacity, crumbs as heldCrumbs};
 ghost use Rattle.calls.specs.Promises.{gives};
 ghost use Rattle.calls.specs.Ask.{wayBackFrom};
 ghost use Rattle.answers.specs.Answers.{saysBack};
-ghost use Rattle.answers.specs.Promises.{AnswersLen, AnswersFollowing, AnswersFollowingCourse, AnswersCourseAhead, AnswersRouteHome, AnswersHeading, AnswersGuide, AnswersWayBack, ReturnsCrumbs, ReturnsCourse, AnswersArrow};
+ghost use Rattle.answers.specs.Promises.{AnswersLen, AnswersFollowing, AnswersFollowingCourse, AnswersCourseAhead, AnswersRouteHome};
+ghost use Rattle.answers.specs.Promises.{AnswersHeading, AnswersGuide, AnswersWayBack, ReturnsCrumbs, ReturnsCourse, AnswersArrow};
 
 pub enum Count {
     Is(usize),

@@ -1,4 +1,5 @@
--- What `sqrtf`'s tests tell of x: that it is above zero, a zero, or neither; and of its bit pattern where it is above zero. Assumes nothing.
+-- What `sqrtf`'s tests tell of x: that it is above zero, a zero, or neither; and of its bit pattern where it is above zero. Assumes
+-- nothing.
 use mathlib.Core.Path.{_≡_, refl, sym, ap, _∙_, subst}
 use mathlib.Core.Logic.{_⊎_, inl, inr}
 use Prim.Native.Nat.{ℕ, zero, suc, _+_, _*_, _/_, _%_, _^_, _≤_, _<_}
@@ -41,7 +42,8 @@ less : (m : ℕ) (e : ℤ) (b : ℕ) → T (ltb (0 * b) (suc m * up e * 1))
 less m e b = lt→ltb (0 * b) (suc m * up e * 1) (subst (λ (x : ℕ). x < suc m * up e * 1) (sym (zero-mul b)) (some m e))
 
 same : (s : Bool) (a b : ℕ) → T (level s (0 * a * 1) false (0 * b))
-same s a b = subst (λ (x : ℕ). T (level s x false (0 * b))) (sym (nought a)) (subst (λ (x : ℕ). T (level s 0 false x)) (sym (zero-mul b)) (at s))
+same s a b =
+    subst (λ (x : ℕ). T (level s x false (0 * b))) (sym (nought a)) (subst (λ (x : ℕ). T (level s 0 false x)) (sym (zero-mul b)) (at s))
   where
     at : (t : Bool) → T (level t 0 false 0)
     at true = tt
@@ -97,7 +99,8 @@ neither-at (fin false (suc m) e) t u = absurd (T-not (lt (fin false 0 (pos 0)) (
 
 pub no-root : (x : Float) → lt (ofBits binary32 0) x ≡ false → eq x (ofBits binary32 0) ≡ false → root binary32 x ≡ nan
 no-root x e d =
-    neither-at x (subst (λ (b : Bool). T (not b)) (sym (ap (λ (z : Float). lt z x) (sym zero-is) ∙ e)) tt) (subst (λ (b : Bool). T (not b)) (sym (ap (eq x) (sym zero-is) ∙ d)) tt)
+    neither-at x (subst (λ (b : Bool). T (not b)) (sym (ap (λ (z : Float). lt z x) (sym zero-is) ∙ e)) tt)
+    (subst (λ (b : Bool). T (not b)) (sym (ap (eq x) (sym zero-is) ∙ d)) tt)
 
 -- ---- the bit pattern of a value above zero
 odd-neg : (d q k l : ℕ) → T (above (odd d true q k l)) → ⊥
@@ -126,12 +129,14 @@ at-ones t p = go (eqb t 0) p
 top-at : (b : ℕ) → 2139095040 ≤ b → T (above (ofBits binary32 b)) → ofBits binary32 b ≡ inf false
 top-at b l p = go (leb 2147483648 b) (leb→le 2147483648 b) (nleb→lt 2147483648 b) (ofBits-is b)
   where
-    go : (s : Bool) → (T s → 2147483648 ≤ b) → (T (not s) → b < 2147483648) → ofBits binary32 b ≡ ofFields binary32 s (b % 2147483648 / 8388608) (b % 8388608) → ofBits binary32 b ≡ inf false
+    go : (s : Bool) → (T s → 2147483648 ≤ b) → (T (not s) → b < 2147483648)
+        → ofBits binary32 b ≡ ofFields binary32 s (b % 2147483648 / 8388608) (b % 8388608) → ofBits binary32 b ≡ inf false
     go true h k e = absurd (fields-neg (b % 2147483648 / 8388608) (b % 8388608) (subst (λ (v : Float). T (above v)) e p))
     go false h k e =
         let u : b < 2147483648 = k tt in
         let f : b % 2147483648 / 8388608 ≡ 255 = omega arith in
-        let d : ofBits binary32 b ≡ ofFields binary32 false 255 (b % 8388608) = e ∙ ap (λ (y : ℕ). ofFields binary32 false y (b % 8388608)) f in
+        let d : ofBits binary32 b ≡ ofFields binary32 false 255 (b % 8388608) =
+        e ∙ ap (λ (y : ℕ). ofFields binary32 false y (b % 8388608)) f in
         d ∙ at-ones (b % 8388608) (subst (λ (v : Float). T (above v)) d p)
 
 inf-root : root binary32 (inf false) ≡ inf false

@@ -1,14 +1,16 @@
 -- What the tests of `as_u32` and `as_f32` tell of the value, and the steps of `as_f32` to a magnitude. Assumes nothing.
 use mathlib.Core.Path.{_≡_, refl, sym, ap, _∙_, subst}
 use Prim.Native.Nat.{ℕ, zero, suc, _+_, _-_, _*_, _/_, _^_, _≤_, _<_, min}
-use native.Mathlib.Nat.{lt-of-lt-of-le, le-trans, le-of-eq, mul-one, one-mul, mul-le-mul-right, div-lt-iff-lt-mul, le-div-iff-mul-le, lt-irrefl, zero-lt-suc, lt-of-le-of-lt}
+use native.Mathlib.Nat.{lt-of-lt-of-le, le-trans, le-of-eq, mul-one, one-mul, mul-le-mul-right, div-lt-iff-lt-mul, le-div-iff-mul-le}
+use native.Mathlib.Nat.{lt-irrefl, zero-lt-suc, lt-of-le-of-lt}
 use native.Mathlib.Numerals.{add-one}
 use native.Mathlib.Omega.{arith}
 use mathlib.Core.Bool.{Bool, true, false, not, cond, true≢false, false≢true}
 use lib.IntN.{ℤ, pos, negsuc, natAbs, _-ℤ_, +ℤ-comm, -ℤ-one}
 use lib.Signed.{leZ, nonNeg}
 use lib.Dec.{T, ltb, ltb→lt, lt→ltb, nltb→le, leb·zero, lit≤, T-not}
-use lib.Ieee.{Float, nan, inf, fin, Format, binary32, prec, emax, low, up, down, below, odd, units, round, neg, lt, eq, ne, isNan, ofInt, toUnsigned, toBits}
+use lib.Ieee.{Float, nan, inf, fin, Format, binary32, prec, emax, low, up, down, below, odd, units, round, neg, lt, eq, ne, isNan, ofInt}
+use lib.Ieee.{toUnsigned, toBits}
 use lib.Ieee.Fits.{down-pos, round-is}
 use lib.Ieee.Compare.{differs-from-itself}
 use mir.Syntax.{w64}
@@ -26,10 +28,12 @@ none = fin false 0 (pos 0)
 
 -- a fraction a / c that is below 2 ^ k has a whole part below it
 whole-below : (a c k : ℕ) → 0 < c → a * 1 < 1 * 2 ^ k * c → a / c < 2 ^ k
-whole-below a c k C h = div-lt-iff-lt-mul C .1 (subst (λ (x : ℕ). x < 2 ^ k * c) (mul-one a) (subst (λ (x : ℕ). a * 1 < x * c) (one-mul (2 ^ k)) h))
+whole-below a c k C h =
+    div-lt-iff-lt-mul C .1 (subst (λ (x : ℕ). x < 2 ^ k * c) (mul-one a) (subst (λ (x : ℕ). a * 1 < x * c) (one-mul (2 ^ k)) h))
 
 whole-from : (a c k : ℕ) → 0 < c → 1 * 2 ^ k * c ≤ a * 1 → 2 ^ k ≤ a / c
-whole-from a c k C h = le-div-iff-mul-le C .1 (subst (λ (x : ℕ). 2 ^ k * c ≤ x) (mul-one a) (subst (λ (x : ℕ). x * c ≤ a * 1) (one-mul (2 ^ k)) h))
+whole-from a c k C h =
+    le-div-iff-mul-le C .1 (subst (λ (x : ℕ). 2 ^ k * c ≤ x) (mul-one a) (subst (λ (x : ℕ). x * c ≤ a * 1) (one-mul (2 ^ k)) h))
 
 -- the two ends that the cut to 64 bits asks, and its result
 pub record Cut (x : Float) : Type 0 where
@@ -65,7 +69,8 @@ cut (fin false m e) h k =
 
 -- below 2 ^ 32 and not above 0
 nothing : (a c d : ℕ) → 0 < c → a * 1 ≤ 0 * d → a / c ≡ 0
-nothing a c d C h = to-zero (a / c) (div-lt-iff-lt-mul C .1 (lt-of-le-of-lt (le-trans (le-of-eq (sym (mul-one a))) (le-trans h (le-of-eq (none-of d)))) (subst (λ (z : ℕ). 0 < z) (sym (one-mul c)) C)))
+nothing a c d C h = to-zero (a / c) (div-lt-iff-lt-mul C .1 (lt-of-le-of-lt
+    (le-trans (le-of-eq (sym (mul-one a))) (le-trans h (le-of-eq (none-of d)))) (subst (λ (z : ℕ). 0 < z) (sym (one-mul c)) C)))
   where
     to-zero : (q : ℕ) → q < 1 → q ≡ 0
     to-zero q g = omega arith
@@ -92,11 +97,13 @@ unfolding lt eq toUnsigned
 too-large nan h k = absurd k
 too-large (inf true) h k = absurd h
 too-large (inf false) h k = refl
-too-large (fin true m e) h k = absurd (T-not (ltb 0 (m * up e * 1 + 1 * 2 ^ 32 * down e)) h (lt→ltb 0 (m * up e * 1 + 1 * 2 ^ 32 * down e) (some (m * up e * 1) (down e) (down-pos e))))
+too-large (fin true m e) h k = absurd (T-not (ltb 0 (m * up e * 1 + 1 * 2 ^ 32 * down e)) h
+    (lt→ltb 0 (m * up e * 1 + 1 * 2 ^ 32 * down e) (some (m * up e * 1) (down e) (down-pos e))))
   where
     some : (p c : ℕ) → 0 < c → 0 < p + 1 * 2 ^ 32 * c
     some p c g = omega arith
-too-large (fin false m e) h k = large (m * up e / down e) (whole-from (m * up e) (down e) 32 (down-pos e) (nltb→le (m * up e * 1) (1 * 2 ^ 32 * down e) h))
+too-large (fin false m e) h k =
+    large (m * up e / down e) (whole-from (m * up e) (down e) 32 (down-pos e) (nltb→le (m * up e * 1) (1 * 2 ^ 32 * down e) h))
   where
     large : (q : ℕ) → 2 ^ 32 ≤ q → 2 ^ 32 - 1 ≡ min q (2 ^ 32 - 1)
     large q g = omega arith
@@ -126,7 +133,8 @@ pub record Plain (d y : ℤ) : Type 0 where
 
 pub plain : (d : ℤ) → SFits w64 d → leZ (pos 0) (toZ w64 (ofZ w64 d)) ≡ true → Plain d (toZ w64 (ofZ w64 d))
 unfolding asF32
-plain (pos n) F t = subst (λ (y : ℤ). Plain (pos n) y) (sym (toZ-ofZ w64 (pos n) F)) (record { positive = tt; size = record { fits = wide n (F .sfits) }; result = refl })
+plain (pos n) F t = subst (λ (y : ℤ). Plain (pos n) y) (sym (toZ-ofZ w64 (pos n) F))
+    (record { positive = tt; size = record { fits = wide n (F .sfits) }; result = refl })
   where
     wide : (x : ℕ) → x < 2 ^ 63 → x < 2 ^ 64
     wide x h = omega arith
@@ -142,13 +150,15 @@ neg-units : (f : Format) (q k : ℕ) → neg (units f false q k) ≡ units f tru
 unfolding units neg
 neg-units f q k = go (ltb (q * 2 ^ k) (2 ^ (low f + suc (emax f))))
   where
-    go : (b : Bool) → neg (cond b (odd (suc (prec f)) false q k (low f)) (inf false)) ≡ cond b (odd (suc (prec f)) true q k (low f)) (inf true)
+    go : (b : Bool)
+        → neg (cond b (odd (suc (prec f)) false q k (low f)) (inf false)) ≡ cond b (odd (suc (prec f)) true q k (low f)) (inf true)
     go true = neg-odd (suc (prec f)) q k (low f)
     go false = refl
 
 negated : (f : Format) (n : ℕ) → neg (ofInt f (pos (n + 1))) ≡ ofInt f (negsuc n)
 unfolding ofInt
-negated f n = ap (λ (x : ℕ). neg (round f false x 1)) (add-one n) ∙ ap neg (round-is f false (suc n) 1) ∙ neg-units f _ _ ∙ sym (round-is f true (suc n) 1)
+negated f n = ap (λ (x : ℕ). neg (round f false x 1)) (add-one n) ∙ ap neg (round-is f false (suc n) 1) ∙ neg-units f _ _
+    ∙ sym (round-is f true (suc n) 1)
 
 pub record Below (d : ℤ) (y z : ℤ) : Type 0 where
   pub fits : SFits w64 y

@@ -1,9 +1,13 @@
--- Where `rootOf` rounds to: in units of the format's smallest value let the exact root of a / c be that of N, times 2 ^ j, with N from hid * hid up to 4 * hid * hid.
--- Then the result is q * 2 ^ j units, for the q whose midpoints q - 1/2 and q + 1/2 lie on either side of the root of N. Assumes nothing.
+-- Where `rootOf` rounds to: in units of the format's smallest value let the exact root of a / c be that of N, times 2 ^ j, with N from hid
+-- * hid up to 4 * hid * hid. Then the result is q * 2 ^ j units, for the q whose midpoints q - 1/2 and q + 1/2 lie on either side of the
+-- root of N. Assumes nothing.
 use mathlib.Core.Path.{_≡_, refl, sym, ap, _∙_, subst}
 use Prim.Native.Nat.{ℕ, zero, suc, _+_, _-_, _*_, _/_, _%_, _^_, _≤_, _<_}
 use mathlib.Core.Logic.{inl, inr}
-use native.Mathlib.Nat.{le-trans, le-of-eq, le-of-lt, lt-of-lt-of-le, lt-of-le-of-lt, le-antisymm, eq-or-lt-of-le, lt-of-not-le, not-le-of-lt, zero-lt-suc, mul-one, one-mul, mul-add, add-mul, add-assoc, add-comm, add-left-comm, mul-comm, mul-assoc, mul-left-comm, two-mul, mul-pos, mul-le-mul-right, mul-lt-mul-of-pos-right, pow-suc, pow-succ', le-div-iff-mul-le, div-lt-iff-lt-mul}
+use native.Mathlib.Nat.{le-trans, le-of-eq, le-of-lt, lt-of-lt-of-le, lt-of-le-of-lt, le-antisymm, eq-or-lt-of-le, lt-of-not-le}
+use native.Mathlib.Nat.{not-le-of-lt, zero-lt-suc, mul-one, one-mul, mul-add, add-mul, add-assoc, add-comm, add-left-comm, mul-comm}
+use native.Mathlib.Nat.{mul-assoc, mul-left-comm, two-mul, mul-pos, mul-le-mul-right, mul-lt-mul-of-pos-right, pow-suc, pow-succ'}
+use native.Mathlib.Nat.{le-div-iff-mul-le, div-lt-iff-lt-mul}
 use native.Mathlib.Omega.{arith}
 use mathlib.Core.Bool.{Bool, true, false, cond}
 use lib.Dec.{T, ltb, lt→ltb}
@@ -21,7 +25,8 @@ halves-from : (n h : ℕ) → h * h ≤ n → 2 * h ≤ halves n
 halves-from n h l = elim (eq-or-lt-of-le l) [ inl e ↦ le-of-eq (sym (halves-exact n h e)) | inr g ↦ le-of-lt (halves-above n h g) ]
 
 size-is : (n a : ℕ) → 2 ^ a ≤ n → n < 2 ^ suc a → size n ≡ suc a
-size-is n a lo hi = le-antisymm (size-le n (suc a) hi) (lt-of-not-le (λ (g : size n ≤ a). not-le-of-lt (lt-of-lt-of-le (size-lt n) (pow-mono g)) lo))
+size-is n a lo hi =
+    le-antisymm (size-le n (suc a) hi) (lt-of-not-le (λ (g : size n ≤ a). not-le-of-lt (lt-of-lt-of-le (size-lt n) (pow-mono g)) lo))
 
 -- ---- squares
 square-mul : (a b : ℕ) → a * b * (a * b) ≡ a * a * (b * b)
@@ -31,7 +36,9 @@ square-of-double : (x : ℕ) → 2 * x * (2 * x) ≡ 4 * (x * x)
 square-of-double x = let e : 2 * x * (2 * x) ≡ x * x + x * x + (x * x + x * x) = simp (two-mul, mul-add, add-mul, add-assoc) in omega arith
 
 square-of-next : (x : ℕ) → (x + 1) * (x + 1) ≡ x * x + 2 * x + 1
-square-of-next x = let e : (x + 1) * (x + 1) ≡ x * x + x + (x + 1) = simp (mul-add, add-mul, mul-one, one-mul, add-assoc, add-comm, add-left-comm) in omega arith
+square-of-next x =
+    let e : (x + 1) * (x + 1) ≡ x * x + x + (x + 1) = simp (mul-add, add-mul, mul-one, one-mul, add-assoc, add-comm, add-left-comm) in
+    omega arith
 
 -- the midpoints, doubled: d = 2 * q - 1 and 2 * q + 1
 under-mid : (n q d : ℕ) → d + 1 ≡ 2 * q → q * q < n + q → d * d < 4 * n
@@ -54,15 +61,18 @@ module _ (n q H : ℕ) (P : 0 < H) where
   above : (d : ℕ) → d + 1 ≡ 2 * q → q * q < n + q → 2 * (d * H) < halves (n * (2 * H * (2 * H)))
   above d e h =
       halves-above (n * (2 * H * (2 * H))) (d * H)
-      (lt-of-le-of-lt (le-of-eq (square-mul d H)) (lt-of-lt-of-le (mul-lt-mul-of-pos-right (under-mid n q d e h) (mul-pos P P)) (le-of-eq (sym (four-squares n H)))))
+      (lt-of-le-of-lt (le-of-eq (square-mul d H))
+      (lt-of-lt-of-le (mul-lt-mul-of-pos-right (under-mid n q d e h) (mul-pos P P)) (le-of-eq (sym (four-squares n H)))))
 
   below : n ≤ q * q + q → halves (n * (2 * H * (2 * H))) < 2 * ((2 * q + 1) * H)
   below h =
       halves-below (n * (2 * H * (2 * H))) ((2 * q + 1) * H)
-      (lt-of-le-of-lt (le-of-eq (four-squares n H)) (lt-of-lt-of-le (mul-lt-mul-of-pos-right (over-mid n q h) (mul-pos P P)) (le-of-eq (sym (square-mul (2 * q + 1) H)))))
+      (lt-of-le-of-lt (le-of-eq (four-squares n H))
+      (lt-of-lt-of-le (mul-lt-mul-of-pos-right (over-mid n q h) (mul-pos P P)) (le-of-eq (sym (square-mul (2 * q + 1) H)))))
 
   from : (g : ℕ) → g * g ≤ n → 2 * (g * (2 * H)) ≤ halves (n * (2 * H * (2 * H)))
-  from g h = halves-from (n * (2 * H * (2 * H))) (g * (2 * H)) (le-trans (le-of-eq (square-mul g (2 * H))) (mul-le-mul-right (2 * H * (2 * H)) h))
+  from g h =
+      halves-from (n * (2 * H * (2 * H))) (g * (2 * H)) (le-trans (le-of-eq (square-mul g (2 * H))) (mul-le-mul-right (2 * H * (2 * H)) h))
 
   upto : (g : ℕ) → n < g * g → halves (n * (2 * H * (2 * H))) < 2 * (g * (2 * H))
   upto g h =
@@ -83,16 +93,19 @@ pos-of (suc q) n a b c = zero-lt-suc q
 double-pred : (q : ℕ) → 0 < q → (2 * q - 1) + 1 ≡ 2 * q
 double-pred q h = omega arith
 
--- The number that is handed to `round` is m over 2 * (c * 2 ^ (L + 1)), and in units of 2 ^ j smallest values it is m / (4 * (c * 2 ^ j)): l stands for 2 ^ L and p for 2 ^ j.
+-- The number that is handed to `round` is m over 2 * (c * 2 ^ (L + 1)), and in units of 2 ^ j smallest values it is m / (4 * (c * 2 ^ j)):
+-- l stands for 2 ^ L and p for 2 ^ j.
 regroup : (c l p : ℕ) → 2 * (c * (2 * l)) * p ≡ 4 * (c * p) * l
 regroup c l p =
     let e : 2 * (c * (2 * l)) ≡ 4 * (c * l) = ap (λ (x : ℕ). 2 * x) (mul-left-comm c 2 l) ∙ sym (mul-assoc 2 2 (c * l)) in
-    ap (λ (x : ℕ). x * p) e ∙ mul-assoc 4 (c * l) p ∙ ap (λ (x : ℕ). 4 * x) (mul-assoc c l p ∙ ap (λ (x : ℕ). c * x) (mul-comm l p) ∙ sym (mul-assoc c p l)) ∙ sym (mul-assoc 4 (c * p) l)
+    ap (λ (x : ℕ). x * p) e ∙ mul-assoc 4 (c * l) p ∙ ap (λ (x : ℕ). 4 * x)
+    (mul-assoc c l p ∙ ap (λ (x : ℕ). c * x) (mul-comm l p) ∙ sym (mul-assoc c p l)) ∙ sym (mul-assoc 4 (c * p) l)
 
 -- what is under the root, with the scale l and the square of 2 * (c * p) in it
 scaled : (a c n l p : ℕ) → a * (l * l) ≡ n * (p * p) * c → a * c * (2 * l * (2 * l)) ≡ n * (2 * (c * p) * (2 * (c * p)))
 scaled a c n l p e =
-    let s : a * c * (2 * l * (2 * l)) ≡ 4 * (a * (l * l) * c) = ap (λ (x : ℕ). a * c * x) (square-of-double l) ∙ simp (mul-assoc, mul-comm, mul-left-comm) in
+    let s : a * c * (2 * l * (2 * l)) ≡ 4 * (a * (l * l) * c) =
+    ap (λ (x : ℕ). a * c * x) (square-of-double l) ∙ simp (mul-assoc, mul-comm, mul-left-comm) in
     s ∙ ap (λ (x : ℕ). 4 * (x * c)) e ∙ sym (four-squares n (c * p) ∙ simp (mul-assoc, mul-comm, mul-left-comm))
 
 -- the two midpoints and the two ends, in units of l
@@ -105,7 +118,8 @@ module _ (m q H l : ℕ) (L : 0 < l) where
 
   lower : (d : ℕ) → d + 1 ≡ 2 * q → 2 * (d * H) < m → 2 * (q * (4 * H * l)) < 2 * (m * l) + 4 * H * l
   lower d e h =
-      let a : d * H + H ≡ 2 * (q * H) = ap (λ (x : ℕ). d * H + x) (sym (one-mul H)) ∙ sym (add-mul d 1 H) ∙ ap (λ (x : ℕ). x * H) e ∙ mul-assoc 2 q H in
+      let a : d * H + H ≡ 2 * (q * H) =
+      ap (λ (x : ℕ). d * H + x) (sym (one-mul H)) ∙ sym (add-mul d 1 H) ∙ ap (λ (x : ℕ). x * H) e ∙ mul-assoc 2 q H in
       let b : 4 * (q * H) < m + 2 * H = omega arith in
       let c : 4 * (q * H) * l < (m + 2 * H) * l = mul-lt-mul-of-pos-right b L in
       let d : 4 * (q * H) * l ≡ 4 * (q * H * l) = mul-assoc 4 (q * H) l in
@@ -116,10 +130,12 @@ module _ (m q H l : ℕ) (L : 0 < l) where
 
   upper : m < 2 * ((2 * q + 1) * H) → 2 * (m * l) < 2 * (q * (4 * H * l)) + 4 * H * l
   upper h =
-      let a : (2 * q + 1) * H ≡ 2 * (q * H) + H = add-mul (2 * q) 1 H ∙ ap (λ (x : ℕ). x + 1 * H) (mul-assoc 2 q H) ∙ ap (λ (x : ℕ). 2 * (q * H) + x) (one-mul H) in
+      let a : (2 * q + 1) * H ≡ 2 * (q * H) + H =
+      add-mul (2 * q) 1 H ∙ ap (λ (x : ℕ). x + 1 * H) (mul-assoc 2 q H) ∙ ap (λ (x : ℕ). 2 * (q * H) + x) (one-mul H) in
       let b : m < 4 * (q * H) + 2 * H = omega arith in
       let c : m * l < (4 * (q * H) + 2 * H) * l = mul-lt-mul-of-pos-right b L in
-      let d : (4 * (q * H) + 2 * H) * l ≡ 4 * (q * H * l) + 2 * (H * l) = add-mul (4 * (q * H)) (2 * H) l ∙ ap (λ (x : ℕ). x + 2 * H * l) (mul-assoc 4 (q * H) l) ∙ ap (λ (x : ℕ). 4 * (q * H * l) + x) (mul-assoc 2 H l) in
+      let d : (4 * (q * H) + 2 * H) * l ≡ 4 * (q * H * l) + 2 * (H * l) = add-mul (4 * (q * H)) (2 * H) l
+      ∙ ap (λ (x : ℕ). x + 2 * H * l) (mul-assoc 4 (q * H) l) ∙ ap (λ (x : ℕ). 4 * (q * H * l) + x) (mul-assoc 2 H l) in
       let f = times q in
       let g = quarter in
       omega arith
@@ -131,7 +147,8 @@ module _ (m q H l : ℕ) (L : 0 < l) where
       four x = let e : x * (2 * H) ≡ 2 * (x * H) = mul-left-comm x 2 H in omega arith
 
   last : (g : ℕ) → m < 2 * (g * (2 * H)) → m * l < g * (4 * H * l)
-  last g h = lt-of-lt-of-le (mul-lt-mul-of-pos-right (lt-of-lt-of-le h (le-of-eq (sym (four g)))) L) (le-of-eq (sym (times g ∙ sym (mul-assoc 4 (g * H) l))))
+  last g h = lt-of-lt-of-le (mul-lt-mul-of-pos-right (lt-of-lt-of-le h (le-of-eq (sym (four g)))) L)
+      (le-of-eq (sym (times g ∙ sym (mul-assoc 4 (g * H) l))))
     where
       four : (x : ℕ) → 4 * (x * H) ≡ 2 * (x * (2 * H))
       four x = let e : x * (2 * H) ≡ 2 * (x * H) = mul-left-comm x 2 H in omega arith
@@ -144,7 +161,8 @@ rootOf-is f a c = refl
 pred-add : (p j : ℕ) → 2 ≤ p → suc (p - 1 + j) - p ≡ j
 pred-add p j h = omega arith
 
-pub rounded : (f : Format) (a c n j q : ℕ) → 0 < c → a * (2 ^ low f * 2 ^ low f) ≡ n * (2 ^ j * 2 ^ j) * c → hid f * hid f ≤ n → n < 2 * hid f * (2 * hid f) → Nearest n q
+pub rounded : (f : Format) (a c n j q : ℕ) → 0 < c → a * (2 ^ low f * 2 ^ low f) ≡ n * (2 ^ j * 2 ^ j) * c → hid f * hid f ≤ n
+    → n < 2 * hid f * (2 * hid f) → Nearest n q
     → rootOf f a c ≡ units f false q j
 rounded f a c n j q C e lo hi z =
     let l = 2 ^ low f in
@@ -162,14 +180,17 @@ rounded f a c n j q C e lo hi z =
     let top : (k : ℕ) → k * p * D ≡ k * (4 * H * l) = λ k. mul-assoc k p D ∙ ap (λ (x : ℕ). k * x) (mul-comm p D ∙ s) in
     let w = prec f - 1 + j in
     let W : 2 ^ w ≡ g * p = pow-add 2 (prec f - 1) j in
-    let reaches : 2 ^ w ≤ m * l / D = le-div-iff-mul-le D-pos .1 (le-trans (le-of-eq (ap (λ (x : ℕ). x * D) W ∙ top g)) (first m q H l L g (from n q H P g lo))) in
+    let reaches : 2 ^ w ≤ m * l / D =
+    le-div-iff-mul-le D-pos .1 (le-trans (le-of-eq (ap (λ (x : ℕ). x * D) W ∙ top g)) (first m q H l L g (from n q H P g lo))) in
     let W2 : 2 ^ suc w ≡ 2 * g * p = pow-succ' 2 w ∙ ap (λ (x : ℕ). 2 * x) W ∙ sym (mul-assoc 2 g p) in
-    let ends : m * l / D < 2 ^ suc w = div-lt-iff-lt-mul D-pos .1 (lt-of-lt-of-le (last m q H l L (2 * g) (upto n q H P (2 * g) hi)) (le-of-eq (sym (ap (λ (x : ℕ). x * D) W2 ∙ top (2 * g))))) in
+    let ends : m * l / D < 2 ^ suc w = div-lt-iff-lt-mul D-pos .1
+    (lt-of-lt-of-le (last m q H l L (2 * g) (upto n q H P (2 * g) hi)) (le-of-eq (sym (ap (λ (x : ℕ). x * D) W2 ∙ top (2 * g))))) in
     let k : size (m * l / D) - prec f ≡ j = ap (λ (x : ℕ). x - prec f) (size-is (m * l / D) w reaches ends) ∙ pred-add (prec f) j (two f) in
     let d : (2 * q - 1) + 1 ≡ 2 * q = double-pred q Q in
     let near : closest (m * l) (D * p) ≡ q =
     ap (λ (x : ℕ). closest (m * l) x) s
-    ∙ closest-is (m * l) (4 * H * l) q (subst (λ (x : ℕ). 0 < x) s (mul-pos D-pos (pow-pos j))) (lower m q H l L (2 * q - 1) d (above n q H P (2 * q - 1) d (z .0))) (upper m q H l L (below n q H P (z .1))) in
+    ∙ closest-is (m * l) (4 * H * l) q (subst (λ (x : ℕ). 0 < x) s (mul-pos D-pos (pow-pos j)))
+    (lower m q H l L (2 * q - 1) d (above n q H P (2 * q - 1) d (z .0))) (upper m q H l L (below n q H P (z .1))) in
     rootOf-is f a c
     ∙ ap (λ (h : ℕ). round f false (halves (a * c * (h * h))) (2 * (c * h))) (pow-succ' 2 (low f))
     ∙ ap (λ (x : ℕ). round f false (halves x) D) (scaled a c n l p e)

@@ -1,4 +1,5 @@
--- binary32 for the rules: its operations as operators, and its constants from decimal text. Document 01, "Fix": "each f32 operation rounds once, constants to nearest".
+-- binary32 for the rules: its operations as operators, and its constants from decimal text. Document 01, "Fix": "each f32 operation rounds
+-- once, constants to nearest".
 use Prim.Native.Nat.{ℕ}
 use mathlib.Core.Bool.{false}
 use lib.Ieee.{Float, binary32, round, add, sub, mul, div}

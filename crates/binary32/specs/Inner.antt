@@ -1,4 +1,5 @@
--- For the functions inside: what those below `sqrtf` promise of whole numbers, and the cast of a difference. `Root.antt` alone says what `sqrtf` gives.
+-- For the functions inside: what those below `sqrtf` promise of whole numbers, and the cast of a difference. `Root.antt` alone says what
+-- `sqrtf` gives.
 use Prim.Native.Nat.{ℕ, _+_, _*_, _≤_, _<_, _-_, _^_, min}
 use lib.IntN.{ℤ, pos, negsuc}
 use lib.Ieee.{Float, binary32, ofInt}

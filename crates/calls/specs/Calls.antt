@@ -1,5 +1,5 @@
--- The guide's calls as data, the questions each is asked, and what each does. Document 01, "Journal": "Its list holds `Homing`'s calls named above except
--- `new`, in any order"; "its arguments, to which the lent line belongs, whoever wrote it".
+-- The guide's calls as data, the questions each is asked, and what each does. Document 01, "Journal": "Its list holds `Homing`'s calls
+-- named above except `new`, in any order"; "its arguments, to which the lent line belongs, whoever wrote it".
 use Prim.Native.Nat.{ℕ}
 use mathlib.Core.Bool.{Bool, true, false}
 use mathlib.Core.List.{List, [], _∷_}

@@ -76,8 +76,8 @@ lined n unplaced held c =
 unfoldable pub awaiting : Course → Course
 awaiting c = lined 0 (c .unplaced || leb 2 (c .«line_len»)) false c
 
--- `reset`: a new ride starts where its first fix is. The east factor, the clocks, `retrace_len`, where the course was joined and matched, and whether
--- following may begin by itself stay, as in the Rust.
+-- `reset`: a new ride starts where its first fix is. The east factor, the clocks, `retrace_len`, where the course was joined and matched,
+-- and whether following may begin by itself stay, as in the Rust.
 unfoldable pub reset : State → Done (Unit {0})
 reset s =
     record {

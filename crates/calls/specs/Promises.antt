@@ -26,6 +26,6 @@ pub record Called (c : Call) (h : Homing) (entry : List Float) (r : Homing) (exi
   -- "changes nothing"
   pub refused : (asks (length entry) c (stateOf h entry) ≡ 0 → ⊥) → (r ≡ h) × (exit ≡ entry)
   pub size : length exit ≡ length entry
-  -- The numbers behind the crumbs held before and after are unchanged. Free are those behind the crumbs held after, where there are fewer, and the
-  -- numbers of the window that belong to no waiting place.
+  -- The numbers behind the crumbs held before and after are unchanged. Free are those behind the crumbs held after, where there are fewer,
+  -- and the numbers of the window that belong to no waiting place.
   pub beyond : behind (max (h .trail .len) (r .trail .len)) exit ≡ behind (max (h .trail .len) (r .trail .len)) entry

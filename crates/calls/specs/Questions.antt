@@ -102,7 +102,8 @@ countsFit s =
 
 unfoldable pub spotsFit : State → Bool
 spotsFit s =
-    spotFits (s .here) && spotFits (s .motion .from) && spotFits (s .follow .matched) && spotFits (s .course .fix) && spotFits (s .lap .start)
+    spotFits (s .here) && spotFits (s .motion .from) && spotFits (s .follow .matched) && spotFits (s .course .fix)
+    && spotFits (s .lap .start)
 
 unfoldable pub numbersFit : State → Bool
 numbersFit s =

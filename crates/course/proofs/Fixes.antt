@@ -49,7 +49,8 @@ module _ (f : Frame) (lat lon : ℤ) (a : mag lat < 2 ^ 31) (b : mag lon < 2 ^ 3
       ∙ (ap (λ y. locatedFrom Missing y f) same ∙ sym (ap (λ o. locatedFrom o (record { lat = lat; lon = lon }) f) told))
 
   -- the place of a fix
-  pub framed-handed : {p : Point} → p ≡ framed f (record { lat = handed lat; lon = handed lon }) → p ≡ framed f (record { lat = lat; lon = lon })
+  pub framed-handed : {p : Point} → p ≡ framed f (record { lat = handed lat; lon = handed lon })
+      → p ≡ framed f (record { lat = lat; lon = lon })
   framed-handed e = e ∙ ap (framed f) same
 
   -- seen from the origin

@@ -1,5 +1,5 @@
--- The course line. Document 01, "Course line": "Points are placed last first, along counted from the finish. Fewer than 2 points: line emptied. No
--- origin yet: line emptied, `unplaced` set. Both are outcomes, not refusals."
+-- The course line. Document 01, "Course line": "Points are placed last first, along counted from the finish. Fewer than 2 points: line
+-- emptied. No origin yet: line emptied, `unplaced` set. Both are outcomes, not refusals."
 use Prim.Native.Nat.{ℕ}
 use mathlib.Core.Bool.{Bool, true, false, _&&_, cond}
 use mathlib.Core.List.{List, [], _∷_, reverse}

@@ -44,7 +44,8 @@ getD-crumbs (suc n) b (suc i) d h = getD-crumbs n (drop stride b) i d (omega ari
 -- the crumbs from place i on begin with the one there
 pub drop-crumbs : (n : ℕ) (b : List Float) (i : ℕ) → i < n → drop i (crumbs n b) ≡ crumbAt b i ∷ drop (suc i) (crumbs n b)
 drop-crumbs n b i h =
-    drop-cons (crumbs n b) i (crumbAt b i) (rw length-crumbs h) ∙ ap (λ x. x ∷ drop (suc i) (crumbs n b)) (getD-crumbs n b i (crumbAt b i) h)
+    drop-cons (crumbs n b) i (crumbAt b i) (rw length-crumbs h)
+    ∙ ap (λ x. x ∷ drop (suc i) (crumbs n b)) (getD-crumbs n b i (crumbAt b i) h)
 
 -- cut to a front part
 pub take-crumbs : (m n : ℕ) (b : List Float) → m ≤ n → take m (crumbs n b) ≡ crumbs m b

@@ -1,4 +1,5 @@
--- Document 01, "Journal": "A choice strikes out any of the kept and leaves the rest in order; a place kept twice is two. It begins with the first".
+-- Document 01, "Journal": "A choice strikes out any of the kept and leaves the rest in order; a place kept twice is two. It begins with the
+-- first".
 use mathlib.Core.List.{List, [], _∷_}
 use mathlib.Core.Option.{Option, none, some}
 

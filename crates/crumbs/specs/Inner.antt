@@ -18,7 +18,8 @@ pub record Realongs (n : ℕ) (entry exit : List Float) : Type 0 where
 unfoldable pub putAt : List Float → ℕ → Crumb → List Float
 putAt b i c = set (set (set b (stride * i) (c .east)) (stride * i + 1) (c .north)) (stride * i + 2) (c .along)
 
--- "The held crumbs come back as the front part of the lent buffer." Where n crumbs are more than the buffer b has room for, the part r is empty.
+-- "The held crumbs come back as the front part of the lent buffer." Where n crumbs are more than the buffer b has room for, the part r is
+-- empty.
 pub record Front (n : ℕ) (b r : List Float) : Type 0 where
   pub numbers : n ≤ capacity (length b) → r ≡ inFront n b
   pub held : n ≤ capacity (length b) → crumbs (capacity (length r)) r ≡ crumbs n b

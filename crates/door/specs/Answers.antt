@@ -25,14 +25,17 @@ use Rattle.door.specs.GuideWords.{guideSize}
 
 -- ---- an answer as values
 -- The call was asked: `answer` keeps the call's promise, and the export's number and values are those of `answer`.
-pub record AnsweredBy {R A W : Type 0} (promise : R → Type 0) (says : R → Answer A) (write : A → W → W) (number : ℕ) (was is : W) : Type 0 where
+pub record AnsweredBy {R A W : Type 0} (promise : R → Type 0) (says : R → Answer A) (write : A → W → W) (number : ℕ) (was is : W) :
+    Type 0 where
   pub answer : R
   pub promised : promise answer
   pub told : number ≡ numberOf (says answer)
   pub written : is ≡ valuesOf write (says answer) was
 
--- An export that reads `held` from what it is lent: the call is asked about what is held. Where nothing is, the number is `unread`, and the values stay.
-pub record Answers {S R A W : Type 0} (held : Option S) (unread : ℕ) (promise : S → R → Type 0) (says : R → Answer A) (write : A → W → W) (number : ℕ) (was is : W) : Type 0 where
+-- An export that reads `held` from what it is lent: the call is asked about what is held. Where nothing is, the number is `unread`, and the
+-- values stay.
+pub record Answers {S R A W : Type 0} (held : Option S) (unread : ℕ) (promise : S → R → Type 0) (says : R → Answer A) (write : A → W → W)
+    (number : ℕ) (was is : W) : Type 0 where
   pub nothing : held ≡ none → (number ≡ unread) × (is ≡ was)
   pub asked : (h : S) → held ≡ some h → AnsweredBy (promise h) says write number was is
 
@@ -62,7 +65,8 @@ pub record AheadValues : Type 0 where
   pub point : SpotValues
 
 abbrev pub aheadValues : ℕ → ℕ → ℕ → Float → Float → AheadValues
-aheadValues known count matched east north = record { known = known; count = count; point = record { matched = matched; east = east; north = north } }
+aheadValues known count matched east north =
+    record { known = known; count = count; point = record { matched = matched; east = east; north = north } }
 
 unfoldable pub leading : Option ask.Ahead → AheadValues → AheadValues
 leading (some a) was = record { known = 1; count = a .end; point = spotted (a .point) (was .point) }
@@ -110,8 +114,8 @@ returning (some b) was = record { known = 1; direct = b .direct; track = b .trac
 returning none was = record { known = 0; direct = was .direct; track = was .track }
 
 -- ---- a part of a lent buffer
--- `crumbs`, `course`: the call returns `part`, the front part of the buffer b, and `count` is how many crumbs it has. "where a part is returned that part is
--- empty" on a refusal, and the count is then 0.
+-- `crumbs`, `course`: the call returns `part`, the front part of the buffer b, and `count` is how many crumbs it has. "where a part is
+-- returned that part is empty" on a refusal, and the count is then 0.
 pub record Returns (promise : ℕ → List Float → Type 0) (b : List Float) (number count : ℕ) : Type 0 where
   pub part : List Float
   pub promised : promise number part
@@ -119,6 +123,7 @@ pub record Returns (promise : ℕ → List Float → Type 0) (b : List Float) (n
   pub front : part ≡ inFront count b
   pub refused : number ≢ 0 → count ≡ 0
 
-pub record Parts {S : Type 0} (held : Option S) (unread : ℕ) (promise : S → ℕ → List Float → Type 0) (b : List Float) (number count : ℕ) : Type 0 where
+pub record Parts {S : Type 0} (held : Option S) (unread : ℕ) (promise : S → ℕ → List Float → Type 0) (b : List Float) (number count : ℕ) :
+    Type 0 where
   pub nothing : held ≡ none → (number ≡ unread) × (count ≡ 0)
   pub asked : (h : S) → held ≡ some h → Returns (promise h) b number count

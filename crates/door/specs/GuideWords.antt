@@ -1,5 +1,5 @@
--- A guide as ten words: mode, following, course, course_near, direct_m, track_m, off_m, bearing, whether a heading is known, and the heading,
--- 0 where it is not. They are written as in a stored state (`guideWords`).
+-- A guide as ten words: mode, following, course, course_near, direct_m, track_m, off_m, bearing, whether a heading is known, and the
+-- heading, 0 where it is not. They are written as in a stored state (`guideWords`).
 use Prim.Native.Nat.{ℕ}
 use mathlib.Core.Path.{_≡_}
 use mathlib.Core.Bool.{Bool, true, _&&_, cond}

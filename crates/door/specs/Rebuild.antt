@@ -24,8 +24,8 @@ use Rattle.door.specs.Through.{numberOf, noState, noStateWith, Leaves}
 use Rattle.door.specs.Answers.{AnsweredBy, flagged}
 
 -- ---- a rebuild's words
--- What becomes of the words v when a call gives the rebuild r: taken, they hold that rebuild, and what lies behind it is as it was; refused, they are as
--- they were.
+-- What becomes of the words v when a call gives the rebuild r: taken, they hold that rebuild, and what lies behind it is as it was;
+-- refused, they are as they were.
 pub record LeavesRebuild (number : ℕ) (r : Rebuild) (v v′ : List ℕ) : Type 0 where
   pub taken : number ≡ 0 → StoresRebuild r v v′
   pub refused : number ≢ 0 → v′ ≡ v
@@ -58,7 +58,8 @@ pub record OnBoth (unread : ℕ) (untouched : Type 0) (does : Rebuild → Homing
   pub both : (r : Rebuild) (h : Homing) → storedRebuild (s .rebuild) ≡ some r → stored (s .words) (s .numbers) ≡ some h → does r h
 
 -- `step` on the crumb buffer b, whose flag becomes `is`
-pub record StepDone (budget upper : ℕ) (file : List ℕ) (b : List Float) (was : ℕ) (s : Slices) (r : Rebuild) (h : Homing) (number : ℕ) (b′ : List Float) (is : ℕ) (s′ : Slices) : Type 0 where
+pub record StepDone (budget upper : ℕ) (file : List ℕ) (b : List Float) (was : ℕ) (s : Slices) (r : Rebuild) (h : Homing) (number : ℕ)
+    (b′ : List Float) (is : ℕ) (s′ : Slices) : Type 0 where
   pub made : AnsweredBy (λ c. Steps budget upper file r h b c b′) (λ (c : Stepped). saysVerdict (c .answer)) flagged number was is
   pub rebuilt : LeavesRebuild number (made .answer .rebuild) (s .rebuild) (s′ .rebuild)
   pub state : Leaves number (made .answer .homing) (s .words) (s .numbers) (s′ .words) (s′ .numbers)

@@ -24,7 +24,8 @@ abbrev pub refusalOf : Thinned → ℕ
 refusalOf (Left n t k) = 0
 refusalOf (Refused number) = number
 
-pub record ThinsLent (n : ℕ) (entry : List Float) (tolerance : Float) (passes : ℕ) (exit : List Float) (tolerance′ : Float) (passes′ refused left : ℕ) : Type 0 where
+pub record ThinsLent (n : ℕ) (entry : List Float) (tolerance : Float) (passes : ℕ) (exit : List Float) (tolerance′ : Float)
+    (passes′ refused left : ℕ) : Type 0 where
   pub answer : Thinned
   pub thins : ThinDone n tolerance entry exit answer
   pub count : left ≡ leftOf answer

@@ -38,14 +38,15 @@ abbrev pub noStateWith : ℕ → ℕ
 noStateWith size = unless (question1 size) 1 orElse noState
 
 -- ---- a call that changes the guide
--- What becomes of the words w and the numbers n when a call gives the state h: taken, they hold that state, and what lies behind it is as it was; refused,
--- they are as they were.
+-- What becomes of the words w and the numbers n when a call gives the state h: taken, they hold that state, and what lies behind it is as
+-- it was; refused, they are as they were.
 pub record Leaves (number : ℕ) (h : Homing) (w : List ℕ) (n : List Float) (w′ : List ℕ) (n′ : List Float) : Type 0 where
   pub taken : number ≡ 0 → Stores h w n w′ n′
   pub refused : number ≢ 0 → (w′ ≡ w) × (n′ ≡ n)
 
--- `does h r number`: the call takes the state h to r and is refused by the question with this number, 0 where by none. `unread` is the number where the
--- slices hold no state, and `untouched` says that what else is lent is as it was.
-pub record ChangesStored (unread : ℕ) (does : Homing → Homing → ℕ → Type 0) (untouched : Type 0) (w : List ℕ) (n : List Float) (number : ℕ) (w′ : List ℕ) (n′ : List Float) : Type 0 where
+-- `does h r number`: the call takes the state h to r and is refused by the question with this number, 0 where by none. `unread` is the
+-- number where the slices hold no state, and `untouched` says that what else is lent is as it was.
+pub record ChangesStored (unread : ℕ) (does : Homing → Homing → ℕ → Type 0) (untouched : Type 0) (w : List ℕ) (n : List Float) (number : ℕ)
+    (w′ : List ℕ) (n′ : List Float) : Type 0 where
   pub nothing : stored w n ≡ none → (number ≡ unread) × ((w′ ≡ w) × ((n′ ≡ n) × untouched))
   pub state : (h : Homing) → stored w n ≡ some h → (r : Homing) × (does h r number × Leaves number r w n w′ n′)

@@ -20,13 +20,15 @@ ghost use mathlib.Core.List.{_++_};
 ghost use Prim.Native.Nat.{_≤_, _<_};
 ghost use lib.ListN.{length, drop};
 ghost use Rattle.answers.specs.Answers.{saysCount, saysVerdict, saysAhead, saysRiding, saysShowing, saysBack, saysAngle};
-ghost use Rattle.answers.specs.Promises.{AnswersLen, AnswersFollowing, AnswersFollowingCourse, AnswersCourseAhead, AnswersRouteHome, AnswersHeading, AnswersGuide, AnswersWayBack, ReturnsCrumbs, ReturnsCourse, AnswersArrow};
+ghost use Rattle.answers.specs.Promises.{AnswersLen, AnswersFollowing, AnswersFollowingCourse, AnswersCourseAhead, AnswersRouteHome};
+ghost use Rattle.answers.specs.Promises.{AnswersHeading, AnswersGuide, AnswersWayBack, ReturnsCrumbs, ReturnsCourse, AnswersArrow};
 ghost use Rattle.stored.specs.Fields.{modeOfTag, modeTag, headingOf, headingFlag, headingIn};
 ghost use Rattle.stored.specs.Stored.{stored};
 ghost use Rattle.door.specs.Through.{numberOf, noState, noStateWith, valuesOf};
 ghost use Rattle.stored.specs.Parts.{guideRead, guideWords};
 ghost use Rattle.door.specs.GuideWords.{guideSize, areGuide, guideOf};
-ghost use Rattle.door.specs.Answers.{Answers, Parts, itself, flagged, spotted, leading, aheadValues, riding, headingValues, showing, guideValues, withRoom, returning, backValues};
+ghost use Rattle.door.specs.Answers.{Answers, Parts, itself, flagged, spotted, leading, aheadValues, riding, headingValues, showing};
+ghost use Rattle.door.specs.Answers.{guideValues, withRoom, returning, backValues};
 
 // How many words a guide takes.
 const GUIDE: usize = 10;
@@ -40,7 +42,8 @@ const ANGLE_MOST: u32 = 0xFFFF;
 
 #[no_mangle]
 pub extern "C" fn cittumay_len(words: &[u64], numbers: &[f32], len: &mut usize) -> u8
-    ensures { λ r. ⌜ Answers (stored (now (words .entry)) (now (numbers .entry))) noState AnswersLen saysCount itself r (now (len .entry)) (now (len .exit)) ⌝ }
+    ensures { λ r. ⌜ Answers (stored (now (words .entry)) (now (numbers .entry))) noState AnswersLen saysCount itself r (now (len .entry))
+        (now (len .exit)) ⌝ }
 {
     let there = stored::load(words, numbers);
     if !there.held {
@@ -59,7 +62,8 @@ pub extern "C" fn cittumay_len(words: &[u64], numbers: &[f32], len: &mut usize) 
 
 #[no_mangle]
 pub extern "C" fn cittumay_following(words: &[u64], numbers: &[f32], yes: &mut u8) -> u8
-    ensures { λ r. ⌜ Answers (stored (now (words .entry)) (now (numbers .entry))) noState AnswersFollowing saysVerdict flagged r (now (yes .entry)) (now (yes .exit)) ⌝ }
+    ensures { λ r. ⌜ Answers (stored (now (words .entry)) (now (numbers .entry))) noState AnswersFollowing saysVerdict flagged r
+        (now (yes .entry)) (now (yes .exit)) ⌝ }
 {
     let there = stored::load(words, numbers);
     if !there.held {
@@ -72,7 +76,8 @@ pub extern "C" fn cittumay_following(words: &[u64], numbers: &[f32], yes: &mut u
 
 #[no_mangle]
 pub extern "C" fn cittumay_following_course(words: &[u64], numbers: &[f32], yes: &mut u8) -> u8
-    ensures { λ r. ⌜ Answers (stored (now (words .entry)) (now (numbers .entry))) noState AnswersFollowingCourse saysVerdict flagged r (now (yes .entry)) (now (yes .exit)) ⌝ }
+    ensures { λ r. ⌜ Answers (stored (now (words .entry)) (now (numbers .entry))) noState AnswersFollowingCourse saysVerdict flagged r
+        (now (yes .entry)) (now (yes .exit)) ⌝ }
 {
     let there = stored::load(words, numbers);
     if !there.held {
@@ -84,7 +89,8 @@ pub extern "C" fn cittumay_following_course(words: &[u64], numbers: &[f32], yes:
 }
 
 fn put_spot(point: Spot, matched: &mut u8, east: &mut f32, north: &mut f32)
-    ensures { λ _. ⌜ record { matched = now (matched .exit); east = now (east .exit); north = now (north .exit) } ≡ spotted point (record { matched = now (matched .entry); east = now (east .entry); north = now (north .entry) }) ⌝ }
+    ensures { λ _. ⌜ record { matched = now (matched .exit); east = now (east .exit); north = now (north .exit) }
+        ≡ spotted point (record { matched = now (matched .entry); east = now (east .entry); north = now (north .entry) }) ⌝ }
 {
     let Spot::At(p) = point else {
         *matched = 0;
@@ -104,7 +110,9 @@ fn put_ahead(
     north: &mut f32,
 ) -> u8
     ensures { λ r. ⌜ r ≡ numberOf (saysAhead answer) ⌝ }
-    ensures { λ r. ⌜ aheadValues (now (known .exit)) (now (count .exit)) (now (matched .exit)) (now (east .exit)) (now (north .exit)) ≡ valuesOf leading (saysAhead answer) (aheadValues (now (known .entry)) (now (count .entry)) (now (matched .entry)) (now (east .entry)) (now (north .entry))) ⌝ }
+    ensures { λ r. ⌜ aheadValues (now (known .exit)) (now (count .exit)) (now (matched .exit)) (now (east .exit)) (now (north .exit))
+        ≡ valuesOf leading (saysAhead answer)
+        (aheadValues (now (known .entry)) (now (count .entry)) (now (matched .entry)) (now (east .entry)) (now (north .entry))) ⌝ }
 {
     match answer {
         Ahead::Along(n, point) => {
@@ -134,7 +142,9 @@ pub extern "C" fn cittumay_course_ahead(
     east: &mut f32,
     north: &mut f32,
 ) -> u8
-    ensures { λ r. ⌜ Answers (stored (now (words .entry)) (now (numbers .entry))) noState AnswersCourseAhead saysAhead leading r (aheadValues (now (known .entry)) (now (count .entry)) (now (matched .entry)) (now (east .entry)) (now (north .entry))) (aheadValues (now (known .exit)) (now (count .exit)) (now (matched .exit)) (now (east .exit)) (now (north .exit))) ⌝ }
+    ensures { λ r. ⌜ Answers (stored (now (words .entry)) (now (numbers .entry))) noState AnswersCourseAhead saysAhead leading r
+        (aheadValues (now (known .entry)) (now (count .entry)) (now (matched .entry)) (now (east .entry)) (now (north .entry)))
+        (aheadValues (now (known .exit)) (now (count .exit)) (now (matched .exit)) (now (east .exit)) (now (north .exit))) ⌝ }
 {
     let there = stored::load(words, numbers);
     if !there.held {
@@ -156,7 +166,9 @@ pub extern "C" fn cittumay_route_home(
     east: &mut f32,
     north: &mut f32,
 ) -> u8
-    ensures { λ r. ⌜ Answers (stored (now (words .entry)) (now (numbers .entry))) noState AnswersRouteHome saysAhead leading r (aheadValues (now (known .entry)) (now (count .entry)) (now (matched .entry)) (now (east .entry)) (now (north .entry))) (aheadValues (now (known .exit)) (now (count .exit)) (now (matched .exit)) (now (east .exit)) (now (north .exit))) ⌝ }
+    ensures { λ r. ⌜ Answers (stored (now (words .entry)) (now (numbers .entry))) noState AnswersRouteHome saysAhead leading r
+        (aheadValues (now (known .entry)) (now (count .entry)) (now (matched .entry)) (now (east .entry)) (now (north .entry)))
+        (aheadValues (now (known .exit)) (now (count .exit)) (now (matched .exit)) (now (east .exit)) (now (north .exit))) ⌝ }
 {
     let there = stored::load(words, numbers);
     if !there.held {
@@ -168,7 +180,8 @@ pub extern "C" fn cittumay_route_home(
 }
 
 fn put_heading(way: Heading, known: &mut u8, heading: &mut u16)
-    ensures { λ _. ⌜ headingValues (now (known .exit)) (now (heading .exit)) ≡ riding way (headingValues (now (known .entry)) (now (heading .entry))) ⌝ }
+    ensures { λ _. ⌜ headingValues (now (known .exit)) (now (heading .exit))
+        ≡ riding way (headingValues (now (known .entry)) (now (heading .entry))) ⌝ }
 {
     let Heading::Known(angle) = way else {
         *known = 0;
@@ -186,7 +199,8 @@ pub extern "C" fn cittumay_heading(
     known: &mut u8,
     heading: &mut u16,
 ) -> u8
-    ensures { λ r. ⌜ Answers (stored (now (words .entry)) (now (numbers .entry))) noState AnswersHeading saysRiding riding r (headingValues (now (known .entry)) (now (heading .entry))) (headingValues (now (known .exit)) (now (heading .exit))) ⌝ }
+    ensures { λ r. ⌜ Answers (stored (now (words .entry)) (now (numbers .entry))) noState AnswersHeading saysRiding riding r
+        (headingValues (now (known .entry)) (now (heading .entry))) (headingValues (now (known .exit)) (now (heading .exit))) ⌝ }
 {
     let there = stored::load(words, numbers);
     if !there.held {
@@ -262,7 +276,9 @@ pub extern "C" fn cittumay_guide(
     shown: &mut u8,
     guide: &mut [u32],
 ) -> u8
-    ensures { λ r. ⌜ Answers (withRoom (now (guide .entry)) (stored (now (words .entry)) (now (numbers .entry)))) noState AnswersGuide saysShowing showing r (guideValues (now (shown .entry)) (now (guide .entry))) (guideValues (now (shown .exit)) (now (guide .exit))) ⌝ }
+    ensures { λ r. ⌜ Answers
+        (withRoom (now (guide .entry)) (stored (now (words .entry)) (now (numbers .entry)))) noState AnswersGuide saysShowing showing r
+        (guideValues (now (shown .entry)) (now (guide .entry))) (guideValues (now (shown .exit)) (now (guide .exit))) ⌝ }
 {
     if guide.len() < GUIDE {
         return NO_STATE;
@@ -300,7 +316,9 @@ pub extern "C" fn cittumay_way_back(
     direct: &mut u32,
     track: &mut u32,
 ) -> u8
-    ensures { λ r. ⌜ Answers (stored (now (words .entry)) (now (numbers .entry))) (noStateWith (length (now (crumbs .entry)))) (λ h. AnswersWayBack h (now (crumbs .entry))) saysBack returning r (backValues (now (known .entry)) (now (direct .entry)) (now (track .entry))) (backValues (now (known .exit)) (now (direct .exit)) (now (track .exit))) ⌝ }
+    ensures { λ r. ⌜ Answers (stored (now (words .entry)) (now (numbers .entry))) (noStateWith (length (now (crumbs .entry))))
+        (λ h. AnswersWayBack h (now (crumbs .entry))) saysBack returning r (backValues (now (known .entry)) (now (direct .entry))
+        (now (track .entry))) (backValues (now (known .exit)) (now (direct .exit)) (now (track .exit))) ⌝ }
 {
     let there = stored::load(words, numbers);
     if !there.held {
@@ -339,7 +357,8 @@ pub extern "C" fn cittumay_crumbs(
     crumbs: &[f32],
     len: &mut usize,
 ) -> u8
-    ensures { λ r. ⌜ Parts (stored (now (words .entry)) (now (numbers .entry))) (noStateWith (length (now (crumbs .entry)))) (λ h. ReturnsCrumbs h (now (crumbs .entry))) (now (crumbs .entry)) r (now (len .exit)) ⌝ }
+    ensures { λ r. ⌜ Parts (stored (now (words .entry)) (now (numbers .entry))) (noStateWith (length (now (crumbs .entry))))
+        (λ h. ReturnsCrumbs h (now (crumbs .entry))) (now (crumbs .entry)) r (now (len .exit)) ⌝ }
 {
     let there = stored::load(words, numbers);
     if !there.held {
@@ -360,7 +379,8 @@ pub extern "C" fn cittumay_course(
     line: &[f32],
     len: &mut usize,
 ) -> u8
-    ensures { λ r. ⌜ Parts (stored (now (words .entry)) (now (numbers .entry))) noState (λ h. ReturnsCourse h (now (line .entry))) (now (line .entry)) r (now (len .exit)) ⌝ }
+    ensures { λ r. ⌜ Parts (stored (now (words .entry)) (now (numbers .entry))) noState (λ h. ReturnsCourse h (now (line .entry)))
+        (now (line .entry)) r (now (len .exit)) ⌝ }
 {
     let there = stored::load(words, numbers);
     if !there.held {
@@ -428,7 +448,8 @@ fn guide_at(words: &[u32]) -> Guide
 // `guide` is a guide's words as `guide` writes them; words that are no guide are refused with 10.
 #[no_mangle]
 pub extern "C" fn cittumay_arrow(guide: &[u32], arrow: &mut u16) -> u8
-    ensures { λ r. ⌜ Answers (guideOf (now (guide .entry))) noState AnswersArrow saysAngle itself r (now (arrow .entry)) (now (arrow .exit)) ⌝ }
+    ensures { λ r. ⌜ Answers (guideOf (now (guide .entry))) noState AnswersArrow saysAngle itself r (now (arrow .entry))
+        (now (arrow .exit)) ⌝ }
 {
     if !are_guide(guide) {
         return NO_STATE;

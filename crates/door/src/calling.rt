@@ -130,7 +130,8 @@ pub extern "C" fn cittumay_set_course(
     lats: &[i32],
     lons: &[i32],
 ) -> u8
-    ensures { λ r. ⌜ SetCourse (fixes (now (lats .entry)) (now (lons .entry))) (now (line .entry)) (now (line .exit)) (now (words .entry)) (now (numbers .entry)) r (now (words .exit)) (now (numbers .exit)) ⌝ }
+    ensures { λ r. ⌜ SetCourse (fixes (now (lats .entry)) (now (lons .entry))) (now (line .entry)) (now (line .exit)) (now (words .entry))
+        (now (numbers .entry)) r (now (words .exit)) (now (numbers .exit)) ⌝ }
 {
     let read = stored::load(words, numbers);
     if !read.held {
@@ -152,7 +153,8 @@ fn observe_place(
     now_ms: u64,
     event: &mut u8,
 ) -> u8
-    ensures { λ r. ⌜ Observe (now (line .entry)) place «now_ms» (now (crumbs .entry)) (now (event .entry)) (now (crumbs .exit)) (now (event .exit)) (now (words .entry)) (now (numbers .entry)) r (now (words .exit)) (now (numbers .exit)) ⌝ }
+    ensures { λ r. ⌜ Observe (now (line .entry)) place «now_ms» (now (crumbs .entry)) (now (event .entry)) (now (crumbs .exit))
+        (now (event .exit)) (now (words .entry)) (now (numbers .entry)) r (now (words .exit)) (now (numbers .exit)) ⌝ }
 {
     let read = stored::load(words, numbers);
     if !read.held {
@@ -178,7 +180,8 @@ pub extern "C" fn cittumay_observe(
     now_ms: u64,
     event: &mut u8,
 ) -> u8
-    ensures { λ r. ⌜ Observe (now (line .entry)) (places.At lat lon) «now_ms» (now (crumbs .entry)) (now (event .entry)) (now (crumbs .exit)) (now (event .exit)) (now (words .entry)) (now (numbers .entry)) r (now (words .exit)) (now (numbers .exit)) ⌝ }
+    ensures { λ r. ⌜ Observe (now (line .entry)) (places.At lat lon) «now_ms» (now (crumbs .entry)) (now (event .entry))
+        (now (crumbs .exit)) (now (event .exit)) (now (words .entry)) (now (numbers .entry)) r (now (words .exit)) (now (numbers .exit)) ⌝ }
 {
     observe_place(
         words,
@@ -201,7 +204,8 @@ pub extern "C" fn cittumay_observe_missing(
     now_ms: u64,
     event: &mut u8,
 ) -> u8
-    ensures { λ r. ⌜ Observe (now (line .entry)) places.Missing «now_ms» (now (crumbs .entry)) (now (event .entry)) (now (crumbs .exit)) (now (event .exit)) (now (words .entry)) (now (numbers .entry)) r (now (words .exit)) (now (numbers .exit)) ⌝ }
+    ensures { λ r. ⌜ Observe (now (line .entry)) places.Missing «now_ms» (now (crumbs .entry)) (now (event .entry)) (now (crumbs .exit))
+        (now (event .exit)) (now (words .entry)) (now (numbers .entry)) r (now (words .exit)) (now (numbers .exit)) ⌝ }
 {
     observe_place(words, numbers, crumbs, line, Place::Missing, now_ms, event)
 }
@@ -216,7 +220,8 @@ pub extern "C" fn cittumay_replay(
     lon: i32,
     at_ms: u64,
 ) -> u8
-    ensures { λ r. ⌜ Replay (record { lat = lat; lon = lon }) «at_ms» (now (crumbs .entry)) (now (crumbs .exit)) (now (words .entry)) (now (numbers .entry)) r (now (words .exit)) (now (numbers .exit)) ⌝ }
+    ensures { λ r. ⌜ Replay (record { lat = lat; lon = lon }) «at_ms» (now (crumbs .entry)) (now (crumbs .exit)) (now (words .entry))
+        (now (numbers .entry)) r (now (words .exit)) (now (numbers .exit)) ⌝ }
 {
     let read = stored::load(words, numbers);
     if !read.held {
@@ -237,7 +242,8 @@ pub extern "C" fn cittumay_set_auto_follow(
     crumbs: &mut [f32],
     on: u8,
 ) -> u8
-    ensures { λ r. ⌜ SetAutoFollow on (now (crumbs .entry)) (now (crumbs .exit)) (now (words .entry)) (now (numbers .entry)) r (now (words .exit)) (now (numbers .exit)) ⌝ }
+    ensures { λ r. ⌜ SetAutoFollow on (now (crumbs .entry)) (now (crumbs .exit)) (now (words .entry)) (now (numbers .entry)) r
+        (now (words .exit)) (now (numbers .exit)) ⌝ }
 {
     let read = stored::load(words, numbers);
     if !read.held {
@@ -260,7 +266,8 @@ pub extern "C" fn cittumay_set_following(
     now_ms: u64,
     done: &mut u8,
 ) -> u8
-    ensures { λ r. ⌜ SetFollowing (now (line .entry)) on «now_ms» (now (crumbs .entry)) (now (done .entry)) (now (crumbs .exit)) (now (done .exit)) (now (words .entry)) (now (numbers .entry)) r (now (words .exit)) (now (numbers .exit)) ⌝ }
+    ensures { λ r. ⌜ SetFollowing (now (line .entry)) on «now_ms» (now (crumbs .entry)) (now (done .entry)) (now (crumbs .exit))
+        (now (done .exit)) (now (words .entry)) (now (numbers .entry)) r (now (words .exit)) (now (numbers .exit)) ⌝ }
 {
     let read = stored::load(words, numbers);
     if !read.held {

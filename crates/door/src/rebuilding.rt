@@ -81,7 +81,9 @@ pub extern "C" fn cittumay_rebuild_step(
     budget: usize,
     done: &mut u8,
 ) -> u8
-    ensures { λ r. ⌜ RebuildStep budget upper (now (file .entry)) (now (crumbs .entry)) (now (done .entry)) (slices (now (rebuild .entry)) (now (words .entry)) (now (numbers .entry))) r (now (crumbs .exit)) (now (done .exit)) (slices (now (rebuild .exit)) (now (words .exit)) (now (numbers .exit))) ⌝ }
+    ensures { λ r. ⌜ RebuildStep budget upper (now (file .entry)) (now (crumbs .entry)) (now (done .entry))
+        (slices (now (rebuild .entry)) (now (words .entry)) (now (numbers .entry))) r (now (crumbs .exit)) (now (done .exit))
+        (slices (now (rebuild .exit)) (now (words .exit)) (now (numbers .exit))) ⌝ }
 {
     let begun = stored::load_rebuild(rebuild);
     if !begun.held {
@@ -121,7 +123,8 @@ pub extern "C" fn cittumay_rebuild_settle(
     known: u8,
     utc: u64,
 ) -> u8
-    ensures { λ r. ⌜ RebuildSettle (utcOf (isSet known) utc) (slices (now (rebuild .entry)) (now (words .entry)) (now (numbers .entry))) r (slices (now (rebuild .exit)) (now (words .exit)) (now (numbers .exit))) ⌝ }
+    ensures { λ r. ⌜ RebuildSettle (utcOf (isSet known) utc) (slices (now (rebuild .entry)) (now (words .entry)) (now (numbers .entry))) r
+        (slices (now (rebuild .exit)) (now (words .exit)) (now (numbers .exit))) ⌝ }
 {
     let begun = stored::load_rebuild(rebuild);
     if !begun.held {

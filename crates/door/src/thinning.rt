@@ -14,7 +14,8 @@ pub extern "C" fn cittumay_thin(
     passes: &mut usize,
     refused: &mut u8,
 ) -> usize
-    ensures { λ r. ⌜ ThinsLent len (now (crumbs .entry)) (now (tolerance .entry)) (now (passes .entry)) (now (crumbs .exit)) (now (tolerance .exit)) (now (passes .exit)) (now (refused .exit)) r ⌝ }
+    ensures { λ r. ⌜ ThinsLent len (now (crumbs .entry)) (now (tolerance .entry)) (now (passes .entry)) (now (crumbs .exit))
+        (now (tolerance .exit)) (now (passes .exit)) (now (refused .exit)) r ⌝ }
 {
     let answer = thin::thin(crumbs, len, *tolerance);
     match answer {

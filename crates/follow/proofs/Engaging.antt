@@ -29,11 +29,13 @@ leads-some n b e = subst (λ (k : ℕ). 2 ≤ k) (length-crumbs n b) (long (crum
 
 module _ (course : List Crumb) (now : ℕ) (h : Homing) (b : List Float) where
   chosen : (t : Bool) → leads (crumbs (h .trail .len) b) ≡ t
-      → engage course now (stateOf h b) ≡ cond t (done true (engageAt course line.Breadcrumb (h .trail .len - 1) now (stateOf h b))) (done false (stateOf h b))
+      → engage course now (stateOf h b) ≡ cond t (done true (engageAt course line.Breadcrumb (h .trail .len - 1) now (stateOf h b)))
+      (done false (stateOf h b))
   unfolding engage track
   chosen t e = simp (e, length-crumbs)
 
-  pub engaged : (r : Homing) → leads (crumbs (h .trail .len) b) ≡ true → Changes (engageAt course line.Breadcrumb (h .trail .len - 1) now) h r → Asks (engage course now) h b (record { homing = r; yes = true })
+  pub engaged : (r : Homing) → leads (crumbs (h .trail .len) b) ≡ true → Changes
+      (engageAt course line.Breadcrumb (h .trail .len - 1) now) h r → Asks (engage course now) h b (record { homing = r; yes = true })
   engaged r e c =
       record {
         answered = sym (ap (λ (d : Done Bool). d .answer) (chosen true e));

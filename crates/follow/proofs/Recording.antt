@@ -49,8 +49,10 @@ recordedAs t w f h =
       guide = h .guide;
     }
 
-module _ (rule : ℕ → Rule) (h : Homing) {r : Recorded} {entry w exit : List Float} {f : Follow} (did : Records rule (h .trail) (h .window) entry r w exit) where
-  pub taken-over : f ≡ afterThinning (r .thinned) (h .follow) → Follows (λ C s. recorded (rule C (s .track)) s) h entry (recordedAs (r .trail) w f h) exit
+module _ (rule : ℕ → Rule) (h : Homing) {r : Recorded} {entry w exit : List Float} {f : Follow}
+    (did : Records rule (h .trail) (h .window) entry r w exit) where
+  pub taken-over : f ≡ afterThinning (r .thinned) (h .follow)
+      → Follows (λ C s. recorded (rule C (s .track)) s) h entry (recordedAs (r .trail) w f h) exit
   unfolding recorded recordedIn
   taken-over e =
       let C = capacity (length entry) in
@@ -71,22 +73,27 @@ max-le a b c h = omega arith
 
 -- a state whose breadcrumb is cut to its first crumbs, and then a crumb kept
 module _ (h cut r : Homing) (p : Point) (segment : ℕ) (entry exit : List Float) where
-  pub left-at : stateOf cut entry ≡ cutTo segment (stateOf h entry) → cut .trail .len ≤ h .trail .len → Follows (λ C. keepIn C p) cut entry r exit → Follows (λ C. leaveAt C (At p) segment) h entry r exit
+  pub left-at : stateOf cut entry ≡ cutTo segment (stateOf h entry) → cut .trail .len ≤ h .trail .len
+      → Follows (λ C. keepIn C p) cut entry r exit → Follows (λ C. leaveAt C (At p) segment) h entry r exit
   unfolding leaveAt
   left-at e l f =
       record {
         same = f .same ∙ ap (λ (s : State). keepIn (capacity (length entry)) p s .state) e;
         fit = f .fit;
         size = f .size;
-        beyond = behind-more (max (cut .trail .len) (r .trail .len)) (max (h .trail .len) (r .trail .len)) exit entry (max-le (cut .trail .len) (h .trail .len) (r .trail .len) l) (f .beyond);
+        beyond = behind-more (max (cut .trail .len) (r .trail .len)) (max (h .trail .len) (r .trail .len)) exit entry
+            (max-le (cut .trail .len) (h .trail .len) (r .trail .len) l) (f .beyond);
       }
 
-pub cut-state : (h : Homing) (segment : ℕ) (entry : List Float) → segment ≤ h .trail .len → withTrack (withCrumbs (crumbs segment entry) (track (h .trail) (h .window) entry)) (stateOf h entry) ≡ cutTo segment (stateOf h entry)
+pub cut-state : (h : Homing) (segment : ℕ) (entry : List Float) → segment ≤ h .trail .len
+    → withTrack (withCrumbs (crumbs segment entry) (track (h .trail) (h .window) entry)) (stateOf h entry) ≡ cutTo segment (stateOf h entry)
 unfolding cutTo track
-cut-state h segment entry l = ap (λ (c : List Crumb). withTrack (withCrumbs c (track (h .trail) (h .window) entry)) (stateOf h entry)) (sym (take-crumbs segment (h .trail .len) entry l))
+cut-state h segment entry l = ap (λ (c : List Crumb). withTrack (withCrumbs c (track (h .trail) (h .window) entry)) (stateOf h entry))
+    (sym (take-crumbs segment (h .trail .len) entry l))
 
 -- ---- a change that leaves the trail alone
-pub unmoved : (rule : State → State) (h r : Homing) (b : List Float) → trail.TrailFit (h .trail) (length b) → Changes rule h r → Follows (λ C s. done (tt {0}) (rule s)) h b r b
+pub unmoved : (rule : State → State) (h r : Homing) (b : List Float) → trail.TrailFit (h .trail) (length b) → Changes rule h r
+    → Follows (λ C s. done (tt {0}) (rule s)) h b r b
 unmoved rule h r b f c =
     record {
       same = c .same b;
@@ -96,13 +103,16 @@ unmoved rule h r b f c =
     }
 
 -- ---- following ends
-pub left-nowhere : (h : Homing) (matched : Spot) (segment : ℕ) (b : List Float) → matched ≡ Nowhere → trail.TrailFit (h .trail) (length b) → Follows (λ C. leaveAt C matched segment) h b h b
+pub left-nowhere : (h : Homing) (matched : Spot) (segment : ℕ) (b : List Float) → matched ≡ Nowhere → trail.TrailFit (h .trail) (length b)
+    → Follows (λ C. leaveAt C matched segment) h b h b
 unfolding leaveAt
 left-nowhere h matched segment b told f =
-    subst (λ (m : Spot). Follows (λ C. leaveAt C m segment) h b h b) (sym told) (record { same = refl; fit = f; size = refl; beyond = refl })
+    subst (λ (m : Spot). Follows (λ C. leaveAt C m segment) h b h b) (sym told)
+    (record { same = refl; fit = f; size = refl; beyond = refl })
 
 module _ (h f r : Homing) (entry exit : List Float) where
-  pub stops-at : stateOf f entry ≡ withFollow (stopped Nowhere (h .follow)) (withTrack (forgotten (track (h .trail) (h .window) entry)) (stateOf h entry)) → f .trail .len ≡ h .trail .len
+  pub stops-at : stateOf f entry ≡ withFollow (stopped Nowhere (h .follow))
+      (withTrack (forgotten (track (h .trail) (h .window) entry)) (stateOf h entry)) → f .trail .len ≡ h .trail .len
       → Follows (λ C. leaveAt C (h .follow .matched) (h .follow .segment)) f entry r exit → Follows stopBreadcrumb h entry r exit
   unfolding stopBreadcrumb
   stops-at e l d =

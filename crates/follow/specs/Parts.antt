@@ -1,6 +1,6 @@
--- What a following that begins or ends changes in the groups of the state. homing.rs, `engage`, `engage_at`, `stop_following`; document 01, "Crumb":
--- "Added: a thinning while the breadcrumb is followed, which only `replay` can cause, ends the following without a cut: segment 0, nothing matched,
--- off false."
+-- What a following that begins or ends changes in the groups of the state. homing.rs, `engage`, `engage_at`, `stop_following`; document 01,
+-- "Crumb": "Added: a thinning while the breadcrumb is followed, which only `replay` can cause, ends the following without a cut: segment 0,
+-- nothing matched, off false."
 use Prim.Native.Nat.{ℕ, _-_}
 use mathlib.Core.Bool.{Bool, true, false, _&&_, not, cond}
 use mathlib.Core.List.{List}
@@ -20,7 +20,8 @@ use Rattle.state.specs.declared.Course.{Course}
 
 -- a following of the breadcrumb is over, without a cut; one of the course goes on
 unfoldable pub endedByThinning : Line → Follow → Follow
-endedByThinning line.Breadcrumb f = record { line = line.Nothing; segment = 0; matched = Nowhere; off = false; «reminded_ms» = f .«reminded_ms» }
+endedByThinning line.Breadcrumb f =
+    record { line = line.Nothing; segment = 0; matched = Nowhere; off = false; «reminded_ms» = f .«reminded_ms» }
 endedByThinning line.Nothing f = f
 endedByThinning line.Course f = f
 

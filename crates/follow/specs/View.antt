@@ -32,7 +32,8 @@ pub record Changes (rule : State → State) (h r : Homing) : Type 0 where
   pub trail : r .trail ≡ h .trail
 
 -- A rule is followed, from a state and its crumb buffer to a state and its crumb buffer.
-pub record Follows {A : Type 0} (rule : ℕ → State → Done A) (h : Homing) (entry : List Float) (r : Homing) (exit : List Float) : Type 0 where
+pub record Follows {A : Type 0} (rule : ℕ → State → Done A) (h : Homing) (entry : List Float) (r : Homing) (exit : List Float) :
+    Type 0 where
   pub same : stateOf r exit ≡ rule (capacity (length entry)) (stateOf h entry) .state
   pub fit : trail.TrailFit (r .trail) (length exit)
   pub size : length exit ≡ length entry

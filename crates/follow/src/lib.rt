@@ -158,7 +158,8 @@ fn stop_breadcrumb(h: Homing, crumbs: &mut [f32]) -> Homing
 // Recording resumes: the breadcrumb keeps the way home from where the rider left it, and goes on from
 // there. A course stopped is held off for the rest of the ride.
 pub fn stop_following(h: Homing, crumbs: &mut [f32]) -> Homing
-    requires { ⌜ (trail.TrailFit (h .trail) (length (now crumbs))) × (h .follow .line ≡ line.Breadcrumb → h .follow .segment ≤ h .trail .len) ⌝ }
+    requires { ⌜ (trail.TrailFit (h .trail) (length (now crumbs)))
+        × (h .follow .line ≡ line.Breadcrumb → h .follow .segment ≤ h .trail .len) ⌝ }
     ensures { λ r. ⌜ Follows stop h (now (crumbs .entry)) r (now (crumbs .exit)) ⌝ }
 {
     let f = h.follow;

@@ -32,8 +32,8 @@ pub record Holds (C : ℕ) (cs : List Call) (h : Homing) (b : List Float) : Type
   pub places : held h b ≡ map point (journal C cs .state .track .crumbs)
   pub claim : Claim C (journal C cs .notes) (held h b)
 
--- `Ran C cs h b`: a new guide on a buffer for C crumbs, whatever that held, came by the calls cs, in this order, to the state h and the buffer b. Each
--- call did what its contract promises, refused or not.
+-- `Ran C cs h b`: a new guide on a buffer for C crumbs, whatever that held, came by the calls cs, in this order, to the state h and the
+-- buffer b. Each call did what its contract promises, refused or not.
 pub data Ran (C : ℕ) : List Call → Homing → List Float → Type 0 where
   new : {h : Homing} {b : List Float} → length b ≡ stride * C → stateOf h b ≡ rule.new → Ran C [] h b
   called : {cs : List Call} {h r : Homing} {b b′ : List Float} (c : Call) → Ran C cs h b → Called c h b r b′ → Ran C (cs ++ c ∷ []) r b′

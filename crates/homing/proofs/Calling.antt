@@ -60,20 +60,23 @@ module _ (c : Call) (h : Homing) (b : List Float) where
   refuses e ne =
       let no : eqb (asks (length b) c (stateOf h b)) 0 ≡ false = ne-eqb _ _ (λ z. ne (e ∙ z)) in
       record {
-        same = sym (ap (λ (d : Done (Unit {0})). d .state) (passed-by (performs (capacity (length b)) c (stateOf h b)) (done tt (stateOf h b)) _ no));
+        same = sym (ap (λ (d : Done (Unit {0})). d .state)
+            (passed-by (performs (capacity (length b)) c (stateOf h b)) (done tt (stateOf h b)) _ no));
         refused = λ _. (refl, refl);
         size = refl;
         beyond = refl;
       }
 
 module _ (c : Call) (h r : Homing) (entry exit : List Float) where
-  pub takes : asks (length entry) c (stateOf h entry) ≡ 0 → stateOf r exit ≡ performs (capacity (length entry)) c (stateOf h entry) .state → length exit ≡ length entry
+  pub takes : asks (length entry) c (stateOf h entry) ≡ 0 → stateOf r exit ≡ performs (capacity (length entry)) c (stateOf h entry) .state
+      → length exit ≡ length entry
       → behind (max (h .trail .len) (r .trail .len)) exit ≡ behind (max (h .trail .len) (r .trail .len)) entry → Called c h entry r exit
   unfolding afterCall
   takes e same size beyond =
       let ok : eqb (asks (length entry) c (stateOf h entry)) 0 ≡ true = eq-eqb _ _ e in
       record {
-        same = same ∙ sym (ap (λ (d : Done (Unit {0})). d .state) (picked (performs (capacity (length entry)) c (stateOf h entry)) (done tt (stateOf h entry)) _ ok));
+        same = same ∙ sym (ap (λ (d : Done (Unit {0})). d .state)
+            (picked (performs (capacity (length entry)) c (stateOf h entry)) (done tt (stateOf h entry)) _ ok));
         refused = λ ne. absurd (ne e);
         size = size;
         beyond = beyond;
@@ -86,7 +89,8 @@ module _ (c : Call) (h r : Homing) (entry exit : List Float) where
 
 -- ---- a fix handed on by its bits is the same
 pub same-at : (lat lon : ℤ) → mag lat < 2 ^ 31 → mag lon < 2 ^ 31 → place.At (handed lat) (handed lon) ≡ place.At lat lon
-same-at lat lon a b = ap (λ (c : ℤ). place.At c (handed lon)) (toZ-ofZ w32 lat (record { sfits = a })) ∙ ap (λ (d : ℤ). place.At lat d) (toZ-ofZ w32 lon (record { sfits = b }))
+same-at lat lon a b = ap (λ (c : ℤ). place.At c (handed lon)) (toZ-ofZ w32 lat (record { sfits = a }))
+    ∙ ap (λ (d : ℤ). place.At lat d) (toZ-ofZ w32 lon (record { sfits = b }))
 
 -- ---- what the inner functions require
 pub ready : (size : ℕ) (line : List Float) (h : Homing) (b : List Float) → asksBoth size line (stateOf h b) ≡ 0 → Ready h size (length line)
@@ -95,7 +99,8 @@ ready size line h b e =
     record { fit = g .fit; retrace = g .held .counted .retrace; back = g .held .counted .retraceLen }
 
 -- the line placed
-pub places-line : (xs : List Fix) (h r : Homing) (entry exit : List Float) → SetsLine xs h entry r exit → Places (lineOf (h .frame) xs) entry (r .course .«line_len») exit
+pub places-line : (xs : List Fix) (h r : Homing) (entry exit : List Float) → SetsLine xs h entry r exit
+    → Places (lineOf (h .frame) xs) entry (r .course .«line_len») exit
 places-line xs h r entry exit s =
     record {
       count = sym (length-crumbs (r .course .«line_len») exit) ∙ ap (λ (l : List Crumb). length l) (s .placed);

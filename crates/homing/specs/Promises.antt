@@ -1,4 +1,5 @@
--- What each call that changes the guide promises. `Called` says what becomes of the state and the crumb buffer, and that a refusal changes nothing.
+-- What each call that changes the guide promises. `Called` says what becomes of the state and the crumb buffer, and that a refusal changes
+-- nothing.
 use Prim.Native.Nat.{ℕ}
 use mathlib.Core.Path.{_≡_}
 use mathlib.Core.Bool.{Bool}
@@ -26,8 +27,8 @@ use Rattle.homing.specs.declared.Observed.{Observed}
 use Rattle.homing.specs.declared.Followed.{Followed}
 use Rattle.homing.specs.Answers.{saysReply, saysSight}
 
--- `new`, on the crumb buffer b: question 1 is put to it. The state is a new guide's whatever the buffer holds, and the window's numbers, which the rules see
--- only where a place waits, are zeros.
+-- `new`, on the crumb buffer b: question 1 is put to it. The state is a new guide's whatever the buffer holds, and the window's numbers,
+-- which the rules see only where a place waits, are zeros.
 pub record MakesNew (b : List Float) (r : Changed) : Type 0 where
   pub answered : saysReply (r .answer) ≡ answer (unless (question1 (length b)) 1) (tt {0})
   pub fresh : (crumbs : List Float) → stateOf (r .homing) crumbs ≡ new
@@ -48,7 +49,8 @@ pub record SetsCourse (xs : List Fix) (h : Homing) (entry : List Float) (r : Cha
   pub answered : (b : List Float) → saysReply (r .answer) ≡ answer (asks (length b) (call.SetCourse entry xs) (stateOf h b)) (tt {0})
   pub called : (b : List Float) → Called (call.SetCourse entry xs) h b (r .homing) b
   -- the placed line stands in front of the line buffer, and the numbers behind it are unchanged
-  pub placed : (b : List Float) → asks (length b) (call.SetCourse entry xs) (stateOf h b) ≡ 0 → Places (lineOf (h .frame) xs) entry (r .homing .course .«line_len») exit
+  pub placed : (b : List Float) → asks (length b) (call.SetCourse entry xs) (stateOf h b) ≡ 0
+      → Places (lineOf (h .frame) xs) entry (r .homing .course .«line_len») exit
   pub refused : (b : List Float) → (asks (length b) (call.SetCourse entry xs) (stateOf h b) ≡ 0 → ⊥) → exit ≡ entry
   pub size : length exit ≡ length entry
 
@@ -58,7 +60,8 @@ pub record SetsAuto (on : Bool) (h : Homing) (entry : List Float) (r : Changed) 
   pub called : Called (call.SetAutoFollow on) h entry (r .homing) exit
 
 -- `observe`, lent the line
-pub record Observes (line : List Float) (x : Place) (now : ℕ) (h : Homing) (entry : List Float) (r : Observed) (exit : List Float) : Type 0 where
+pub record Observes (line : List Float) (x : Place) (now : ℕ) (h : Homing) (entry : List Float) (r : Observed) (exit : List Float) :
+    Type 0 where
   pub answered : saysSight (r .answer)
       ≡ answer (asks (length entry) (call.Observe line x now) (stateOf h entry))
       (observe (capacity (length entry)) (courseIn line (stateOf h entry)) x now (stateOf h entry) .answer)
@@ -70,7 +73,8 @@ pub record Replays (x : Fix) (now : ℕ) (h : Homing) (entry : List Float) (r : 
   pub called : Called (call.Replay x now) h entry (r .homing) exit
 
 -- `set_following`, lent the line
-pub record SetsFollowing (line : List Float) (on : Bool) (now : ℕ) (h : Homing) (entry : List Float) (r : Followed) (exit : List Float) : Type 0 where
+pub record SetsFollowing (line : List Float) (on : Bool) (now : ℕ) (h : Homing) (entry : List Float) (r : Followed) (exit : List Float) :
+    Type 0 where
   pub answered : saysVerdict (r .answer)
       ≡ answer (asks (length entry) (call.SetFollowing line on now) (stateOf h entry))
       (setFollowing on (capacity (length entry)) (courseIn line (stateOf h entry)) now (stateOf h entry) .answer)

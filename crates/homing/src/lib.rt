@@ -103,7 +103,8 @@ pub fn end_replay(h: Homing) -> Changed
 
 // The questions put to a course: the state, the line, then each of its points.
 fn asks_course(h: Homing, line: &[f32], lats: &[i32], lons: &[i32]) -> u8
-    ensures { λ r. ⌜ ((b : List Float) → r ≡ asks (length b) (call.SetCourse (now (line .entry)) (fixes (now (lats .entry)) (now (lons .entry)))) (stateOf h b)) ⌝ }
+    ensures { λ r. ⌜ ((b : List Float)
+        → r ≡ asks (length b) (call.SetCourse (now (line .entry)) (fixes (now (lats .entry)) (now (lons .entry)))) (stateOf h b)) ⌝ }
 {
     let number = questions::asks_line(h, line, course::count(lats, lons));
     if number != 0 {
@@ -129,7 +130,8 @@ pub fn set_course(h: Homing, line: &mut [f32], lats: &[i32], lons: &[i32]) -> Ch
 
 // The questions put to a fix: the state and the two buffers, then the place.
 fn asks_seen(h: Homing, crumbs: &[f32], line: &[f32], lat: i32, lon: i32) -> u8
-    ensures { λ r. ⌜ ((at : ℕ) → r ≡ asks (length (now (crumbs .entry))) (call.Observe (now (line .entry)) (places.At lat lon) at) (stateOf h (now (crumbs .entry)))) ⌝ }
+    ensures { λ r. ⌜ ((at : ℕ) → r ≡ asks (length (now (crumbs .entry))) (call.Observe (now (line .entry)) (places.At lat lon) at)
+        (stateOf h (now (crumbs .entry)))) ⌝ }
 {
     let number = questions::asks_both(h, crumbs, line);
     if number != 0 {
@@ -186,7 +188,8 @@ pub fn observe(h: Homing, crumbs: &mut [f32], line: &[f32], place: Place, now_ms
 
 // The questions put to a fix from before a restart.
 fn asks_replay(h: Homing, crumbs: &[f32], lat: i32, lon: i32) -> u8
-    ensures { λ r. ⌜ ((at : ℕ) → r ≡ asks (length (now (crumbs .entry))) (call.Replay (record { lat = lat; lon = lon }) at) (stateOf h (now (crumbs .entry)))) ⌝ }
+    ensures { λ r. ⌜ ((at : ℕ)
+        → r ≡ asks (length (now (crumbs .entry))) (call.Replay (record { lat = lat; lon = lon }) at) (stateOf h (now (crumbs .entry)))) ⌝ }
 {
     let number = questions::asks_crumbs(h, crumbs);
     if number != 0 {

@@ -15,10 +15,12 @@ use Rattle.joining.specs.Join.{withRetrace, retracing}
 -- ---- the count
 module _ (p : Point) (s : State) where
   pub rode-back : ridesBack (s .motion .heading) (s .track .crumbs) p ≡ true
-      → retracing p s ≡ done (leb retraceFixes (s .track .retrace + 1)) (withTrack (withRetrace (s .track .retrace + 1) (lenBefore (s .track)) (s .track)) s)
+      → retracing p s ≡ done (leb retraceFixes (s .track .retrace + 1))
+      (withTrack (withRetrace (s .track .retrace + 1) (lenBefore (s .track)) (s .track)) s)
   unfolding retracing
   rode-back e = simp e
 
-  pub rode-on : ridesBack (s .motion .heading) (s .track .crumbs) p ≡ false → retracing p s ≡ done false (withTrack (withRetrace 0 (s .track .retraceLen) (s .track)) s)
+  pub rode-on : ridesBack (s .motion .heading) (s .track .crumbs) p ≡ false
+      → retracing p s ≡ done false (withTrack (withRetrace 0 (s .track .retraceLen) (s .track)) s)
   unfolding retracing
   rode-on e = simp e

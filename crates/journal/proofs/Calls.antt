@@ -24,7 +24,8 @@ use Rattle.state.specs.Rule.{Done}
 use Rattle.course.specs.Fix.{Fix}
 use Rattle.calls.specs.Follow.{updateHere, brought, engagedOr, wayHome, follow, nearHere, followFrom, setFollowing, autoOff, setAutoFollow}
 use Rattle.calls.specs.Line.{reset, offCourse, setCourse}
-use Rattle.calls.specs.Calls.{Call, Ask, Reset, EndReplay, SetCourse, SetAutoFollow, Observe, Replay, SetFollowing, silent, courseIn, asks, performs, afterCall}
+use Rattle.calls.specs.Calls.{Call, Ask, Reset, EndReplay, SetCourse, SetAutoFollow, Observe, Replay, SetFollowing, silent, courseIn, asks}
+use Rattle.calls.specs.Calls.{performs, afterCall}
 use Rattle.journal.proofs.Trace as trace
 use Rattle.journal.proofs.Sound.{Holds, Ran, Good, Quiet, still, quiet, then, either, resumed}
 use Rattle.journal.proofs.Recording.{flush-good}
@@ -55,7 +56,8 @@ module _ (C : ℕ) (least : 3 ≤ C) where
 
     follow-good : (best : Best) → Good C (follow best C course now)
     unfolding follow
-    follow-good (Found near) s h = let q = engaged course line.Course (near .end) now s h course-followed in resumed (q .same) (brought-good _ (q .sound))
+    follow-good (Found near) s h = let q = engaged course line.Course (near .end) now s h course-followed in
+        resumed (q .same) (brought-good _ (q .sound))
     follow-good Nothing s h = way-home s h
 
     follow-from : (l : Line) → Good C (followFrom l C course now)

@@ -21,7 +21,9 @@ use Rattle.state.specs.State.{State, withFrame, withHereMs, withMotion}
 use Rattle.state.specs.Rule.{Done, done}
 use Rattle.follow.specs.Engage.{cutTo, forgotten}
 use Rattle.course.specs.Fix.{Fix, located, framed}
-use Rattle.calls.specs.Fix.{fixLostMs, stillMs, isAt, cleared, missing, sameFix, headed, stillAt, addUpdate, tellFollowing, joinedCourse, turnedBack, engagedBack, retraced, mayRetrace, joinedOrNot, fixOn, arrivedAt, newFix, seen, observe, passOnly, replay, unheaded, endReplay}
+use Rattle.calls.specs.Fix.{fixLostMs, stillMs, isAt, cleared, missing, sameFix, headed, stillAt, addUpdate, tellFollowing, joinedCourse}
+use Rattle.calls.specs.Fix.{turnedBack, engagedBack, retraced, mayRetrace, joinedOrNot, fixOn, arrivedAt, newFix, seen, observe, passOnly}
+use Rattle.calls.specs.Fix.{replay, unheaded, endReplay}
 use Rattle.journal.proofs.Trace.{after}
 use Rattle.journal.proofs.Sound.{Holds, Ran, Good, still, then, either, resumed}
 use Rattle.journal.proofs.Recording.{add-good}

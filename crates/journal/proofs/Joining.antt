@@ -74,10 +74,15 @@ module _ {C : ℕ} where
       by : (b : Bool) → ridesBack (s .motion .heading) (s .track .crumbs) p ≡ b
           → Told C (holding (s .track))
           (cond b
-          (done (leb retraceFixes (s .track .retrace + 1)) (withTrack (withRetrace (s .track .retrace + 1) (lenBefore (s .track)) (s .track)) s))
+          (done (leb retraceFixes (s .track .retrace + 1))
+          (withTrack (withRetrace (s .track .retrace + 1) (lenBefore (s .track)) (s .track)) s))
           (done false (withTrack (withRetrace 0 (s .track .retraceLen) (s .track)) s)))
       by true e =
           let some = len-before (s .track) (rides-crumbs _ _ p e) (h .back) in
           record { ran = record { trace = over; sound = counted _ _ s h (λ _. some) }; some = λ _. some }
       by false e =
-          record { ran = record { trace = over; sound = counted 0 _ s h (λ n. absurd (omega arith)) }; some = λ f. absurd (true≢false (sym f)) }
+          record {
+            ran = record { trace = over; sound = counted 0 _ s h (λ n. absurd (omega arith)) };
+            some =
+                λ f. absurd (true≢false (sym f));
+          }

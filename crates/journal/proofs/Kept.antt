@@ -1,5 +1,5 @@
--- The places kept since the last reset, in document 01's words: those of "the kept notes after the last reset note, or in all of them without one".
--- Assumes nothing.
+-- The places kept since the last reset, in document 01's words: those of "the kept notes after the last reset note, or in all of them
+-- without one". Assumes nothing.
 use Prim.Native.Nat.{suc}
 use mathlib.Core.Path.{_≡_, refl, sym, ap, _∙_}
 use mathlib.Core.List.{List, [], _∷_, _++_, append-assoc, append-nil}

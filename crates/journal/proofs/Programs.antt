@@ -21,12 +21,14 @@ module _ (C : ℕ) (least : 8 ≤ C) (most : C ≤ 4096) (calls : List Call) whe
 -- ---- the calls one after the other
 module _ (size : ℕ) where
   -- the first, and then the rest
-  pub run-first : (c : Call) (calls : List Call) (s : State) → run size (c ∷ calls) s .state ≡ run size calls (afterCall size c s .state) .state
+  pub run-first : (c : Call) (calls : List Call) (s : State)
+      → run size (c ∷ calls) s .state ≡ run size calls (afterCall size c s .state) .state
   unfolding run
   run-first c calls s = refl
 
   -- some, and then one more
-  pub run-last : (c : Call) (calls : List Call) (s : State) → run size (calls ++ c ∷ []) s .state ≡ afterCall size c (run size calls s .state) .state
+  pub run-last : (c : Call) (calls : List Call) (s : State)
+      → run size (calls ++ c ∷ []) s .state ≡ afterCall size c (run size calls s .state) .state
   unfolding run
   run-last c [] s = refl
   run-last c (d ∷ calls) s = run-last c calls (afterCall size d s .state)

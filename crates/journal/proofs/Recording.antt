@@ -1,4 +1,5 @@
--- A crumb kept, a place added, the window flushed, in the whole state: each keeps at most one crumb, behind a thinning where there is no room. Assumes nothing.
+-- A crumb kept, a place added, the window flushed, in the whole state: each keeps at most one crumb, behind a thinning where there is no
+-- room. Assumes nothing.
 use Prim.Native.Nat.{ℕ, _≤_}
 use mathlib.Core.Path.{_≡_, refl}
 use mathlib.Core.Bool.{Bool, true, false}
@@ -14,7 +15,8 @@ use Rattle.crumbs.specs.Choice.{last}
 use Rattle.trail.specs.Notes.{Note, thinnedIn}
 use Rattle.trail.specs.Trail.{Track, thin, put, wait}
 use Rattle.trail.specs.Trail as trail
-use Rattle.trail.proofs.Rules.{keep-full, keep-room, flush-none, flush-some, bends, simplify-bends, simplify-straight, add-first, near, add-near, add-far}
+use Rattle.trail.proofs.Rules.{keep-full, keep-room, flush-none, flush-some, bends, simplify-bends, simplify-straight, add-first, near}
+use Rattle.trail.proofs.Rules.{add-near, add-far}
 use Rattle.trail.proofs.Theorems as track
 use Rattle.trail.proofs.Theorems.{Holding, holding, Keeps, room, full, MayKeep, nothing, one}
 use Rattle.state.specs.declared.Line.{Line}
@@ -67,13 +69,15 @@ module _ (C : ℕ) where
 
 -- ---- the following
 -- ended by a thinning, the breadcrumb is followed no longer
-left-segment : (l : Line) (f : Follow) → l ≡ f .line → (f .line ≡ Breadcrumb → 1 ≤ f .segment) → endedByThinning l f .line ≡ Breadcrumb → 1 ≤ endedByThinning l f .segment
+left-segment : (l : Line) (f : Follow) → l ≡ f .line → (f .line ≡ Breadcrumb → 1 ≤ f .segment) → endedByThinning l f .line ≡ Breadcrumb
+    → 1 ≤ endedByThinning l f .segment
 unfolding endedByThinning
 left-segment Breadcrumb f e h on = impossible (cc)
 left-segment Nothing f e h on = h on
 left-segment Course f e h on = h on
 
-after-segment : (b : Bool) (f : Follow) → (f .line ≡ Breadcrumb → 1 ≤ f .segment) → afterThinning b f .line ≡ Breadcrumb → 1 ≤ afterThinning b f .segment
+after-segment : (b : Bool) (f : Follow) → (f .line ≡ Breadcrumb → 1 ≤ f .segment) → afterThinning b f .line ≡ Breadcrumb
+    → 1 ≤ afterThinning b f .segment
 unfolding afterThinning
 after-segment true f h on = left-segment (f .line) f refl h on
 after-segment false f h on = h on
@@ -88,7 +92,8 @@ module _ {C : ℕ} where
   may-trace nothing = over
   may-trace (one p k) = keeps-trace k
 
-  records : (d : trail.TrailDone) (s : State) → Sound C (s .track) (s .follow) → MayKeep C (holding (s .track)) (holding (d .track)) (d .notes)
+  records : (d : trail.TrailDone) (s : State) → Sound C (s .track) (s .follow)
+      → MayKeep C (holding (s .track)) (holding (d .track)) (d .notes)
       → track.Sound C (d .track) → Back (d .track) → Ran C (holding (s .track)) (recorded d s)
   unfolding recorded recordedIn
   records d s h k t b =

@@ -1,4 +1,5 @@
--- What every state of a journal is, and what a rule does to it: a run of the things of `Trace`, after which the state is so still. Assumes nothing.
+-- What every state of a journal is, and what a rule does to it: a run of the things of `Trace`, after which the state is so still. Assumes
+-- nothing.
 use Prim.Native.Nat.{ℕ, _≤_}
 use mathlib.Core.Path.{_≡_, sym}
 use mathlib.Core.Bool.{Bool, true, false}
@@ -11,7 +12,8 @@ use Rattle.state.specs.State.{State}
 use Rattle.state.specs.Rule.{Done, done, andThen}
 use Rattle.journal.proofs.Trace.{Trace, over, same, after}
 
--- A segment of the breadcrumb that is followed is one, and so is the length to go back to once a turn-round is counted: each cut leaves a crumb.
+-- A segment of the breadcrumb that is followed is one, and so is the length to go back to once a turn-round is counted: each cut leaves a
+-- crumb.
 pub record Sound (C : ℕ) (t : Track) (f : Follow) : Type 0 where
   pub track : trail.Sound C t
   pub segment : f .line ≡ Breadcrumb → 1 ≤ f .segment

@@ -43,7 +43,8 @@ around-from : (segment len : ℕ) → 1 ≤ aroundSegment segment len .from
 unfolding aroundSegment
 around-from segment len = omega arith
 
-nearer-end : (near : Nearest) (best : Best) → 1 ≤ near .end → ((other : Nearest) → best ≡ Found other → 1 ≤ other .end) → 1 ≤ nearer near best .end
+nearer-end : (near : Nearest) (best : Best) → 1 ≤ near .end → ((other : Nearest) → best ≡ Found other → 1 ≤ other .end)
+    → 1 ≤ nearer near best .end
 unfolding nearer
 nearer-end near Nothing h k = h
 nearer-end near (Found other) h k = by (lt (other .off) (near .off))
@@ -78,7 +79,10 @@ module _ {C : ℕ} where
     where
       by : (b : Bool)
           → Quiet C (holding (s .track))
-          (elim b as (λ _. Done Event) [ true ↦ done event.Arrived (withArrived true (withFollow (offCleared (s .follow)) s)) | false ↦ done e s ] .state)
+          (elim b as (λ _. Done Event) [
+            | true ↦ done event.Arrived (withArrived true (withFollow (offCleared (s .follow)) s))
+            | false ↦ done e s
+          ] .state)
       by true = record { same = refl; sound = record { track = h .track; segment = h .segment; back = h .back } }
       by false = record { same = refl; sound = h }
 

@@ -1,5 +1,5 @@
--- Demand 3: what holds of the notes of a list of calls and of the places held after it. Document 01, "Journal". C is how many crumbs there is room
--- for, and T, the most that a thinning leaves, is `target C`.
+-- Demand 3: what holds of the notes of a list of calls and of the places held after it. Document 01, "Journal". C is how many crumbs there
+-- is room for, and T, the most that a thinning leaves, is `target C`.
 use Prim.Native.Nat.{ℕ, _-_, _≤_}
 use mathlib.Core.Path.{_≡_}
 use mathlib.Core.List.{List, _∷_, _++_, map}
@@ -29,8 +29,8 @@ pub record NotesThinning (C : ℕ) (kept : List Point) (tolerance : Float) (pass
   pub found : List Crumb
   pub full : length found ≡ C
   pub chosen : Chosen (map point found) kept
-  -- The passes are those that `thin` makes on them: "`thin`'s pass count is the number of passes made" (`EveryThinning` of `thin`). The crumbs
-  -- left are those that it leaves: "`Homing::thin` then recomputes along".
+  -- The passes are those that `thin` makes on them: "`thin`'s pass count is the number of passes made" (`EveryThinning` of `thin`). The
+  -- crumbs left are those that it leaves: "`Homing::thin` then recomputes along".
   pub counted : passes ≡ thinning C tolerance found .passes
   pub leaves : left ≡ realong (thinning C tolerance found .left)
   -- 1 to 18 passes, at most T crumbs left
@@ -45,8 +45,8 @@ KeepsNext notes = (p : Point) × ((rest : List Note) × (notes ≡ Kept p ∷ re
 pub record Claim (C : ℕ) (notes : List Note) (places : List Point) : Type 0 where
   -- the places held are chosen from those kept since the last reset
   pub chosen : Chosen places (keptSinceReset notes)
-  -- "Crumbs between two thinnings are counted over all kept notes, a reset between or not": at least C less T. The crumb that set off the first is
-  -- counted, and the one that set off the second is not, since each is noted right behind its thinning, as `sets-off` says.
+  -- "Crumbs between two thinnings are counted over all kept notes, a reset between or not": at least C less T. The crumb that set off the
+  -- first is counted, and the one that set off the second is not, since each is noted right behind its thinning, as `sets-off` says.
   pub apart : (before between after : List Note) (n m : ℕ) (l k : List Crumb)
       → notes ≡ before ++ Thinned n l ∷ between ++ Thinned m k ∷ after → C - target C ≤ keptIn between
   -- "The crumb whose keeping called for it set it off."

@@ -1,5 +1,5 @@
--- The journal. Document 01, "Journal": it "is fed C, `new` and the list's calls with their arguments, to which the lent line belongs, whoever wrote it.
--- From these alone it runs demand 2's rules, additions and questions included, on a state and crumbs of its own".
+-- The journal. Document 01, "Journal": it "is fed C, `new` and the list's calls with their arguments, to which the lent line belongs,
+-- whoever wrote it. From these alone it runs demand 2's rules, additions and questions included, on a state and crumbs of its own".
 use Prim.Native.Nat.{ℕ, _*_}
 use mathlib.Core.List.{List, [], _∷_, map}
 use Rattle.plane.specs.declared.Point.{Point}

@@ -7,8 +7,8 @@ use Rattle.thin.specs.Theorems.{doubledBy}
 use Rattle.trail.specs.Notes.{Note, Kept, Thinned, Reset}
 use Rattle.trail.specs.Trail.{toleranceM}
 
--- "Places kept since the last reset stand in the kept notes after the last reset note, or in all of them without one": `kept` are those kept before
--- these notes, and each reset begins anew
+-- "Places kept since the last reset stand in the kept notes after the last reset note, or in all of them without one": `kept` are those
+-- kept before these notes, and each reset begins anew
 abbrev pub keptAfter : List Point → List Note → List Point
 keptAfter kept [] = kept
 keptAfter kept (Kept p ∷ notes) = keptAfter (kept ++ p ∷ []) notes

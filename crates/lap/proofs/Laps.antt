@@ -15,13 +15,15 @@ use Rattle.lap.specs.Inner.{lapStepOf}
 abbrev pub startedAt : Lap → Spot → Lap
 startedAt l s = record { pass = l .pass; start = s; passed = l .passed }
 
-module _ (l : Lap) (p : Point) (heading : Heading) (m : Bool) (s t : Spot) (moves : m ≡ movingAt heading) (starts : s ≡ lapStart m (l .start) p) (told : s ≡ t) where
+module _ (l : Lap) (p : Point) (heading : Heading) (m : Bool) (s t : Spot) (moves : m ≡ movingAt heading)
+    (starts : s ≡ lapStart m (l .start) p) (told : s ≡ t) where
   from : stepFrom t l p m ≡ stepPass l p heading
   unfolding stepPass
   from = ap (λ (x : Spot). stepFrom x l p m) (sym told ∙ starts) ∙ ap (λ (x : Bool). stepFrom (lapStart x (l .start) p) l p x) moves
 
 -- before the rider has moved
-pub unmoved : (l : Lap) (p : Point) (heading : Heading) (m : Bool) (s : Spot) → m ≡ movingAt heading → s ≡ lapStart m (l .start) p → s ≡ Nowhere → startedAt l s ≡ stepPass l p heading
+pub unmoved : (l : Lap) (p : Point) (heading : Heading) (m : Bool) (s : Spot) → m ≡ movingAt heading → s ≡ lapStart m (l .start) p
+    → s ≡ Nowhere → startedAt l s ≡ stepPass l p heading
 unfolding stepFrom
 unmoved l p heading m s moves starts told = ap (startedAt l) told ∙ from l p heading m s Nowhere moves starts told
 
@@ -29,10 +31,13 @@ unmoved l p heading m s moves starts told = ap (startedAt l) told ∙ from l p h
 abbrev pub noted : Lap → Bool → Lap
 noted l b = record { pass = l .pass; start = l .start; passed = b }
 
-module _ (l : Lap) (p q : Point) (heading : Heading) (m : Bool) (s : Spot) (moves : m ≡ movingAt heading) (starts : s ≡ lapStart m (l .start) p) (told : s ≡ At q) where
-  moved : noted (lapStepOf (startedAt l s) (distance p q) m .lap) (lapStepOf (startedAt l s) (distance p q) m .passed || l .passed) ≡ stepPass l p heading
+module _ (l : Lap) (p q : Point) (heading : Heading) (m : Bool) (s : Spot) (moves : m ≡ movingAt heading)
+    (starts : s ≡ lapStart m (l .start) p) (told : s ≡ At q) where
+  moved : noted (lapStepOf (startedAt l s) (distance p q) m .lap) (lapStepOf (startedAt l s) (distance p q) m .passed || l .passed)
+      ≡ stepPass l p heading
   unfolding stepFrom
-  moved = ap (λ (x : Spot). noted (lapStepOf (startedAt l x) (distance p q) m .lap) (lapStepOf (startedAt l x) (distance p q) m .passed || l .passed)) told ∙ from l p heading m s (At q) moves starts told
+  moved = ap (λ (x : Spot). noted (lapStepOf (startedAt l x) (distance p q) m .lap)
+      (lapStepOf (startedAt l x) (distance p q) m .passed || l .passed)) told ∙ from l p heading m s (At q) moves starts told
 
   module _ (r : LapStepped) (d : Float) (far : d ≡ distance p q) (steps : r ≡ lapStepOf (startedAt l s) d m) where
     same : r ≡ lapStepOf (startedAt l s) (distance p q) m

@@ -1,4 +1,5 @@
--- Passes of the start. Document 01, "Guide and event": "`StartPass` is stepped where it stands in the state lent to it"; the distances are homing.rs's.
+-- Passes of the start. Document 01, "Guide and event": "`StartPass` is stepped where it stands in the state lent to it"; the distances are
+-- homing.rs's.
 use mathlib.Core.Bool.{Bool, true, false, cond}
 use lib.Ieee.{Float, lt}
 use Rattle.binary32.specs.Arithmetic.{constant}

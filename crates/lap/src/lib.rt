@@ -86,7 +86,8 @@ impl StartPass {
 
     // Stepped where it stands.
     pub fn step(&mut self, direct: f32, moving: bool) -> bool
-        ensures { λ r. ⌜ (now (self .exit) ≡ stepOf (now (self .entry)) direct moving .pass) × (r ≡ stepOf (now (self .entry)) direct moving .passed) ⌝ }
+        ensures { λ r. ⌜ (now (self .exit) ≡ stepOf (now (self .entry)) direct moving .pass)
+            × (r ≡ stepOf (now (self .entry)) direct moving .passed) ⌝ }
     {
         let s = self.stepped(direct, moving);
         *self = s.pass;

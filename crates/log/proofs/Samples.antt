@@ -7,10 +7,12 @@ use lib.IntN.{ℤ}
 use Rattle.state.specs.declared.Place.the-variants as place
 use Rattle.log.specs.declared.Utc.the-variants as utc
 use Rattle.log.specs.declared.Sample.{Sample}
-use Rattle.log.specs.Entry.{byteAt, u64At, i32At, countOf, sampleStart, hasPlace, hasUtc, placeAt, utcAt, sampleAt, noSample, sampleIf, sampleOf}
+use Rattle.log.specs.Entry.{byteAt, u64At, i32At, countOf, sampleStart, hasPlace, hasUtc, placeAt, utcAt, sampleAt, noSample}
+use Rattle.log.specs.Entry.{sampleIf, sampleOf}
 
 module _ (f : List ℕ) (at : ℕ) {n : ℕ} (flags : n ≡ byteAt f at) where
-  pub place-there : {lat lon : ℤ} → n % 2 ≡ 1 → lat ≡ i32At f (at + 4) → lon ≡ i32At f (at + 8) → place.At lat lon ≡ placeAt (hasPlace (byteAt f at)) f at
+  pub place-there : {lat lon : ℤ} → n % 2 ≡ 1 → lat ≡ i32At f (at + 4) → lon ≡ i32At f (at + 8)
+      → place.At lat lon ≡ placeAt (hasPlace (byteAt f at)) f at
   unfolding placeAt hasPlace
   place-there h x y = rw (← flags, eq-eqb (n % 2) 1 h, x, y)
 

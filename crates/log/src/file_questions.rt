@@ -8,7 +8,8 @@ ghost use mathlib.Core.Path.{_≡_};
 ghost use Prim.Native.Nat.{_≤_};
 ghost use Rattle.calls.specs.Calls.{asksPlace};
 ghost use Rattle.log.specs.Entry.{recordCount, countOf, entryAt, used, chain};
-ghost use Rattle.log.specs.Questions.{question6 as question6Of, question7 as question7Of, question8 as question8Of, asksSamples, asksEntry, asksRecord, asksRecords, asksFile};
+ghost use Rattle.log.specs.Questions.{question6 as question6Of, question7 as question7Of, question8 as question8Of, asksSamples};
+ghost use Rattle.log.specs.Questions.{asksEntry, asksRecord, asksRecords, asksFile};
 
 // The samples of an entry.
 const SAMPLES: u8 = 4;

@@ -6,7 +6,9 @@ pub mod file_questions;
 use state::Place;
 ghost use mathlib.Core.Path.{_≡_};
 ghost use Prim.Native.Nat.{_+_, _*_, _^_, _<_};
-ghost use Rattle.log.specs.Entry.{byteAt, u32At, u64At, signed as signedOf, i32At, nextOf, rideOf, kindNumber, countOf, sampleStart, kindOf, hasPlace, hasUtc, placeAt, utcAt, sampleAt, sampleOf, samplesOf, entryAt, recovered as recoveredOf};
+ghost use Rattle.log.specs.Entry.{byteAt, u32At, u64At, signed as signedOf, i32At, nextOf, rideOf, kindNumber, countOf, sampleStart};
+ghost use Rattle.log.specs.Entry.{kindOf, hasPlace, hasUtc, placeAt, utcAt, sampleAt, sampleOf, samplesOf, entryAt};
+ghost use Rattle.log.specs.Entry.{recovered as recoveredOf};
 
 // What an entry is, 1 to 7.
 pub enum Kind {

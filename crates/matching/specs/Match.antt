@@ -92,7 +92,14 @@ remindedAt event.CourseEnd now was = was
 
 unfoldable pub followMatched : Nearest → Bool → Event → ℕ → Follow → Follow
 followMatched near off e now f =
-    record { line = f .line; segment = near .end; matched = At (near .point); off = off; «reminded_ms» = remindedAt e now (f .«reminded_ms») }
+    record {
+      line = f .line;
+      segment = near .end;
+      matched = At (near .point);
+      off = off;
+      «reminded_ms» =
+          remindedAt e now (f .«reminded_ms»);
+    }
 
 unfoldable pub courseMatched : Nearest → Point → Course → Course
 courseMatched near p c =

@@ -77,7 +77,8 @@ pub fn followed_by(f: Follow, c: Course, heading: Heading, held: usize) -> Follo
 fn nearest(f: Followed, crumbs: &[f32], line: &[f32], p: Point, ends: Range) -> Best
     requires { ⌜ Lent f (length (now crumbs)) (length (now line)) ⌝ }
     requires { ⌜ (1 ≤ ends .from) × (ends .to < f .len) ⌝ }
-    ensures { λ r. ⌜ WhereFollowed f (now (crumbs .entry)) (now (line .entry)) (λ course s. r ≡ nearest (s .follow .line) course p ends s) ⌝ }
+    ensures { λ r. ⌜ WhereFollowed f (now (crumbs .entry)) (now (line .entry))
+        (λ course s. r ≡ nearest (s .follow .line) course p ends s) ⌝ }
 {
     let on = f.on;
     let len = f.len;

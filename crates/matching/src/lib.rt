@@ -17,7 +17,8 @@ ghost use mathlib.Core.Bool.{_||_};
 ghost use Prim.Native.Nat.{_+_, _-_, _<_, min, max};
 ghost use lib.Ieee.{lt};
 ghost use Rattle.matching.specs.Distances.{offM};
-ghost use Rattle.matching.specs.Match.{onCourse, onLine, searchBack, searchAhead, nearer, offNow, minimum, stillOff, offEvent, due, remindedAt, followMatched, courseMatched};
+ghost use Rattle.matching.specs.Match.{onCourse, onLine, searchBack, searchAhead, nearer, offNow, minimum, stillOff, offEvent, due};
+ghost use Rattle.matching.specs.Match.{remindedAt, followMatched, courseMatched};
 
 // Segments behind and ahead of the last match searched first.
 const SEARCH_BACK: usize = 64;

@@ -89,7 +89,8 @@ pub extern "C" fn cittumay_project(
     north: &mut f32,
 ) -> f32
     ensures { λ r. ⌜ r ≡ project (pointOf «p_east» «p_north») (pointOf «a_east» «a_north») (pointOf «b_east» «b_north») .t ⌝ }
-    ensures { λ r. ⌜ pointOf (now (east .exit)) (now (north .exit)) ≡ project (pointOf «p_east» «p_north») (pointOf «a_east» «a_north») (pointOf «b_east» «b_north») .point ⌝ }
+    ensures { λ r. ⌜ pointOf (now (east .exit)) (now (north .exit))
+        ≡ project (pointOf «p_east» «p_north») (pointOf «a_east» «a_north») (pointOf «b_east» «b_north») .point ⌝ }
 {
     let p = Point {
         east: p_east,

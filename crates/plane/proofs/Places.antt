@@ -24,7 +24,8 @@ gap : (a b : Float) → Coordinate a → Coordinate b → Within (pow 26) (b ⊖
 unfolding add
 gap a b A B = sub-within binary32 (pow 25) (pow 25) (pow 26) b a tt (B .1) (A .1)
 
-products : (u v x y : Float) → Within (pow 26) u → Within (pow 26) v → Within (pow 26) x → Within (pow 26) y → Within (pow 53) (u ⊗ v ⊕ x ⊗ y)
+products : (u v x y : Float) → Within (pow 26) u → Within (pow 26) v → Within (pow 26) x → Within (pow 26) y
+    → Within (pow 53) (u ⊗ v ⊕ x ⊗ y)
 unfolding add mul
 products u v x y U W X Y =
     add-within binary32 (pow 52) (pow 52) (pow 53) (u ⊗ v) (x ⊗ y) tt
@@ -44,7 +45,8 @@ distance-within a b A B =
     let s = e ⊗ e ⊕ n ⊗ n in
     let S : Within (pow 53) s = products e e n n E E N N in
     let P : NonNeg s = add-nonneg binary32 (e ⊗ e) (n ⊗ n) (square-nonneg-at e E) (square-nonneg-at n N) (within-finite (pow 53) s S) in
-    let R : Within (pow 27) (root binary32 s) = root-within binary32 1 27 s (lit< tt, lit≤ tt, lit< tt) P (widen (pow 53) (fin false (2 ^ 54) (pos 0)) s tt S) in
+    let R : Within (pow 27) (root binary32 s) =
+    root-within binary32 1 27 s (lit< tt, lit≤ tt, lit< tt) P (widen (pow 53) (fin false (2 ^ 54) (pos 0)) s tt S) in
     (R, root-nonneg binary32 s P (within-finite (pow 27) (root binary32 s) R))
 
 cond-share : (b : Bool) (x y : Float) → (T b → Share x) → Share y → Share (cond b x y)
@@ -64,7 +66,8 @@ share-share p a b P A B =
     let n = ex ⊗ dx ⊕ ey ⊗ dy in
     let L = products dx dx dy dy X X Y Y in
     let N = products ex dx ey dy (gap (a .east) (p .east) (A .east) (P .east)) X (gap (a .north) (p .north) (A .north) (P .north)) Y in
-    cond-share (lt plusZero l) (clamp (n ⊘ l)) plusZero (λ h. clamp-div binary32 n l (within-finite (pow 53) n N) (within-finite (pow 53) l L) h) zero-share
+    cond-share (lt plusZero l) (clamp (n ⊘ l)) plusZero
+    (λ h. clamp-div binary32 n l (within-finite (pow 53) n N) (within-finite (pow 53) l L) h) zero-share
 
 between-coordinate : (t a b : Float) → Share t → Coordinate a → Coordinate b → Coordinate (between t a b)
 unfolding between
@@ -83,5 +86,8 @@ project-place p a b P A B =
 -- a difference of at most half a turn, in 1e-7 degree, times a factor of at most 2^-6
 pub factor-coordinate : (d : ℤ) (k : Float) → natAbs d ≤ 1800000000 → Within (frac 5) k → Coordinate (ofInt binary32 d ⊗ k)
 unfolding mul ofInt
-factor-coordinate d k h w =
-    (mul-fits binary32 (ofInt binary32 d) k, mul-within binary32 (fin false 1800000000 (pos 0)) (frac 5) (pow 25) (ofInt binary32 d) k tt (ofInt-within binary32 (fin false 1800000000 (pos 0)) 1800000000 d tt h) w)
+factor-coordinate d k h w = (
+  mul-fits binary32 (ofInt binary32 d) k,
+  mul-within binary32 (fin false 1800000000 (pos 0)) (frac 5) (pow 25) (ofInt binary32 d) k tt
+      (ofInt-within binary32 (fin false 1800000000 (pos 0)) 1800000000 d tt h) w,
+)

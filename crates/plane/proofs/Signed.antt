@@ -25,11 +25,13 @@ sub-size a b M A B = go (ltb a b) (ltb→lt a b) (nltb→le a b)
 
 pub minus-size : (a b : ℤ) → SFits w32 a → SFits w32 b → natAbs (a -ℤ b) ≤ 2 ^ 32 - 1
 minus-size (pos a) (pos zero) A B = let h : a < 2 ^ 31 = A .sfits in omega arith
-minus-size (pos a) (pos (suc b)) A B = let h : a < 2 ^ 31 = A .sfits in let k : suc b < 2 ^ 31 = B .sfits in sub-size a (suc b) (2 ^ 32 - 1) (omega arith) (omega arith)
+minus-size (pos a) (pos (suc b)) A B = let h : a < 2 ^ 31 = A .sfits in let k : suc b < 2 ^ 31 = B .sfits in
+    sub-size a (suc b) (2 ^ 32 - 1) (omega arith) (omega arith)
 minus-size (pos a) (negsuc b) A B = let h : a < 2 ^ 31 = A .sfits in let k : b < 2 ^ 31 = B .sfits in omega arith
 minus-size (negsuc a) (pos zero) A B = let h : a < 2 ^ 31 = A .sfits in sub-size 0 (suc a) (2 ^ 32 - 1) (omega arith) (omega arith)
 minus-size (negsuc a) (pos (suc b)) A B = let h : a < 2 ^ 31 = A .sfits in let k : suc b < 2 ^ 31 = B .sfits in omega arith
-minus-size (negsuc a) (negsuc b) A B = let h : a < 2 ^ 31 = A .sfits in let k : b < 2 ^ 31 = B .sfits in sub-size (suc b) (suc a) (2 ^ 32 - 1) (omega arith) (omega arith)
+minus-size (negsuc a) (negsuc b) A B = let h : a < 2 ^ 31 = A .sfits in let k : b < 2 ^ 31 = B .sfits in
+    sub-size (suc b) (suc a) (2 ^ 32 - 1) (omega arith) (omega arith)
 
 -- a difference of two numbers of at most N in size
 pub minus-within : (a b : ℤ) (N : ℕ) → natAbs a ≤ N → natAbs b ≤ N → natAbs (a -ℤ b) ≤ N + N
@@ -102,8 +104,10 @@ wrapped-half d h = go (wrapped d) (wrap d)
         go' false y = omega arith
 
     go : (z : ℤ) → Wrap d z → natAbs z ≤ 1800000000
-    go z (east n e l) = let k : n ≤ 3600000000 = subst (λ (y : ℤ). natAbs y ≤ 3600000000) e h in near n 3600000000 (omega arith) (omega arith)
-    go z (west n e l) = let k : suc n ≤ 3600000000 = subst (λ (y : ℤ). natAbs y ≤ 3600000000) e h in near 3600000000 (suc n) (omega arith) (omega arith)
+    go z (east n e l) = let k : n ≤ 3600000000 = subst (λ (y : ℤ). natAbs y ≤ 3600000000) e h in
+        near n 3600000000 (omega arith) (omega arith)
+    go z (west n e l) = let k : suc n ≤ 3600000000 = subst (λ (y : ℤ). natAbs y ≤ 3600000000) e h in
+        near 3600000000 (suc n) (omega arith) (omega arith)
     go z (stays k) = k
 
 -- ---- the machine's steps: it writes each signed result as bits and reads it back
@@ -137,7 +141,8 @@ mag-sub a b A B = go (ltb a b) (ltb→lt a b)
 module _ (d : ℤ) (F : SFits w64 d) where
   pub loses : ltZ (pos 1800000000) (back d) ≡ true → Wrapped d (back d -ℤ pos 3600000000)
   unfolding wrapped
-  loses t = subst (λ (y : ℤ). Wrapped d (y -ℤ pos 3600000000)) (sym e) (stepped d (d -ℤ pos 3600000000) (fits d F u) (sym (ap (λ (b : Bool). cond b (d -ℤ pos 3600000000) (cond (ltZ d (negsuc 1799999999)) (d +ℤ pos 3600000000) d)) u)))
+  loses t = subst (λ (y : ℤ). Wrapped d (y -ℤ pos 3600000000)) (sym e) (stepped d (d -ℤ pos 3600000000) (fits d F u)
+      (sym (ap (λ (b : Bool). cond b (d -ℤ pos 3600000000) (cond (ltZ d (negsuc 1799999999)) (d +ℤ pos 3600000000) d)) u)))
     where
       e : back d ≡ d
       e = toZ-ofZ w64 d F

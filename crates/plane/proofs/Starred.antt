@@ -52,9 +52,11 @@ unfolding metres constant ofBits add toUnsigned
 under-half-metre = refl
 
 -- * Longitude −1,800,000,000 to 1,800,000,000: east 0. It is at most 0 in size, whatever the latitudes.
-pub half-round : (lat0 lat : ℤ) → natAbs lat0 ≤ 900000000 → Within plusZero (frame lat0 (negsuc 1799999999) (eastPerE7 lat0) lat (pos 1800000000) .east)
+pub half-round : (lat0 lat : ℤ) → natAbs lat0 ≤ 900000000
+    → Within plusZero (frame lat0 (negsuc 1799999999) (eastPerE7 lat0) lat (pos 1800000000) .east)
 unfolding frame wrapped mul ofInt
-half-round lat0 lat h = mul-within binary32 plusZero (frac 5) plusZero plusZero (eastPerE7 lat0) tt (within-refl plusZero tt) (east-factor lat0 h)
+half-round lat0 lat h =
+    mul-within binary32 plusZero (frac 5) plusZero plusZero (eastPerE7 lat0) tt (within-refl plusZero tt) (east-factor lat0 h)
 
 -- exactly half a turn stays
 pub half-turn : (wrapped (pos 1800000000) ≡ pos 1800000000) × (wrapped (negsuc 1799999999) ≡ negsuc 1799999999)

@@ -37,9 +37,11 @@ east-factor lat h =
     let N : Within (fin false 3515625 (pos 8)) n = ofInt-within f (fin false 3515625 (pos 8)) 900000000 lat tt h in
     let k = constant 1 (10 ^ 7) in
     let a = n ⊗ k in
-    let A : Within (fin false 91 (pos 0)) a = mul-within f (fin false 3515625 (pos 8)) k (fin false 91 (pos 0)) n k tt N (within-refl k tt) in
+    let A : Within (fin false 91 (pos 0)) a =
+    mul-within f (fin false 3515625 (pos 8)) k (fin false 91 (pos 0)) n k tt N (within-refl k tt) in
     let b = a ⊗ pi in
-    let B : Within (fin false 287 (pos 0)) b = mul-within f (fin false 91 (pos 0)) pi (fin false 287 (pos 0)) a pi tt A (within-refl pi tt) in
+    let B : Within (fin false 287 (pos 0)) b =
+    mul-within f (fin false 91 (pos 0)) pi (fin false 287 (pos 0)) a pi tt A (within-refl pi tt) in
     let d = constant 180 1 in
     let r = b ⊘ d in
     let R : Within (part 13 2) r = div-within f (fin false 287 (pos 0)) d (part 13 2) b d tt B (within-refl d tt) in
@@ -51,14 +53,17 @@ east-factor-ok lat h =
     let k = eastPerE7 lat in
     let w = east-factor lat h in
     let s = sized k (within-finite (frac 5) k w) in
-    within→le 5368709 (negsuc 27) (sizeOf k) (widen (frac 5) (fin false 5368709 (negsuc 27)) (sizeOf k) tt (within-trans (frac 5) k (sizeOf k) w (s .0))) .0
+    within→le 5368709 (negsuc 27) (sizeOf k)
+    (widen (frac 5) (fin false 5368709 (negsuc 27)) (sizeOf k) tt (within-trans (frac 5) k (sizeOf k) w (s .0))) .0
 
 -- the place of a fix on the globe, seen from an origin on the globe
-pub frame-place : (lat0 lon0 lat lon : ℤ) (factor : Float) → OnGlobe lat0 lon0 → OnGlobe lat lon → Within (frac 5) factor → Place (frame lat0 lon0 factor lat lon)
+pub frame-place : (lat0 lon0 lat lon : ℤ) (factor : Float) → OnGlobe lat0 lon0 → OnGlobe lat lon → Within (frac 5) factor
+    → Place (frame lat0 lon0 factor lat lon)
 unfolding frame mPerE7 constant
 frame-place lat0 lon0 lat lon factor O G w =
     record {
-      east = factor-coordinate (wrapped (lon -ℤ lon0)) factor (wrapped-half (lon -ℤ lon0) (minus-within lon lon0 1800000000 (G .longitude) (O .longitude))) w;
+      east = factor-coordinate (wrapped (lon -ℤ lon0)) factor
+          (wrapped-half (lon -ℤ lon0) (minus-within lon lon0 1800000000 (G .longitude) (O .longitude))) w;
       north = factor-coordinate (lat -ℤ lat0) mPerE7 (minus-within lat lat0 900000000 (G .latitude) (O .latitude)) (lit≤ tt);
     }
 

@@ -1,4 +1,5 @@
--- Distances and bearings in the plane. Document 01 names the forms ("distance, projection, cosine and angle as f32 formulas"); the formulas are homing.rs's.
+-- Distances and bearings in the plane. Document 01 names the forms ("distance, projection, cosine and angle as f32 formulas"); the formulas
+-- are homing.rs's.
 use Prim.Native.Nat.{ℕ, _*_, _%_, _^_}
 use mathlib.Core.Bool.{cond}
 use lib.Ieee.{Float, binary32, lt}

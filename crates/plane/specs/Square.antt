@@ -1,4 +1,5 @@
--- For the functions inside: squares of distances, what stands under the roots of `distance` and `offSegment`, by which those go that take no root.
+-- For the functions inside: squares of distances, what stands under the roots of `distance` and `offSegment`, by which those go that take
+-- no root.
 use lib.Ieee.{Float}
 use Rattle.binary32.specs.Arithmetic.{_⊕_, _⊖_, _⊗_}
 use Rattle.plane.specs.declared.Point.{Point}

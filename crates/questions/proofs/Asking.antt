@@ -29,9 +29,11 @@ module _ {n : ℕ} (size : ℕ) (b : List Float) (s : State) (asked : n ≡ asks
   unfolding asksCrumbs asksBoth
   both-no refused =
       asked
-      ∙ first (question1 size) (stateFits s && heldFits (capacity size) s) (lineFits b (s .course)) (question4 (length b) 0) (λ e. refused (asked ∙ e))
+      ∙ first (question1 size) (stateFits s && heldFits (capacity size) s) (lineFits b (s .course)) (question4 (length b) 0)
+      (λ e. refused (asked ∙ e))
 
   pub both-line : n ≡ 0 → asksBoth size b s ≡ (unless (lineFits b (s .course)) 10 orElse unless (question4 (length b) 0) 4)
   unfolding asksCrumbs asksBoth
   both-line passed =
-      rest (question1 size) (stateFits s && heldFits (capacity size) s) (lineFits b (s .course)) (question4 (length b) 0) (sym asked ∙ passed)
+      rest (question1 size) (stateFits s && heldFits (capacity size) s) (lineFits b (s .course)) (question4 (length b) 0)
+      (sym asked ∙ passed)

@@ -31,6 +31,7 @@ pub window-counted : (t : Trail) (f : Follow) (lineLen : ℕ) → counted t f li
 window-counted t f lineLen e = leb-true (t .«window_len») windowPlaces (and-eq-true-iff _ _ .0 (and-eq-true-iff _ _ .0 e .0) .0)
 
 -- the held crumbs'
-pub held-counted : (C : ℕ) (h : Homing) (b : List Float) → heldFits C (stateOf h b) ≡ (leb (h .trail .len) C && crumbsFit (crumbs (h .trail .len) b))
+pub held-counted : (C : ℕ) (h : Homing) (b : List Float)
+    → heldFits C (stateOf h b) ≡ (leb (h .trail .len) C && crumbsFit (crumbs (h .trail .len) b))
 unfolding heldFits track
 held-counted C h b = ap (λ n. leb n C && crumbsFit (crumbs (h .trail .len) b)) (length-crumbs (h .trail .len) b)

@@ -1,4 +1,5 @@
--- The tests against the nearest binary32 are what question 10 asks: of the binary32s none lies between a bound and the one nearest to it. Assumes nothing.
+-- The tests against the nearest binary32 are what question 10 asks: of the binary32s none lies between a bound and the one nearest to it.
+-- Assumes nothing.
 use Prim.Native.Nat.{ℕ, suc, _+_, _-_, _*_, _^_, _≤_, _<_}
 use native.Mathlib.Nat.{le-of-lt, mul-assoc, mul-one, mul-right-comm, mul-le-mul, mul-le-mul-right, le-of-mul-le-mul-right}
 use native.Mathlib.Omega.{arith}
@@ -52,7 +53,8 @@ whole-part m k few l = by (leb 30 k) refl
     by : (b : Bool) → leb 30 k ≡ b → m * 2 ^ k * 1 ≤ 9313225 * 2 ^ 30 * 1
     by true e =
         let r : k - 30 + 30 ≡ k = omega (arith, leb-true 30 k e) in
-        subst (λ (i : ℕ). m * 2 ^ i * 1 ≤ 9313225 * 2 ^ 30 * 1) r (high-part m (k - 30) (subst (λ (i : ℕ). m * 2 ^ i * 1 < 4656613 * 2 ^ 31 * 1) (sym r) l))
+        subst (λ (i : ℕ). m * 2 ^ i * 1 ≤ 9313225 * 2 ^ 30 * 1) r
+        (high-part m (k - 30) (subst (λ (i : ℕ). m * 2 ^ i * 1 < 4656613 * 2 ^ 31 * 1) (sym r) l))
     by false e = low-part m k few (leb-false 30 k e)
 
 pub small-part : (m d : ℕ) → m < 2 ^ 24 → 0 < d → m * 1 * 1 ≤ 9313225 * 2 ^ 30 * d
@@ -72,7 +74,8 @@ below-end : (x : Float) → T (fits binary32 x) → lt x alongEnd ≡ upTo (10 ^
 unfolding alongEnd constant lt upTo
 below-end nan f = refl
 below-end (inf s) f = refl
-below-end (fin true m e) f = same (ltb 0 (m * up e * 1 + 4656613 * 2 ^ 31 * down e)) true (λ _. tt) (λ _. lt→ltb 0 _ (more (m * up e) (down e) (down-pos e)))
+below-end (fin true m e) f =
+    same (ltb 0 (m * up e * 1 + 4656613 * 2 ^ 31 * down e)) true (λ _. tt) (λ _. lt→ltb 0 _ (more (m * up e) (down e) (down-pos e)))
 below-end (fin false m e) f =
     same (ltb (m * up e * 1) (4656613 * 2 ^ 31 * down e)) (leb (m * up e * 1) (10 ^ 16 * down e))
     (λ t. le→leb _ _ (before-end m e (held binary32 false m e f .0) (ltb→lt _ _ t)))

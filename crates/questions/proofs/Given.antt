@@ -28,7 +28,9 @@ use Rattle.state.specs.State.{stateOf}
 use Rattle.follow.specs.View as follow
 use Rattle.course.specs.Fix.{Fix}
 use Rattle.course.specs.Course.{points}
-use Rattle.calls.specs.Questions.{question1, question4, placesFit, spotsFit, alongFits, factorFits, headingFits, guideFits, shownFits, segmentFits, followFits, countsFit, numbersFit, stateFits, crumbsFit, heldFits, lineFits, latitudeFits, longitudeFits, asksState, asksCrumbs, asksLine, asksBoth, asksGuide, asksFix, asksFixes, unless, _orElse_}
+use Rattle.calls.specs.Questions.{question1, question4, placesFit, spotsFit, alongFits, factorFits, headingFits, guideFits, shownFits}
+use Rattle.calls.specs.Questions.{segmentFits, followFits, countsFit, numbersFit, stateFits, crumbsFit, heldFits, lineFits, latitudeFits}
+use Rattle.calls.specs.Questions.{longitudeFits, asksState, asksCrumbs, asksLine, asksBoth, asksGuide, asksFix, asksFixes, unless, _orElse_}
 use Rattle.questions.specs.Counted.{turned}
 use Rattle.questions.proofs.Counted.{counts-counted, held-counted}
 
@@ -63,11 +65,13 @@ segment-given segment len e =
     let both = and-eq-true-iff (leb 1 segment) (ltb segment len) .0 e in
     (leb-true 1 segment (both .0), ltb-true segment len (both .1))
 
-trail-given : (on : Line) (segment len lineLen : ℕ) → followFits on segment len lineLen ≡ true → on ≡ line.Breadcrumb → (1 ≤ segment) × (segment < len)
+trail-given : (on : Line) (segment len lineLen : ℕ) → followFits on segment len lineLen ≡ true → on ≡ line.Breadcrumb
+    → (1 ≤ segment) × (segment < len)
 unfolding followFits
 trail-given on segment len lineLen e told = segment-given segment len (rw told at e)
 
-course-given : (on : Line) (segment len lineLen : ℕ) → followFits on segment len lineLen ≡ true → on ≡ line.Course → (1 ≤ segment) × (segment < lineLen)
+course-given : (on : Line) (segment len lineLen : ℕ) → followFits on segment len lineLen ≡ true → on ≡ line.Course
+    → (1 ≤ segment) × (segment < lineLen)
 unfolding followFits
 course-given on segment len lineLen e told = segment-given segment lineLen (rw told at e)
 
@@ -105,8 +109,10 @@ module _ (h : Homing) (b : List Float) (fits : stateFits (stateOf h b) ≡ true)
   unfolding numbersFit track
   numbers =
       numbers-given
-      (placesFit (places (h .trail .«window_len») (h .window)) && spotsFit (stateOf h b) && alongFits (h .course .along) && alongFits (h .course .reached))
-      (headingFits (h .motion .heading)) (shownFits (h .guide)) (factorFits (h .frame .«east_per_e7»)) (le plusZero (h .trail .tolerance)) (halves .1)
+      (placesFit (places (h .trail .«window_len») (h .window)) && spotsFit (stateOf h b) && alongFits (h .course .along)
+      && alongFits (h .course .reached))
+      (headingFits (h .motion .heading)) (shownFits (h .guide)) (factorFits (h .frame .«east_per_e7»)) (le plusZero (h .trail .tolerance))
+      (halves .1)
 
   state-fits : Counted h
   state-fits =
@@ -145,7 +151,8 @@ pub record Held (h : Homing) (size : ℕ) : Type 0 where
   pub counted : Counted h
   pub trail : trail.TrailFit (h .trail) size
 
-held-given : (size : ℕ) (h : Homing) (b : List Float) → question1 size ≡ true → (stateFits (stateOf h b) && heldFits (capacity size) (stateOf h b)) ≡ true
+held-given : (size : ℕ) (h : Homing) (b : List Float) → question1 size ≡ true
+    → (stateFits (stateOf h b) && heldFits (capacity size) (stateOf h b)) ≡ true
     → Held h size
 held-given size h b one ten =
     let buffer = buffer-given size one in
@@ -180,7 +187,8 @@ pub record Lined (h : Homing) (size n : ℕ) : Type 0 where
   pub room : n ≤ capacity size
   pub placed : h .course .«line_len» ≤ capacity size
 
-lined-given : (line : List Float) (n : ℕ) (h : Homing) → lineFits line (h .course) ≡ true → question4 (length line) n ≡ true → Lined h (length line) n
+lined-given : (line : List Float) (n : ℕ) (h : Homing) → lineFits line (h .course) ≡ true → question4 (length line) n ≡ true
+    → Lined h (length line) n
 unfolding lineFits question4
 lined-given line n h ten four =
     let C = capacity (length line) in
@@ -194,7 +202,8 @@ lined-given line n h ten four =
       placed = leb-true (h .course .«line_len») C (held .0);
     }
 
-pub line-given : (line : List Float) (n : ℕ) (h : Homing) (b : List Float) → asksLine line n (stateOf h b) ≡ 0 → (Counted h) × (Lined h (length line) n)
+pub line-given : (line : List Float) (n : ℕ) (h : Homing) (b : List Float) → asksLine line n (stateOf h b) ≡ 0
+    → (Counted h) × (Lined h (length line) n)
 unfolding asksLine
 line-given line n h b e =
     let ten = stateFits (stateOf h b) && lineFits line (h .course) in
@@ -208,7 +217,8 @@ pub record Lent (h : Homing) (size lineSize : ℕ) : Type 0 where
   pub lined : Lined h lineSize 0
   pub fit : follow.HomingFit h size lineSize
 
-pub both-given : (size : ℕ) (line : List Float) (h : Homing) (b : List Float) → asksBoth size line (stateOf h b) ≡ 0 → Lent h size (length line)
+pub both-given : (size : ℕ) (line : List Float) (h : Homing) (b : List Float) → asksBoth size line (stateOf h b) ≡ 0
+    → Lent h size (length line)
 unfolding asksBoth
 both-given size line h b e =
     let own = stateFits (stateOf h b) && heldFits (capacity size) (stateOf h b) in
@@ -238,7 +248,8 @@ pub fix-given : (x : Fix) → asksFix x ≡ 0 → Located x
 unfolding asksFix latitudeFits longitudeFits
 fix-given x e = by (leb (natAbs (x .lat)) 900000000) (leb (natAbs (x .lon)) 1800000000) refl refl e
   where
-    by : (p q : Bool) → leb (natAbs (x .lat)) 900000000 ≡ p → leb (natAbs (x .lon)) 1800000000 ≡ q → _≡_ {A = ℕ} (cond p (cond q 0 3) 2) 0 → Located x
+    by : (p q : Bool) → leb (natAbs (x .lat)) 900000000 ≡ p → leb (natAbs (x .lon)) 1800000000 ≡ q → _≡_ {A = ℕ} (cond p (cond q 0 3) 2) 0
+        → Located x
     by true true p q e = record { latitude = leb-true (natAbs (x .lat)) 900000000 p; longitude = leb-true (natAbs (x .lon)) 1800000000 q }
     by true false p q e = absurd (omega arith)
     by false q p r e = absurd (omega arith)

@@ -9,7 +9,8 @@ use state::Shown;
 ghost use mathlib.Core.Path.{_≡_};
 ghost use lib.Ieee.{le};
 ghost use Rattle.binary32.specs.Limits.{plusZero};
-ghost use Rattle.calls.specs.Questions.{sized, placeFits, alongFits, factorFits, headingFits, guideFits, shownFits, spotFits, crumbFits, asksGuide};
+ghost use Rattle.calls.specs.Questions.{sized, placeFits, alongFits, factorFits, headingFits, guideFits, shownFits, spotFits, crumbFits};
+ghost use Rattle.calls.specs.Questions.{asksGuide};
 ghost use Rattle.questions.specs.Sure.{leastSure, mostSure};
 
 // A place is at most this far from the origin, east or west, north or south.

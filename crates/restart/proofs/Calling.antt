@@ -34,13 +34,15 @@ module _ (file : List ℕ) (h : Homing) (b : List Float) {n : ℕ} (asked : n �
   unfolding asksStep
   step-file z = neither (asksCrumbs (length b) (stateOf h b)) (asksFile file) (sym asked ∙ z) .1
 
-module _ (budget upper : ℕ) (file : List ℕ) (r : Rebuild) (h : Homing) (b : List Float) {n : ℕ} (asked : n ≡ asksStep (length b) file (stateOf h b)) where
+module _ (budget upper : ℕ) (file : List ℕ) (r : Rebuild) (h : Homing) (b : List Float) {n : ℕ}
+    (asked : n ≡ asksStep (length b) file (stateOf h b)) where
   pub step-refused : n ≢ 0 → Steps budget upper file r h b (record { rebuild = r; homing = h; answer = verdict.Refused n }) b
   unfolding saysVerdict
   step-refused ne =
       record { answered = no asked _ ne; taken = λ z. absurd (ne (asked ∙ z)); refused = λ _. (refl, refl, refl); size = refl }
 
-  pub step-taken : {v : Visited} {exit : List Float} {done : Bool} → n ≡ 0 → Makes (walk budget upper (slot file) r) h b v exit → done ≡ takesOver upper (v .rebuild)
+  pub step-taken : {v : Visited} {exit : List Float} {done : Bool} → n ≡ 0 → Makes (walk budget upper (slot file) r) h b v exit
+      → done ≡ takesOver upper (v .rebuild)
       → Steps budget upper file r h b (record { rebuild = v .rebuild; homing = v .homing; answer = verdict.Is done }) exit
   unfolding saysVerdict step
   step-taken z m e =
@@ -58,7 +60,8 @@ module _ (t : Utc) (r : Rebuild) (h : Homing) {n : ℕ} (asked : (b : List Float
   settle-refused ne =
       record { answered = λ b. no (asked b) tt ne; taken = λ b z. absurd (ne (asked b ∙ z)); refused = λ b _. (refl, refl) }
 
-  pub settle-taken : {v : Visited} → n ≡ 0 → Settles (settle t r) h v → SettlesBreadcrumb t r h (record { rebuild = v .rebuild; homing = v .homing; answer = reply.Taken })
+  pub settle-taken : {v : Visited} → n ≡ 0 → Settles (settle t r) h v
+      → SettlesBreadcrumb t r h (record { rebuild = v .rebuild; homing = v .homing; answer = reply.Taken })
   unfolding saysReply
   settle-taken z s =
       record { answered = λ b. yes (asked b) z refl; taken = λ b _. s; refused = λ b ne. absurd (ne (sym (asked b) ∙ z)) }

@@ -169,8 +169,10 @@ module _ (C : ℕ) (least : 3 ≤ C) (cs : List Call) (h : Homing) (b : List Flo
       (λ t.
       let z = eqb-true (asksStep (length b) file (stateOf h b)) 0 t in
       let makes = walk-makes budget upper (slot file) x (slot-globe file (step-file file h b refl z)) in
-      counted _ (v .homing) b′ (none-refused (length b) room (stateOf h b) measured (step-crumbs file h b refl z) makes) (did .taken z .same))
-      (λ t. let stays = did .refused (eqb-false (asksStep (length b) file (stateOf h b)) 0 t) in uncounted (v .homing) b′ (stays .1) (stays .2))
+      counted _ (v .homing) b′ (none-refused (length b) room (stateOf h b) measured (step-crumbs file h b refl z) makes)
+      (did .taken z .same))
+      (λ t. let stays = did .refused (eqb-false (asksStep (length b) file (stateOf h b)) 0 t) in
+      uncounted (v .homing) b′ (stays .1) (stays .2))
 
   settle-counts : (t : Utc) (x : Rebuild) {v : Settled} → SettlesBreadcrumb t x h v
       → stateOf (v .homing) b ≡ journal C (cs ++ settleCalls t x (stateOf h b)) .state

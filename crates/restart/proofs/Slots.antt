@@ -70,7 +70,8 @@ module _ {f : List ℕ} {slot : ℕ} where
   seeking-start a e = record { before = subst (λ (r : ℕ). Before f 0 r) (sym e) (slots-start (every-accepted f a)); upto = omega arith }
 
   pub seeking-on : {k r n : ℕ} → Seeking f slot k r → k < slot → r ≢ 0 → n ≡ nextOf f r → Seeking f slot (k + 1) n
-  seeking-on {k = k} s h ne e = record { before = subst (λ (n : ℕ). Before f (k + 1) n) (sym e) (slot-on (s .before) ne); upto = omega arith }
+  seeking-on {k = k} s h ne e =
+      record { before = subst (λ (n : ℕ). Before f (k + 1) n) (sym e) (slot-on (s .before) ne); upto = omega arith }
 
   pub seeking-over : {k r : ℕ} → Seeking f slot k r → r ≡ 0 → 0 ≡ recordAt f slot
   seeking-over {k = k} s z = before-is (past-to slot (subst (λ (r : ℕ). Before f k r) z (s .before)) (s .upto))

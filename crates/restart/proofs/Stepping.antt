@@ -44,7 +44,8 @@ not-visited e r h b fit before =
     subst (λ (m : Made). Makes m h b (visited r h) b) (sym (passed-by (visit e r) (quiet r) _ (lt-leb (r .recovered) (e .ride) before)))
     (makes-quiet r h b fit)
 
-pub looked : (e : Entry) (r : Rebuild) {h : Homing} {entry exit : List Float} {v : Visited} → r .recovered ≤ e .ride → Makes (visit e r) h entry v exit
+pub looked : (e : Entry) (r : Rebuild) {h : Homing} {entry exit : List Float} {v : Visited} → r .recovered ≤ e .ride
+    → Makes (visit e r) h entry v exit
     → Makes (look (some e) r) h entry v exit
 unfolding look
 looked e r {h = h} {entry = entry} {exit = exit} {v = v} from m =
@@ -61,7 +62,8 @@ up-to : (k stop : ℕ) → k ≤ stop → k + (stop - k) ≡ stop
 up-to k stop h = omega arith
 
 -- ---- the slots before slot k are looked at, and `index` is the record of slot k
-pub record Going (budget upper stop : ℕ) (f : List ℕ) (r : Rebuild) (h : Homing) (entry : List Float) (k index : ℕ) (v : Visited) (b : List Float) : Type 0 where
+pub record Going (budget upper stop : ℕ) (f : List ℕ) (r : Rebuild) (h : Homing) (entry : List Float) (k index : ℕ) (v : Visited)
+    (b : List Float) : Type 0 where
   pub ends : stop ≡ max (r .walk .slot) (min (r .walk .slot + budget) upper)
   pub made : Makes (walk (k - r .walk .slot) upper (slot f) r) h entry v b
   pub at : v .rebuild .walk .slot ≡ k
@@ -70,14 +72,16 @@ pub record Going (budget upper stop : ℕ) (f : List ℕ) (r : Rebuild) (h : Hom
   pub before : Before f k index
 
 module _ {budget upper stop : ℕ} {f : List ℕ} {r : Rebuild} {h : Homing} where
-  pub going-start : {b : List Float} {index : ℕ} → stop ≡ max (r .walk .slot) (min (r .walk .slot + budget) upper) → trail.TrailFit (h .trail) (length b) → asksFile f ≡ 0
+  pub going-start : {b : List Float} {index : ℕ} → stop ≡ max (r .walk .slot) (min (r .walk .slot + budget) upper)
+      → trail.TrailFit (h .trail) (length b) → asksFile f ≡ 0
       → index ≡ recordAt f (r .walk .slot) → Going budget upper stop f r h b (r .walk .slot) index (visited r h) b
   going-start {b = b} ends fit a e =
       let none : r .walk .slot - r .walk .slot ≡ 0 = omega arith in
       record {
         ends = ends;
         made =
-            subst (λ (m : Made). Makes m h b (visited r h) b) (sym (ap (λ (n : ℕ). walk n upper (slot f) r) none ∙ walk-zero upper (slot f) r))
+            subst (λ (m : Made). Makes m h b (visited r h) b)
+            (sym (ap (λ (n : ℕ). walk n upper (slot f) r) none ∙ walk-zero upper (slot f) r))
             (makes-quiet r h b fit);
         at = refl;
         from = omega arith;
@@ -103,7 +107,8 @@ module _ {budget upper stop : ℕ} {f : List ℕ} {r : Rebuild} {h : Homing} whe
         going-count {e = e} is a =
             count-few e (ap (λ (x : Entry). asksEntry x) is ∙ record-entry f index (slot-asked (g .before) there (every-accepted f a)))
 
-        module _ {e : Entry} (is : e ≡ entryAt f index) {w : Visited} {exit : List Float} (m : Makes (look (some e) (v .rebuild)) (v .homing) mid w exit) where
+        module _ {e : Entry} (is : e ≡ entryAt f index) {w : Visited} {exit : List Float}
+            (m : Makes (look (some e) (v .rebuild)) (v .homing) mid w exit) where
           -- the slot that is looked at
           stays : w .rebuild .walk .slot ≡ k
           stays =
@@ -127,13 +132,16 @@ module _ {budget upper stop : ℕ} {f : List ℕ} {r : Rebuild} {h : Homing} whe
           going-on {n = n} {next = next} put z =
               let moved = past n put in
               let quietly : Makes (quiet (pastSlot (w .rebuild))) (w .homing) exit (visited n (w .homing)) exit =
-              subst (λ (x : Rebuild). Makes (quiet x) (w .homing) exit (visited n (w .homing)) exit) moved (makes-quiet n (w .homing) exit (m .fit)) in
-              let both = one-then (look (some e) (v .rebuild)) (λ x. quiet (pastSlot x)) (v .homing) mid exit exit w (visited n (w .homing)) m quietly in
+              subst (λ (x : Rebuild). Makes (quiet x) (w .homing) exit (visited n (w .homing)) exit) moved
+              (makes-quiet n (w .homing) exit (m .fit)) in
+              let both = one-then (look (some e) (v .rebuild)) (λ x. quiet (pastSlot x)) (v .homing) mid exit exit w
+              (visited n (w .homing)) m quietly in
               let walked = subst (λ (x : Made). Makes x (v .homing) mid (visited n (w .homing)) exit) (sym one) both in
               record {
                 ends = g .ends;
                 made =
-                    subst (λ (j : ℕ). Makes (walk j upper (slot f) r) h entry (visited n (w .homing)) exit) (sym (one-past (r .walk .slot) k (g .from)))
+                    subst (λ (j : ℕ). Makes (walk j upper (slot f) r) h entry (visited n (w .homing)) exit)
+                    (sym (one-past (r .walk .slot) k (g .from)))
                     (joined 1 walked);
                 at = ap (λ (x : Rebuild). x .walk .slot) put;
                 from = omega (arith, g .from);
@@ -142,19 +150,23 @@ module _ {budget upper stop : ℕ} {f : List ℕ} {r : Rebuild} {h : Homing} whe
               }
 
       -- the chain ended before this slot
-      pub going-past : {n : Rebuild} → index ≡ 0 → n ≡ withSlot stop (v .rebuild) → Makes (walk budget upper (slot f) r) h entry (visited n (v .homing)) mid
+      pub going-past : {n : Rebuild} → index ≡ 0 → n ≡ withSlot stop (v .rebuild)
+          → Makes (walk budget upper (slot f) r) h entry (visited n (v .homing)) mid
       going-past {n = n} z e =
           let left = stop - k in
           let most : stop ≤ upper = stop-below (r .walk .slot) budget upper stop (g .ends) k (g .from) below in
           let there : v .rebuild .walk .slot + left ≡ stop = ap (λ (j : ℕ). j + left) (g .at) ∙ up-to k stop (g .upto) in
           let empty : walk left upper (slot f) (v .rebuild) ≡ quiet n =
-          walk-empty upper (slot f) left (v .rebuild) (omega (arith, there, most)) (λ m l. none-behind (g .before) z m (omega (arith, g .at, l)))
+          walk-empty upper (slot f) left (v .rebuild) (omega (arith, there, most))
+          (λ m l. none-behind (g .before) z m (omega (arith, g .at, l)))
           ∙ ap (λ (j : ℕ). quiet (withSlot j (v .rebuild))) there
           ∙ ap (λ (x : Rebuild). quiet x) (sym e) in
           let whole : walk budget upper (slot f) r ≡ walk (k - r .walk .slot + left) upper (slot f) r =
-          walk-enough upper (slot f) budget stop r (g .ends) ∙ ap (λ (j : ℕ). walk j upper (slot f) r) (the-rest (r .walk .slot) k stop (g .from) (g .upto)) in
+          walk-enough upper (slot f) budget stop r (g .ends)
+          ∙ ap (λ (j : ℕ). walk j upper (slot f) r) (the-rest (r .walk .slot) k stop (g .from) (g .upto)) in
           subst (λ (x : Made). Makes x h entry (visited n (v .homing)) mid) (sym whole)
-          (joined left (subst (λ (x : Made). Makes x (v .homing) mid (visited n (v .homing)) mid) (sym empty) (makes-quiet n (v .homing) mid (g .made .fit))))
+          (joined left (subst (λ (x : Made). Makes x (v .homing) mid (visited n (v .homing)) mid) (sym empty)
+          (makes-quiet n (v .homing) mid (g .made .fit))))
 
     -- every slot of the walk is looked at
     pub going-out : stop ≤ k → Makes (walk budget upper (slot f) r) h entry v mid

@@ -1,4 +1,5 @@
--- The walk in parts: some slots and then the rest, the slots behind the chain's end at once, and no more than there are below upper. Assumes nothing.
+-- The walk in parts: some slots and then the rest, the slots behind the chain's end at once, and no more than there are below upper.
+-- Assumes nothing.
 use mathlib.Core.Path.{_≡_, refl, sym, ap, _∙_}
 use Prim.Native.Nat.{ℕ, zero, suc, _+_, _-_, _≤_, _<_, min, max}
 use native.Mathlib.Omega.{arith}
@@ -82,7 +83,8 @@ module _ (upper : ℕ) (slots : ℕ → Option Entry) where
   walk-next n r h = passed-by (quiet r) (seen r λ on. walk n upper slots on) _ (not-caught r h)
 
   -- one slot alone
-  pub walk-one : (r : Rebuild) → r .walk .slot < upper → walk 1 upper slots r ≡ (look (slots (r .walk .slot)) r then λ next. quiet (pastSlot next))
+  pub walk-one : (r : Rebuild) → r .walk .slot < upper
+      → walk 1 upper slots r ≡ (look (slots (r .walk .slot)) r then λ next. quiet (pastSlot next))
   unfolding walk
   walk-one r h = walk-next 0 r h
 
@@ -141,6 +143,7 @@ module _ (upper : ℕ) (slots : ℕ → Option Entry) where
       let here : r .walk .slot < upper = omega (arith, h) in
       let on : suc (r .walk .slot) + n ≡ r .walk .slot + suc n = omega arith in
       walk-next n r here
-      ∙ ap (λ (o : Option Entry). look o r then λ next. quiet (pastSlot next) then λ on. walk n upper slots on) (e (r .walk .slot) (omega arith))
+      ∙ ap (λ (o : Option Entry). look o r then λ next. quiet (pastSlot next) then λ on. walk n upper slots on)
+      (e (r .walk .slot) (omega arith))
       ∙ walk-empty n (pastSlot r) (omega (arith, h)) (λ k l. e k (omega (arith, l)))
       ∙ ap (λ (k : ℕ). quiet (withSlot k r)) on

@@ -1,5 +1,5 @@
--- What each call of a rebuild promises. `new` and `caught_up` are given no state, buffer or file, and are asked nothing: they promise the rules of
--- these names.
+-- What each call of a rebuild promises. `new` and `caught_up` are given no state, buffer or file, and are asked nothing: they promise the
+-- rules of these names.
 use Prim.Native.Nat.{ℕ}
 use mathlib.Core.Path.{_≡_}
 use mathlib.Core.Logic.{_≢_}
@@ -26,7 +26,8 @@ unfoldable pub asksStep : ℕ → List ℕ → State → ℕ
 asksStep size file s = asksCrumbs size s orElse asksFile file
 
 -- `step`: up to `budget` slots below `upper` of the file are read into the breadcrumb
-pub record Steps (budget upper : ℕ) (file : List ℕ) (r : Rebuild) (h : Homing) (entry : List Float) (v : Stepped) (exit : List Float) : Type 0 where
+pub record Steps (budget upper : ℕ) (file : List ℕ) (r : Rebuild) (h : Homing) (entry : List Float) (v : Stepped) (exit : List Float) :
+    Type 0 where
   pub answered : saysVerdict (v .answer) ≡ answer (asksStep (length entry) file (stateOf h entry)) (step budget upper (slot file) r .answer)
   -- `Makes` says what becomes of the rebuild, the state and the crumb buffer, and which numbers are free
   pub taken : asksStep (length entry) file (stateOf h entry) ≡ 0

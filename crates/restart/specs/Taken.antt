@@ -25,8 +25,8 @@ use Rattle.restart.specs.declared.Stepped.{Stepped}
 use Rattle.restart.specs.declared.Settled.{Settled}
 use Rattle.restart.specs.Promises.{asksStep, Steps, SettlesBreadcrumb}
 
--- `Rebuilt C h b l`: a new guide on a buffer for C crumbs, whatever that held, came to the state h and the buffer b by calls of its own and of
--- rebuilds, in any order, and its `set_course` has left the line l. Each did what its contract promises.
+-- `Rebuilt C h b l`: a new guide on a buffer for C crumbs, whatever that held, came to the state h and the buffer b by calls of its own and
+-- of rebuilds, in any order, and its `set_course` has left the line l. Each did what its contract promises.
 pub data Rebuilt (C : ℕ) : Homing → List Float → List Crumb → Type 0 where
   new : {h : Homing} {b : List Float} → length b ≡ stride * C → stateOf h b ≡ rule.new → Rebuilt C h b []
   -- a call of the guide that is lent a buffer with the placed line in front, and whose places are in range

@@ -59,10 +59,12 @@ module _ (file : List ℕ) {h : Homing} {b exit : List Float} {v : Visited} (siz
   unfolding heldAfter rebuilt track
   held =
       ap (λ (s : State). s .track .crumbs) (made .same)
-      ∙ ap (λ (n : ℕ). effect (step slots slots (slot file) (newRebuild (recovered file)) .made) (capacity n) (stateOf h b) .state .track .crumbs) size
+      ∙ ap (λ (n : ℕ). effect (step slots slots (slot file) (newRebuild (recovered file)) .made) (capacity n)
+      (stateOf h b) .state .track .crumbs) size
       ∙ ap (λ (s : State). effect (step slots slots (slot file) (newRebuild (recovered file)) .made) 512 s .state .track .crumbs) fresh
 
-  pub retold-rebuilt : rebuiltText (crumbs (v .homing .trail .len) exit) (v .rebuild .«clock_ms») (isDecided (v .rebuild .stage)) ≡ retold file
+  pub retold-rebuilt : rebuiltText (crumbs (v .homing .trail .len) exit) (v .rebuild .«clock_ms») (isDecided (v .rebuild .stage))
+      ≡ retold file
   unfolding retold rebuilt
   retold-rebuilt =
       ap (λ (l : List Crumb). rebuiltText l (v .rebuild .«clock_ms») (isDecided (v .rebuild .stage))) held
@@ -88,7 +90,8 @@ module _ {A : Type 0} (n : ℕ) (x : A) where
       by false t = let f : _≡_ {A = Answer A} (refused k) (refused n) = rw t at e in (eqb-false n 0 t, cc)
 
 -- ---- the step of a new guide
-module _ (file : List ℕ) {h : Homing} {r : Rebuild} {b exit : List Float} {v : Stepped} (size : length b ≡ 1536) (fresh : stateOf h b ≡ guide.new)
+module _ (file : List ℕ) {h : Homing} {r : Rebuild} {b exit : List Float} {v : Stepped} (size : length b ≡ 1536)
+    (fresh : stateOf h b ≡ guide.new)
     (begun : r ≡ newRebuild (recovered file)) (done : Steps slots slots file r h b v exit) where
   asked : asksStep (length b) file (stateOf h b) ≡ asksFile file
   unfolding asksStep
@@ -97,7 +100,8 @@ module _ (file : List ℕ) {h : Homing} {r : Rebuild} {b exit : List Float} {v :
   answered : saysVerdict (v .answer) ≡ answer (asksFile file) (step slots slots (slot file) r .answer)
   answered = done .answered ∙ ap (λ (n : ℕ). answer n (step slots slots (slot file) r .answer)) asked
 
-  made : asksFile file ≡ 0 → Makes (step slots slots (slot file) (newRebuild (recovered file)) .made) h b (record { rebuild = v .rebuild; homing = v .homing }) exit
+  made : asksFile file ≡ 0 → Makes (step slots slots (slot file) (newRebuild (recovered file)) .made) h b
+      (record { rebuild = v .rebuild; homing = v .homing }) exit
   made e = rw begun at (done .taken (asked ∙ e))
 
   tells : told (v .answer) (v .rebuild) (crumbs (v .homing .trail .len) exit) ≡ retold file
@@ -126,7 +130,8 @@ module _ (file : List ℕ) {h : Homing} {r : Rebuild} {b exit : List Float} {v :
   rebuilds = record { tells = tells; held = held-room; size = done .size ∙ size }
 
 -- ---- what is told
-pub tells-rebuilt : {a : Verdict} {d is : Bool} (r : Rebuild) (l : List Crumb) {e f : List ℕ} {k : ℕ} → a ≡ verdict.Is d → is ≡ isDecided (r .stage)
+pub tells-rebuilt : {a : Verdict} {d is : Bool} (r : Rebuild) (l : List Crumb) {e f : List ℕ} {k : ℕ} → a ≡ verdict.Is d
+    → is ≡ isDecided (r .stage)
     → WritesWhole (rebuiltText l (r .«clock_ms») is) e f k → WritesWhole (told a r l) e f k
 unfolding told
 tells-rebuilt r l h decided t = rw (h, ← decided) t

@@ -60,7 +60,8 @@ walk-within : (n : ℕ) (f : List ℕ) (r : ℕ) → length (recordsFrom n f r) 
 unfolding recordsFrom
 walk-within zero f r = le-refl 0
 walk-within (suc n) f zero = omega arith
-walk-within (suc n) f (suc r) = let again : length (recordsFrom n f (nextOf f (suc r))) ≤ n = walk-within n f (nextOf f (suc r)) in omega arith
+walk-within (suc n) f (suc r) = let again : length (recordsFrom n f (nextOf f (suc r))) ≤ n = walk-within n f (nextOf f (suc r)) in
+    omega arith
 
 past : {A : Type 0} (g : ℕ → A) (l : List ℕ) (k : ℕ) → length l ≤ k → getElem? (map g l) k ≡ none
 past g [] k h = refl
@@ -71,5 +72,10 @@ pub whole : EveryWhole
 unfolding rebuilt step slot entries chain
 whole file a =
     let most : recordCount file ≤ 682 = accepted file a .most in
-    let within : length (recordsFrom (recordCount file) file (nextOf file 0)) ≤ recordCount file = walk-within (recordCount file) file (nextOf file 0) in
-    record { looked = caught-up slots slots _ _ (le-refl slots); beyond = λ k h. past (entryAt file) (recordsFrom (recordCount file) file (nextOf file 0)) k (omega arith) }
+    let within : length (recordsFrom (recordCount file) file (nextOf file 0)) ≤ recordCount file =
+    walk-within (recordCount file) file (nextOf file 0) in
+    record {
+      looked = caught-up slots slots _ _ (le-refl slots);
+      beyond =
+          λ k h. past (entryAt file) (recordsFrom (recordCount file) file (nextOf file 0)) k (omega arith);
+    }

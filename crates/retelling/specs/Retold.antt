@@ -1,5 +1,5 @@
--- What `retell` prints of a chain file. Document 01, "Entry": "reads it on standard input, checks all, rebuilds the whole chain with 512 crumbs without a
--- settle".
+-- What `retell` prints of a chain file. Document 01, "Entry": "reads it on standard input, checks all, rebuilds the whole chain with 512
+-- crumbs without a settle".
 use Prim.Native.Nat.{ℕ, _≤_}
 use mathlib.Core.Path.{_≡_}
 use mathlib.Core.Bool.{Bool, true, false}

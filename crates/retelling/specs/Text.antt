@@ -1,5 +1,5 @@
--- What `retell` prints, as a list of bytes. Document 01, "Entry": "prints `crumbs N clock N stage pending` (or `decided`), decimal, then per crumb three
--- f32 patterns of eight hexadecimal capitals"; "On refusal it prints only `refused N`."
+-- What `retell` prints, as a list of bytes. Document 01, "Entry": "prints `crumbs N clock N stage pending` (or `decided`), decimal, then
+-- per crumb three f32 patterns of eight hexadecimal capitals"; "On refusal it prints only `refused N`."
 use Prim.Native.Nat.{ℕ, zero, suc, _+_, _/_, _%_}
 use mathlib.Core.Bool.{Bool, true, false, cond}
 use mathlib.Core.List.{List, [], _∷_, _++_}

@@ -4,8 +4,8 @@ use mathlib.Core.Path.{_≡_}
 use mathlib.Core.List.{List, _++_}
 use lib.ListN.{length, take, drop}
 
--- The bytes `l` are written from place `at` of a text on, and r is the place behind them: what stood before is followed by as many of them as there
--- is room for. What stands behind is unchanged.
+-- The bytes `l` are written from place `at` of a text on, and r is the place behind them: what stood before is followed by as many of them
+-- as there is room for. What stands behind is unchanged.
 pub record Writes (l entry : List ℕ) (at : ℕ) (exit : List ℕ) (r : ℕ) : Type 0 where
   pub text : take r exit ≡ take (length entry) (take at entry ++ l)
   pub size : length exit ≡ length entry

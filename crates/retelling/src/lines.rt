@@ -7,7 +7,8 @@ ghost use mathlib.Core.List.{_∷_, []};
 ghost use Prim.Native.Nat.{_<_, _≤_};
 ghost use lib.ListN.{length};
 ghost use Rattle.crumbs.specs.Crumb.{capacity, crumbs};
-ghost use Rattle.retelling.specs.Text.{capital as capitalOf, decimal, capitals, pattern, crumbLine, crumbLines, stageText, firstLine, rebuiltText, refusedText};
+ghost use Rattle.retelling.specs.Text.{capital as capitalOf, decimal, capitals, pattern, crumbLine, crumbLines, stageText, firstLine};
+ghost use Rattle.retelling.specs.Text.{rebuiltText, refusedText};
 ghost use Rattle.retelling.specs.Writing.{Writes, WritesWhole};
 
 // ---- bytes and words
@@ -132,7 +133,8 @@ pub fn put_refused(text: &mut [u8], number: u8) -> usize
 // The first line, and the first `len` crumbs of the buffer.
 pub fn put_rebuilt(text: &mut [u8], len: usize, clock_ms: u64, decided: bool, buf: &[f32]) -> usize
     requires { ⌜ (length (now buf) ≡ 1536) × (len ≤ 512) ⌝ }
-    ensures { λ r. ⌜ WritesWhole (rebuiltText (crumbs len (now (buf .entry))) «clock_ms» decided) (now (text .entry)) (now (text .exit)) r ⌝ }
+    ensures { λ r. ⌜ WritesWhole (rebuiltText (crumbs len (now (buf .entry))) «clock_ms» decided) (now (text .entry))
+        (now (text .exit)) r ⌝ }
 {
     let at = put_first(text, 0, len, clock_ms, decided);
     put_crumbs(text, at, buf, len)

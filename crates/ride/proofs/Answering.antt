@@ -13,7 +13,8 @@ use Rattle.state.specs.declared.Homing.{Homing}
 use Rattle.state.specs.State.{State, stateOf}
 use Rattle.state.specs.Rule.{Done, done}
 use Rattle.course.specs.Fix.{Fix}
-use Rattle.calls.specs.Calls.{Call, Ask, Len, Reset, EndReplay, SetCourse, SetAutoFollow, Observe, Replay, SetFollowing, asks, performs, afterCall}
+use Rattle.calls.specs.Calls.{Call, Ask, Len, Reset, EndReplay, SetCourse, SetAutoFollow, Observe, Replay, SetFollowing, asks, performs}
+use Rattle.calls.specs.Calls.{afterCall}
 use Rattle.calls.specs.Promises.{Called}
 use Rattle.ride.specs.Script.{numbered, callOf}
 use Rattle.ride.proofs.Tests.{never}

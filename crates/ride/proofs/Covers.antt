@@ -185,7 +185,8 @@ covers cs m =
       ops = (map opOf cs, slice-map _ opOf 1 cs (every _ cs op-fits, omega (arith, few)));
       clocks = (map clockOf cs, slice-map _ clockOf 8 cs (m .clocks));
       sizes = (map sizeOf cs, slice-map _ sizeOf 8 cs (each-part (λ c. lentTo c) linesOf (λ c cs. refl) cs (m .lines .1), few));
-      counts = (map countOf cs, slice-map _ countOf 8 cs (each-part (λ c. arguments c .points) pointsOf (λ c cs. refl) cs (m .lats .1), few));
+      counts =
+          (map countOf cs, slice-map _ countOf 8 cs (each-part (λ c. arguments c .points) pointsOf (λ c cs. refl) cs (m .lats .1), few));
       lines = (linesOf cs, m .lines);
       lats = (map (λ x. x .lat) (pointsOf cs), slice-map _ (λ x. x .lat) 4 (pointsOf cs) (m .lats));
       lons = (map (λ x. x .lon) (pointsOf cs), slice-map _ (λ x. x .lon) 4 (pointsOf cs) (m .lons));

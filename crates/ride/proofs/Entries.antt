@@ -1,4 +1,5 @@
--- The laws of what is written of the calls: as many as there are of all four numbers, and each is what stands at its place. Assumes nothing.
+-- The laws of what is written of the calls: as many as there are of all four numbers, and each is what stands at its place. Assumes
+-- nothing.
 use Prim.Native.Nat.{ℕ, zero, suc, _<_, min}
 use mathlib.Core.Path.{_≡_, refl}
 use mathlib.Core.List.{List, [], _∷_}
@@ -27,4 +28,5 @@ getD-entries (op ∷ ops) [] sizes counts k d h = absurd (omega arith)
 getD-entries (op ∷ ops) (clock ∷ clocks) [] counts k d h = absurd (omega arith)
 getD-entries (op ∷ ops) (clock ∷ clocks) (size ∷ sizes) [] k d h = absurd (omega arith)
 getD-entries (op ∷ ops) (clock ∷ clocks) (size ∷ sizes) (count ∷ counts) zero d h = refl
-getD-entries (op ∷ ops) (clock ∷ clocks) (size ∷ sizes) (count ∷ counts) (suc k) d h = getD-entries ops clocks sizes counts k d (omega arith)
+getD-entries (op ∷ ops) (clock ∷ clocks) (size ∷ sizes) (count ∷ counts) (suc k) d h =
+    getD-entries ops clocks sizes counts k d (omega arith)

@@ -50,7 +50,8 @@ abbrev pub from : Script → ℕ → ℕ → ℕ → List Call
 from s k at first = decode (s .room) (drop k (entriesOf s)) (drop at (s .lines)) (drop first (pointsOf s))
 
 -- What the loop carries on: n calls and m points are written, and the calls from the k-th on are still to come.
-pub record Performing (s : Script) (h₀ : Homing) (entry : List Float) (n m k at first : ℕ) (crumbs line : List Float) (h : Homing) : Type 0 where
+pub record Performing (s : Script) (h₀ : Homing) (entry : List Float) (n m k at first : ℕ) (crumbs line : List Float) (h : Homing) :
+    Type 0 where
   pub calls : n ≡ length (entriesOf s)
   pub points : m ≡ length (pointsOf s)
   pub so-far : k ≤ n

@@ -1,5 +1,5 @@
--- The laws of the points a call is given: a part of latitudes and of longitudes is that part of the points, and the first is the call's place.
--- Assumes nothing.
+-- The laws of the points a call is given: a part of latitudes and of longitudes is that part of the points, and the first is the call's
+-- place. Assumes nothing.
 use Prim.Native.Nat.{ℕ, zero, suc, _+_, _-_, _^_, _<_}
 use mathlib.Core.Path.{_≡_, refl, ap, ap₂, _∙_}
 use mathlib.Core.List.{List, [], _∷_}
@@ -37,7 +37,8 @@ drop-fixes (suc n) (lat ∷ lats) (lon ∷ lons) = drop-fixes n lats lons
 
 -- the points from `first` up to `first + count`
 pub part-fixes : (first count : ℕ) (lats lons : List ℤ)
-    → fixes (take (first + count - first) (drop first lats)) (take (first + count - first) (drop first lons)) ≡ take count (drop first (fixes lats lons))
+    → fixes (take (first + count - first) (drop first lats)) (take (first + count - first) (drop first lons))
+    ≡ take count (drop first (fixes lats lons))
 part-fixes first count lats lons =
     let e : first + count - first ≡ count = omega arith in
     rw (e, take-fixes, drop-fixes)
@@ -65,7 +66,8 @@ module _ (lats lons : List ℤ) where
   unfolding fixes placeIn
   first-place h a b = ap₂ At (handed-same _ a) (handed-same _ b) ∙ go lats lons h
     where
-      go : (lats lons : List ℤ) → (length (fixes lats lons) ≡ 0 → ⊥) → At (getD lats 0 (pos 0)) (getD lons 0 (pos 0)) ≡ placeIn (fixes lats lons)
+      go : (lats lons : List ℤ) → (length (fixes lats lons) ≡ 0 → ⊥)
+          → At (getD lats 0 (pos 0)) (getD lons 0 (pos 0)) ≡ placeIn (fixes lats lons)
       go [] lons e = absurd (e refl)
       go (lat ∷ lats) [] e = absurd (e refl)
       go (lat ∷ lats) (lon ∷ lons) e = refl

@@ -14,8 +14,8 @@ use Rattle.homing.specs.declared.Changed.{Changed}
 use Rattle.homing.specs.Answers.{saysReply}
 use Rattle.history.specs.History.{Holds}
 
--- A new guide is made on a crumb buffer, and performs the calls cs. Where question 1 says no, none is performed and nothing changed. What the
--- working line holds after calls that were performed is free; its length stays.
+-- A new guide is made on a crumb buffer, and performs the calls cs. Where question 1 says no, none is performed and nothing changed. What
+-- the working line holds after calls that were performed is free; its length stays.
 pub record Rides (cs : List Call) (entry line : List Float) (r : Changed) (exit line′ : List Float) : Type 0 where
   pub answered : saysReply (r .answer) ≡ answer (unless (question1 (length entry)) 1) (tt {0})
   pub holds : question1 (length entry) ≡ true → Holds (capacity (length entry)) cs (r .homing) exit

@@ -1,5 +1,5 @@
--- A list of calls as it is written down: in slices beside each other one number a call, and one behind the other the numbers of the lines that are
--- lent and the points of the places and courses.
+-- A list of calls as it is written down: in slices beside each other one number a call, and one behind the other the numbers of the lines
+-- that are lent and the points of the places and courses.
 use Prim.Native.Nat.{ℕ}
 use mathlib.Core.Bool.{Bool, true, false, _&&_, cond}
 use mathlib.Core.List.{List, [], _∷_}

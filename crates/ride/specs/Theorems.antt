@@ -40,8 +40,8 @@ SliceOf P bytes xs = Each P xs × (length xs * bytes < 2 ^ 63)
 abbrev pub IsF32 : Float → Type 0
 IsF32 x = T (fits binary32 x)
 
--- The numbers of all lines that the calls are lent fit in a slice of f32, the latitudes and the longitudes they are given in one of i32 each,
--- and their clocks in one of u64.
+-- The numbers of all lines that the calls are lent fit in a slice of f32, the latitudes and the longitudes they are given in one of i32
+-- each, and their clocks in one of u64.
 pub record MachineSize (cs : List Call) : Type 0 where
   pub lines : SliceOf IsF32 4 (linesOf cs)
   pub lats : SliceOf (λ x. SFits w32 (x .lat)) 4 (pointsOf cs)

@@ -105,7 +105,8 @@ fn fill(line: &mut [f32], from: &[f32])
 
 // `replay` at the first point.
 fn replay(h: Homing, crumbs: &mut [f32], lats: &[i32], lons: &[i32], clock: u64) -> Homing
-    ensures { λ r. ⌜ Called (Replay (fixIn (fixes (now (lats .entry)) (now (lons .entry)))) clock) h (now (crumbs .entry)) r (now (crumbs .exit)) ⌝ }
+    ensures { λ r. ⌜ Called (Replay (fixIn (fixes (now (lats .entry)) (now (lons .entry)))) clock) h (now (crumbs .entry)) r
+        (now (crumbs .exit)) ⌝ }
 {
     if course::count(lats, lons) == 0 {
         let r = homing::replay(h, crumbs, 0, 0, clock);
@@ -172,7 +173,8 @@ fn call(
     clock: u64,
 ) -> Homing
     requires { ⌜ 3 ≤ op ⌝ }
-    ensures { λ r. ⌜ Called (callOf op clock (now (line .entry)) (fixes (now (lats .entry)) (now (lons .entry)))) h (now (crumbs .entry)) r (now (crumbs .exit)) ⌝ }
+    ensures { λ r. ⌜ Called (callOf op clock (now (line .entry)) (fixes (now (lats .entry)) (now (lons .entry)))) h (now (crumbs .entry)) r
+        (now (crumbs .exit)) ⌝ }
 {
     if op == AUTO_FOLLOW_OFF {
         let r = homing::set_auto_follow(h, crumbs, false);
@@ -214,7 +216,8 @@ fn step(
     clock: u64,
 ) -> Homing
     requires { ⌜ length (now line) ≡ length (now from) ⌝ }
-    ensures { λ r. ⌜ Called (callOf op clock (now (from .entry)) (fixes (now (lats .entry)) (now (lons .entry)))) h (now (crumbs .entry)) r (now (crumbs .exit)) ⌝ }
+    ensures { λ r. ⌜ Called (callOf op clock (now (from .entry)) (fixes (now (lats .entry)) (now (lons .entry)))) h (now (crumbs .entry)) r
+        (now (crumbs .exit)) ⌝ }
 {
     if op == RESET {
         let r = homing::reset(h);
@@ -247,7 +250,8 @@ fn perform(
     lats: &[i32],
     lons: &[i32],
 ) -> Homing
-    ensures { λ r. ⌜ Performs (writtenCalls (length (now (line .entry))) (now (ops .entry)) (now (clocks .entry)) (now (sizes .entry)) (now (counts .entry)) (now (lines .entry)) (now (lats .entry)) (now (lons .entry))) h0 (now (crumbs .entry)) r (now (crumbs .exit)) ⌝ }
+    ensures { λ r. ⌜ Performs (writtenCalls (length (now (line .entry))) (now (ops .entry)) (now (clocks .entry)) (now (sizes .entry)) (now
+        (counts .entry)) (now (lines .entry)) (now (lats .entry)) (now (lons .entry))) h0 (now (crumbs .entry)) r (now (crumbs .exit)) ⌝ }
 {
     let room = line.len();
     let numbers = lines.len();
@@ -297,7 +301,9 @@ pub fn ride(
     lats: &[i32],
     lons: &[i32],
 ) -> Changed
-    ensures { λ r. ⌜ Rides (writtenCalls (length (now (line .entry))) (now (ops .entry)) (now (clocks .entry)) (now (sizes .entry)) (now (counts .entry)) (now (lines .entry)) (now (lats .entry)) (now (lons .entry))) (now (crumbs .entry)) (now (line .entry)) r (now (crumbs .exit)) (now (line .exit)) ⌝ }
+    ensures { λ r. ⌜ Rides (writtenCalls (length (now (line .entry))) (now (ops .entry)) (now (clocks .entry)) (now (sizes .entry))
+        (now (counts .entry)) (now (lines .entry)) (now (lats .entry)) (now (lons .entry))) (now (crumbs .entry)) (now (line .entry)) r
+        (now (crumbs .exit)) (now (line .exit)) ⌝ }
 {
     let made = homing::new(crumbs);
     let answer = made.answer;

@@ -31,7 +31,8 @@ refuted : (b : Bool) → (b ≡ true → ⊥) → b ≡ false
 refuted true wrong = absurd (wrong refl)
 refuted false wrong = refl
 
-module _ (line : List Crumb) (p : Point) (cost : ℕ → Cost) (earlier : ℕ → ℕ → Type 0) (one-way : (e f : ℕ) → earlier e f → earlier f e → ⊥) where
+module _ (line : List Crumb) (p : Point) (cost : ℕ → Cost) (earlier : ℕ → ℕ → Type 0)
+    (one-way : (e f : ℕ) → earlier e f → earlier f e → ⊥) where
   pub record Leads (done : ℕ → Type 0) (near : Nearest) (least : Float) : Type 0 where
     pub among : done (near .end)
     pub there : near ≡ nearestOn line p (near .end)
@@ -44,7 +45,8 @@ module _ (line : List Crumb) (p : Point) (cost : ℕ → Cost) (earlier : ℕ �
   Chosen done Empty = (e : ℕ) (c : Float) → done e → cost e ≡ Metres c → ⊥
   Chosen done (Least near least) = Leads done near least
 
-  chosen-same : (done done′ : ℕ → Type 0) → ((e : ℕ) → done e → done′ e) → ((e : ℕ) → done′ e → done e) → (best : SoFar) → Chosen done best → Chosen done′ best
+  chosen-same : (done done′ : ℕ → Type 0) → ((e : ℕ) → done e → done′ e) → ((e : ℕ) → done′ e → done e) → (best : SoFar) → Chosen done best
+      → Chosen done′ best
   chosen-same done done′ to from Empty h = λ e c d. h e c (from e d)
   chosen-same done done′ to from (Least near least) h =
       record {
@@ -130,7 +132,8 @@ module _ (line : List Crumb) (p : Point) (cost : ℕ → Cost) (earlier : ℕ �
 
   -- ---- all ends
   rising-chosen : (from left end : ℕ) (best : SoFar) → from ≤ end → ((e f : ℕ) → e < f → earlier e f)
-      → Chosen (λ e. (from ≤ e) × (e < end)) best → Chosen (λ e. (from ≤ e) × (e < end + left)) (rising (considered line p cost) left end best)
+      → Chosen (λ e. (from ≤ e) × (e < end)) best
+      → Chosen (λ e. (from ≤ e) × (e < end + left)) (rising (considered line p cost) left end best)
   unfolding rising
   rising-chosen from zero end best h o v = chosen-same _ _ (λ e d. (d .0, omega (arith, d .1))) (λ e d. (d .0, omega (arith, d .1))) best v
   rising-chosen from (suc left) end best h o v =
@@ -167,7 +170,8 @@ module _ (line : List Crumb) (p : Point) (cost : ℕ → Cost) (earlier : ℕ �
   falling-all o ends h =
       chosen-same _ _ (λ e d. (omega (arith, d .0, d .1), d .1)) (λ e d. (omega (arith, d .0, d .1), d .1))
       (falling (considered line p cost) (count ends) (ends .to) Empty)
-      (falling-chosen (ends .to) (count ends) (ends .to) Empty (omega arith) (omega arith) o (λ e c d g. absurd (omega (arith, d .0, d .1))))
+      (falling-chosen (ends .to) (count ends) (ends .to) Empty (omega arith) (omega arith) o
+      (λ e c d g. absurd (omega (arith, d .0, d .1))))
 
   module _ (ends : Range) where
     pub chosen-met : (best : SoFar) → Chosen (Tried ends) best → (near : Nearest) → found best ≡ Found near
@@ -184,7 +188,8 @@ module _ (line : List Crumb) (p : Point) (cost : ℕ → Cost) (earlier : ℕ �
           ),
         )
 
-    pub chosen-finds : (best : SoFar) → Chosen (Tried ends) best → (e : ℕ) (c : Float) → Tried ends e → cost e ≡ Metres c → Finds (found best)
+    pub chosen-finds : (best : SoFar) → Chosen (Tried ends) best → (e : ℕ) (c : Float) → Tried ends e → cost e ≡ Metres c
+        → Finds (found best)
     unfolding found
     chosen-finds Empty v e c t k = absurd (v e c t k)
     chosen-finds (Least near least) v e c t k = (near, refl)

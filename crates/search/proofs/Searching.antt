@@ -28,7 +28,8 @@ module _ {consider : ℕ → SoFar → SoFar} {ends : Range} where
   falls-from e = record { same = ap (λ k. falling consider (k + 1 - ends .from) k Empty) e; upto = omega arith }
 
   module _ {best : SoFar} {end : ℕ} where
-    pub rises-on : {next : SoFar} → Rises consider ends best end → end ≤ ends .to → next ≡ consider end best → Rises consider ends next (end + 1)
+    pub rises-on : {next : SoFar} → Rises consider ends best end → end ≤ ends .to → next ≡ consider end best
+        → Rises consider ends next (end + 1)
     unfolding rising
     rises-on v more e =
         let n : ends .to + 1 - end ≡ suc (ends .to + 1 - (end + 1)) = omega arith in

@@ -69,12 +69,14 @@ module _ (line : List Crumb) (p : Point) where
       within-met near e = course near e .0
 
   -- ---- the course while it is not followed
-  closer-than : (most : Float) (best : Best) (near : Nearest) → closer most best ≡ Found near → (best ≡ Found near) × (le (near .off) most ≡ true)
+  closer-than : (most : Float) (best : Best) (near : Nearest) → closer most best ≡ Found near
+      → (best ≡ Found near) × (le (near .off) most ≡ true)
   unfolding closer
   closer-than most Nothing near e = let z : _≡_ {A = ℕ} 0 1 = cc in absurd (omega arith)
   closer-than most (Found other) near e = by-test (le (other .off) most) refl e
     where
-      by-test : (b : Bool) → le (other .off) most ≡ b → cond b (Found other) Nothing ≡ Found near → (Found other ≡ Found near) × (le (near .off) most ≡ true)
+      by-test : (b : Bool) → le (other .off) most ≡ b → cond b (Found other) Nothing ≡ Found near
+          → (Found other ≡ Found near) × (le (near .off) most ≡ true)
       by-test true t f = let g : other ≡ near = cc in (f, ap (λ n. le (n .off) most) (sym g) ∙ t)
       by-test false t f = let z : _≡_ {A = ℕ} 0 1 = cc in absurd (omega arith)
 
@@ -83,7 +85,8 @@ module _ (line : List Crumb) (p : Point) where
       → Met line p (every line) near × (le (near .off) most ≡ true)
   unfolding courseNear
   course-near-met most near e =
-      let f = closer-than most (found (falling (considered line p (costAnywhere line p)) (count (every line)) (every line .to) Empty)) near e in (
+      let f = closer-than most
+      (found (falling (considered line p (costAnywhere line p)) (count (every line)) (every line .to) Empty)) near e in (
         chosen-met line p (costAnywhere line p) Higher higher-one-way (every line) _
             (falling-all line p (costAnywhere line p) Higher higher-one-way (λ e f h. h) (every line) (omega arith)) near (f .0) .0,
         f .1,
@@ -128,14 +131,16 @@ not-below n d (fin true m e) h = le-ltb _ _ h
 not-below n d (fin false m e) h = refl
 
 module _ (line : List Crumb) (p : Point) (ends : Range) (end : ℕ) (from : ends .from ≤ end) (to : end ≤ ends .to) where
-  breadcrumb-finds : lt (at line end .along) lowest ≡ false → lt largest (at line (end - 1) .along) ≡ false → Finds (nearestOnBreadcrumb line p ends)
+  breadcrumb-finds : lt (at line end .along) lowest ≡ false → lt largest (at line (end - 1) .along) ≡ false
+      → Finds (nearestOnBreadcrumb line p ends)
   unfolding nearestOnBreadcrumb costWithin costOf plain
   breadcrumb-finds low high =
       let cost : costWithin line p anywhere Plain end ≡ Metres (nearestOn line p end .off) = rw (low, high, costWithin) in
       chosen-finds line p (costWithin line p anywhere Plain) Lower lower-one-way ends _
       (rising-all line p (costWithin line p anywhere Plain) Lower lower-one-way (λ e f h. h) ends) end _ (from, to) cost
 
-  pub breadcrumb-finds-finite : Within largest (at line (end - 1) .along) → Within largest (at line end .along) → Finds (nearestOnBreadcrumb line p ends)
+  pub breadcrumb-finds-finite : Within largest (at line (end - 1) .along) → Within largest (at line end .along)
+      → Finds (nearestOnBreadcrumb line p ends)
   unfolding largest lowest
   breadcrumb-finds-finite a b = breadcrumb-finds (not-below _ _ _ b) (not-above _ _ _ a)
 

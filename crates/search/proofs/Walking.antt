@@ -22,7 +22,8 @@ module _ (line : List Crumb) (p : Point) (heading : ℕ) where
   joined-out zero h = refl
   joined-out (suc k) h = absurd (omega arith)
 
-  module _ (end : ℕ) (more : 1 ≤ end) {a b : Crumb} {r : Bool} (A : a ≡ at line (end - 1)) (B : b ≡ at line end) (R : r ≡ joins p heading a b) where
+  module _ (end : ℕ) (more : 1 ≤ end) {a b : Crumb} {r : Bool} (A : a ≡ at line (end - 1)) (B : b ≡ at line end)
+      (R : r ≡ joins p heading a b) where
     test : {k : ℕ} → suc k ≡ end → r ≡ joins p heading (at line k) (at line (suc k))
     test {k} e = let f : end - 1 ≡ k = omega arith in cc
 
@@ -67,7 +68,8 @@ module _ (line : List Crumb) (along : Float) where
       ap (placeBefore line along) f ∙ sym (rw (u, placeBefore))
 
   -- the point between the place found and the next
-  pub along-there : (end : ℕ) {i : ℕ} {a b : Crumb} {r : Point} → placeBefore line along i ≡ i → placeBefore line along i ≡ placeBefore line along (end - 1)
+  pub along-there : (end : ℕ) {i : ℕ} {a b : Crumb} {r : Point} → placeBefore line along i ≡ i
+      → placeBefore line along i ≡ placeBefore line along (end - 1)
       → a ≡ at line i → b ≡ at line (i + 1) → r ≡ pointAlong a b along → r ≡ atAlong line end along
   unfolding atAlong
   along-there end s e A B R = let f = sym s ∙ e in cc

@@ -35,7 +35,8 @@ module _ (line : List Crumb) (p : Point) (within : Stretch) (by : Ranking) (end 
       unfolding costWithin
       begins-past t = let low = rw B at reaches in let high = rw A at t in stays (rw (low, high, costWithin))
 
-      pub lies-far : lt (within .ceiling) (a .along) ≡ false → ((e : ℕ) → costOf by (meets a b p e) a b ≡ Out) → best ≡ considered line p cost end best
+      pub lies-far : lt (within .ceiling) (a .along) ≡ false → ((e : ℕ) → costOf by (meets a b p e) a b ≡ Out)
+          → best ≡ considered line p cost end best
       unfolding considered costWithin nearestOn
       lies-far t h =
           let low = rw B at reaches in

@@ -60,9 +60,11 @@ flop false h = absurd (true≢false h)
 module _ (by : Ranking) (p : Point) (a b : Crumb) {s : Float} (S : s ≡ offSquare p (point a) (point b)) where
   off-at : (end : ℕ) → not (lt s bar) ≡ true → le (meets a b p end .off) searchM ≡ false
   unfolding meets offSegment
-  off-at end h = far-off bar searchM (ofBits-fits binary32 0x441c_8000) above p (point a) (point b) (subst (λ (z : Float). lt z bar ≡ false) S (flip (lt s bar) h))
+  off-at end h = far-off bar searchM (ofBits-fits binary32 0x441c_8000) above p (point a) (point b)
+      (subst (λ (z : Float). lt z bar ≡ false) S (flip (lt s bar) h))
 
-  pub far-on : {reached : Float} {heading : Heading} → by ≡ On reached heading → not (lt s bar) ≡ true → (end : ℕ) → costOf by (meets a b p end) a b ≡ Out
+  pub far-on : {reached : Float} {heading : Heading} → by ≡ On reached heading → not (lt s bar) ≡ true → (end : ℕ)
+      → costOf by (meets a b p end) a b ≡ Out
   unfolding costOf on
   far-on {reached} {heading} e h end = let k = off-at end h in rw (e, k, on)
 

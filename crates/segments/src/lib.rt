@@ -94,7 +94,8 @@ pub fn may_cost(
     end: usize,
 ) -> bool
     requires { ⌜ (1 ≤ end) × (end < len) × (len ≤ capacity (length (now line))) ⌝ }
-    ensures { λ r. ⌜ (r ≡ false → (best : SoFar) → best ≡ considered (crumbs len (now (line .entry))) p (costWithin (crumbs len (now (line .entry))) p within by) end best) ⌝ }
+    ensures { λ r. ⌜ (r ≡ false → (best : SoFar)
+        → best ≡ considered (crumbs len (now (line .entry))) p (costWithin (crumbs len (now (line .entry))) p within by) end best) ⌝ }
 {
     let a = crumb(line, len, end - 1);
     let b = crumb(line, len, end);
@@ -148,7 +149,8 @@ pub fn consider(
     best: SoFar,
 ) -> SoFar
     requires { ⌜ (1 ≤ end) × (end < len) × (len ≤ capacity (length (now line))) ⌝ }
-    ensures { λ r. ⌜ r ≡ considered (crumbs len (now (line .entry))) p (costWithin (crumbs len (now (line .entry))) p within by) end best ⌝ }
+    ensures { λ r. ⌜ r ≡ considered (crumbs len (now (line .entry))) p
+        (costWithin (crumbs len (now (line .entry))) p within by) end best ⌝ }
 {
     let a = crumb(line, len, end - 1);
     let b = crumb(line, len, end);

@@ -39,7 +39,9 @@ zero-within (inf s) h = absurd h
 zero-within (fin s m e) h = zeros-level s _ _ h (zero-mul (down e))
 
 pub table : Table
-unfolding thinAnswer question9 thinning passesFrom measuringPass halvingPass passBy reach twoOn farther clear doubled offSegment project atShare between share distance root clamp arrow metres stepOf fromStage passArmM passM passEndM offNow offM onM constant ofBits toUnsigned le lt add sub mul div
+unfolding thinAnswer question9 thinning passesFrom measuringPass halvingPass passBy reach twoOn farther clear doubled offSegment project
+    atShare between share distance root clamp arrow metres stepOf fromStage passArmM passM passEndM offNow offM onM constant ofBits
+    toUnsigned le lt add sub mul div
 table =
     record {
       straight-answer = λ along. refl;
@@ -55,7 +57,8 @@ table =
       half-metre = refl;
       under-half = refl;
       under-half-bits = refl;
-      half-round = λ lat0 lat h. zero-within (frame lat0 (negsuc 1799999999) (eastPerE7 lat0) lat (pos 1800000000) .east) (plane.half-round lat0 lat h);
+      half-round = λ lat0 lat h. zero-within (frame lat0 (negsuc 1799999999) (eastPerE7 lat0) lat (pos 1800000000) .east)
+          (plane.half-round lat0 lat h);
       one-pass = refl;
       not-armed = λ moving. refl;
       stays-on = refl;

@@ -61,7 +61,8 @@ pub record Table : Type 0 where
   pub straight-left : (along : ℕ → Float) → thinning 8 (number 6) (map (straight along) eight) .left ≡ map (straight along) (0 ∷ 7 ∷ [])
   -- "Same, north alternately 0 and 10,000,000: points 0, 2, 4, 6, 7, 18 passes, tolerance 786,432."
   pub zigzag-answer : (along : ℕ → Float) → thinAnswer (stride * 8) (number 6) (map (zigzag along) eight) ≡ left 5 (number 786432) 18
-  pub zigzag-left : (along : ℕ → Float) → thinning 8 (number 6) (map (zigzag along) eight) .left ≡ map (zigzag along) (0 ∷ 2 ∷ 4 ∷ 6 ∷ 7 ∷ [])
+  pub zigzag-left : (along : ℕ → Float)
+      → thinning 8 (number 6) (map (zigzag along) eight) .left ≡ map (zigzag along) (0 ∷ 2 ∷ 4 ∷ 6 ∷ 7 ∷ [])
   -- "C = 2: 9.", whatever the tolerance and the line
   pub room-for-two : (t : Float) (l : List Crumb) → thinAnswer (stride * 2) t l ≡ refused 9
   -- "Bearings north, east, south, west: 0, 1024, 2048, 3072.", from the origin to places 1 m away

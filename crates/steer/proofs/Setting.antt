@@ -18,7 +18,8 @@ use Rattle.calls.specs.Line.{lined, offCourse, setCourse}
 use Rattle.steer.specs.View.{SetsLine}
 
 -- by the line that is followed
-pub off-by : (l : Line) (h r : Homing) → h .follow .line ≡ l → ((b : List Float) → stateOf r b ≡ offCourse l (stateOf h b)) → r .trail ≡ h .trail → Changes (offCourse (h .follow .line)) h r
+pub off-by : (l : Line) (h r : Homing) → h .follow .line ≡ l → ((b : List Float) → stateOf r b ≡ offCourse l (stateOf h b))
+    → r .trail ≡ h .trail → Changes (offCourse (h .follow .line)) h r
 off-by l h r told same kept = record { same = λ b. same b ∙ sym (ap (λ (x : Line). offCourse x (stateOf h b)) told); trail = kept }
 
 -- the course of a state replaced by one that was placed or waits
@@ -31,7 +32,8 @@ module _ (xs : List Fix) (h off r : Homing) (n : ℕ) (unplaced : Bool) (entry e
   lined-len is = ap (λ (c : Course). c .«line_len») is
 
   pub course-set : Changes (offCourse (h .follow .line)) h off → Places (lineOf (h .frame) xs) entry n exit → unplaced ≡ waits (h .frame) xs
-      → r .course ≡ lined n unplaced (off .course .held) (off .course) → ((b : List Float) → stateOf r b ≡ withCourse (r .course) (stateOf off b)) → r .trail ≡ off .trail
+      → r .course ≡ lined n unplaced (off .course .held) (off .course)
+      → ((b : List Float) → stateOf r b ≡ withCourse (r .course) (stateOf off b)) → r .trail ≡ off .trail
       → SetsLine xs h entry r exit
   unfolding setCourse
   course-set c p w is same kept =

@@ -24,7 +24,8 @@ pub record Resets (h r : Homing) : Type 0 where
   pub same : (b : List Float) → stateOf r b ≡ reset (stateOf h b) .state
   pub trail : (w : List Float) → TrailChanges trail.resetTrack (h .trail) w (r .trail) w
 
--- A course of the points xs set, whatever the crumb buffer holds, and placed in a line buffer. The numbers behind the placed line are unchanged.
+-- A course of the points xs set, whatever the crumb buffer holds, and placed in a line buffer. The numbers behind the placed line are
+-- unchanged.
 pub record SetsLine (xs : List Fix) (h : Homing) (entry : List Float) (r : Homing) (exit : List Float) : Type 0 where
   pub same : (b : List Float) → stateOf r b ≡ setCourse xs (stateOf h b) .state
   pub trail : r .trail ≡ h .trail

@@ -19,7 +19,8 @@ ghost use Rattle.steer.specs.Decides.{Decides};
 fn follow_best(best: Best, h: Homing, crumbs: &mut [f32], line: &[f32], now_ms: u64) -> Answered
     requires { ⌜ HomingFit h (length (now crumbs)) (length (now line)) ⌝ }
     requires { ⌜ (h .follow .line ≡ followed.Nothing) × InLine (h .course .«line_len») best ⌝ }
-    ensures { λ r. ⌜ Decides (λ C. follow best C (courseOf h (now (line .entry))) «now_ms») h (now (crumbs .entry)) r (now (crumbs .exit)) ⌝ }
+    ensures { λ r. ⌜ Decides (λ C. follow best C (courseOf h (now (line .entry))) «now_ms») h (now (crumbs .entry)) r
+        (now (crumbs .exit)) ⌝ }
 {
     let Best::Found(near) = best else {
         return way_home::way_home(h, crumbs, line, now_ms);
@@ -31,7 +32,8 @@ fn follow_best(best: Best, h: Homing, crumbs: &mut [f32], line: &[f32], now_ms: 
 // What is followed already is followed on.
 fn follow_from(h: Homing, crumbs: &mut [f32], line: &[f32], now_ms: u64) -> Answered
     requires { ⌜ HomingFit h (length (now crumbs)) (length (now line)) ⌝ }
-    ensures { λ r. ⌜ Decides (λ C. followFrom (h .follow .line) C (courseOf h (now (line .entry))) «now_ms») h (now (crumbs .entry)) r (now (crumbs .exit)) ⌝ }
+    ensures { λ r. ⌜ Decides (λ C. followFrom (h .follow .line) C (courseOf h (now (line .entry))) «now_ms») h (now (crumbs .entry)) r
+        (now (crumbs .exit)) ⌝ }
 {
     let f = h.follow;
     let on = f.line;
@@ -55,7 +57,8 @@ pub fn set_following(
     now_ms: u64,
 ) -> Answered
     requires { ⌜ HomingFit h (length (now crumbs)) (length (now line)) ⌝ }
-    ensures { λ r. ⌜ Decides (λ C. setFollowing follow C (courseOf h (now (line .entry))) «now_ms») h (now (crumbs .entry)) r (now (crumbs .exit)) ⌝ }
+    ensures { λ r. ⌜ Decides (λ C. setFollowing follow C (courseOf h (now (line .entry))) «now_ms») h (now (crumbs .entry)) r
+        (now (crumbs .exit)) ⌝ }
 {
     if follow {
         return follow_from(h, crumbs, line, now_ms);
@@ -68,7 +71,8 @@ pub fn set_following(
 
 // Turned off, it also stops a following under way.
 fn auto_off(h: Homing, crumbs: &mut [f32]) -> Homing
-    requires { ⌜ (trail.TrailFit (h .trail) (length (now crumbs))) × (h .follow .line ≡ followed.Breadcrumb → h .follow .segment ≤ h .trail .len) ⌝ }
+    requires { ⌜ (trail.TrailFit (h .trail) (length (now crumbs)))
+        × (h .follow .line ≡ followed.Breadcrumb → h .follow .segment ≤ h .trail .len) ⌝ }
     ensures { λ r. ⌜ Follows (autoOff (h .«auto_follow»)) h (now (crumbs .entry)) r (now (crumbs .exit)) ⌝ }
 {
     if h.auto_follow {
@@ -83,7 +87,8 @@ fn auto_off(h: Homing, crumbs: &mut [f32]) -> Homing
 
 // Whether riding back over the breadcrumb, or along the course, starts following it.
 pub fn set_auto_follow(h: Homing, crumbs: &mut [f32], on: bool) -> Homing
-    requires { ⌜ (trail.TrailFit (h .trail) (length (now crumbs))) × (h .follow .line ≡ followed.Breadcrumb → h .follow .segment ≤ h .trail .len) ⌝ }
+    requires { ⌜ (trail.TrailFit (h .trail) (length (now crumbs)))
+        × (h .follow .line ≡ followed.Breadcrumb → h .follow .segment ≤ h .trail .len) ⌝ }
     ensures { λ r. ⌜ Follows (setAutoFollow on) h (now (crumbs .entry)) r (now (crumbs .exit)) ⌝ }
 {
     if on {

@@ -34,7 +34,8 @@ pub fn brought(h: Homing, crumbs: &mut [f32], line: &[f32], now_ms: u64) -> Answ
 // A following that began is shown; where none did the answer is no.
 fn engaged_or(engaged: bool, h: Homing, crumbs: &mut [f32], line: &[f32], now_ms: u64) -> Answered
     requires { ⌜ HomingFit h (length (now crumbs)) (length (now line)) ⌝ }
-    ensures { λ r. ⌜ Decides (λ C. engagedOr engaged C (courseOf h (now (line .entry))) «now_ms») h (now (crumbs .entry)) r (now (crumbs .exit)) ⌝ }
+    ensures { λ r. ⌜ Decides (λ C. engagedOr engaged C (courseOf h (now (line .entry))) «now_ms») h (now (crumbs .entry)) r
+        (now (crumbs .exit)) ⌝ }
 {
     if engaged {
         return brought(h, crumbs, line, now_ms);

@@ -38,7 +38,8 @@ loads-room w n h =
 
 pub loads-there : (w : List ℕ) (n : List Float) {h : Homing} → holds w n ≡ true → h ≡ homingAt w n → Loads w n h true
 unfolding stored
-loads-there w n {h} t e = record { there = λ _. ap (λ b. cond b (some (homingAt w n)) none) t ∙ ap some (sym e); nothing = λ f. absurd (true≢false f) }
+loads-there w n {h} t e =
+    record { there = λ _. ap (λ b. cond b (some (homingAt w n)) none) t ∙ ap some (sym e); nothing = λ f. absurd (true≢false f) }
 
 pub loads-nothing : (w : List ℕ) (n : List Float) (h : Homing) → holds w n ≡ false → Loads w n h false
 unfolding stored

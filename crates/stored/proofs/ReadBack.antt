@@ -19,7 +19,8 @@ use Rattle.state.specs.declared.Guide.{Guide}
 use Rattle.state.specs.declared.Homing.{Homing}
 use Rattle.stored.specs.Fields.{most32, most16, most8, within, wordAt, flagAt, signedAt, spotAt, headingAt, headingIn, placeRead}
 use Rattle.stored.specs.Stored.{mark, mosts, homingAt, holds, stored, wordsOf, headOf, numbersOf, StateFits, ReadBack}
-use Rattle.stored.specs.Parts.{numberCount, trailAt, frameAt, motionAt, followAt, courseAt, lapAt, guideRead, shownAt, guideIn, shownFlag, guideWords}
+use Rattle.stored.specs.Parts.{numberCount, trailAt, frameAt, motionAt, followAt, courseAt, lapAt, guideRead, shownAt, guideIn}
+use Rattle.stored.specs.Parts.{shownFlag, guideWords}
 use Rattle.stored.proofs.fields.Limits.{within-more}
 pub use Rattle.stored.proofs.fields.Limits.{within-at}
 use Rattle.stored.proofs.fields.Same.{narrow-same, flag-same, line-same, stage-same, mode-same, spot-same, heading-back}
@@ -179,4 +180,5 @@ module _ (h : Homing) (fits : StateFits h) (ws : List ℕ) (ns : List Float) whe
 pub read-back : ReadBack
 unfolding stored
 read-back h fits ws ns =
-    ap (λ b. cond b (some (homingAt (wordsOf h ++ ws) (numbersOf h ++ ns))) none) (holds-it h fits ws ns) ∙ ap some (homing-back h fits ws ns)
+    ap (λ b. cond b (some (homingAt (wordsOf h ++ ws) (numbersOf h ++ ns))) none) (holds-it h fits ws ns)
+    ∙ ap some (homing-back h fits ws ns)

@@ -13,16 +13,19 @@ use Rattle.stored.proofs.ReadBack.{read-back}
 use Rattle.stored.proofs.fields.Copying.{in-front}
 
 -- the words before the course's, then the others
-pub first-front : (h : Homing) (w s : List ℕ) {w′ : List ℕ} → s ≡ take 22 (wordsOf h) → w′ ≡ paste w 0 s (length s) → w′ ≡ take 22 (wordsOf h) ++ drop 22 w
+pub first-front : (h : Homing) (w s : List ℕ) {w′ : List ℕ} → s ≡ take 22 (wordsOf h) → w′ ≡ paste w 0 s (length s)
+    → w′ ≡ take 22 (wordsOf h) ++ drop 22 w
 unfolding wordsOf
 first-front h w s e p = p ∙ in-front w s (take 22 (wordsOf h)) e
 
-pub length-first : (h : Homing) (w s : List ℕ) {w′ : List ℕ} → s ≡ take 22 (wordsOf h) → w′ ≡ paste w 0 s (length s) → 45 ≤ length w → length w′ ≡ length w
+pub length-first : (h : Homing) (w s : List ℕ) {w′ : List ℕ} → s ≡ take 22 (wordsOf h) → w′ ≡ paste w 0 s (length s) → 45 ≤ length w
+    → length w′ ≡ length w
 unfolding wordsOf
 length-first h w s e p l =
     let d : length (drop 22 w) ≡ length w - 22 = length-drop 22 w in
     let k : length (take 22 (wordsOf h)) ≡ 22 = refl in
-    ap length (first-front h w s e p) ∙ length-append (take 22 (wordsOf h)) (drop 22 w) ∙ ap (λ j. j + length (drop 22 w)) k ∙ omega (arith, d, l)
+    ap length (first-front h w s e p) ∙ length-append (take 22 (wordsOf h)) (drop 22 w) ∙ ap (λ j. j + length (drop 22 w)) k
+    ∙ omega (arith, d, l)
 
 pub words-front : (h : Homing) (w w₁ s : List ℕ) {w′ : List ℕ} → w₁ ≡ take 22 (wordsOf h) ++ drop 22 w → s ≡ drop 22 (wordsOf h)
     → w′ ≡ paste w₁ 22 s (length s) → w′ ≡ wordsOf h ++ drop wordCount w

@@ -17,7 +17,9 @@ use Rattle.state.specs.declared.Course.{Course}
 use Rattle.state.specs.declared.Guide.{Guide}
 use Rattle.state.specs.declared.Shown.{Shown}
 use Rattle.state.specs.declared.Shown.the-variants as shown
-use Rattle.stored.specs.Fields.{most64, most32, most16, most8, wordAt, numberAt, narrowAt, flagAt, spotAt, headingAt, placeRead, lineOfTag, stageOfTag, modeOfTag, flagOf, unsigned, spotFlag, headingFlag, headingIn, placeFlag, latIn, lonIn, lineTag, stageTag, modeTag}
+use Rattle.stored.specs.Fields.{most64, most32, most16, most8, wordAt, numberAt, narrowAt, flagAt, spotAt, headingAt, placeRead}
+use Rattle.stored.specs.Fields.{lineOfTag, stageOfTag, modeOfTag, flagOf, unsigned, spotFlag, headingFlag, headingIn, placeFlag}
+use Rattle.stored.specs.Fields.{latIn, lonIn, lineTag, stageTag, modeTag}
 
 abbrev pub wordCount : ℕ
 wordCount = 45

@@ -84,13 +84,15 @@ rebuildWords r =
 -- ---- what is promised
 -- Reading back what was stored gives the same rebuild, every field, where each fits its type, whatever lies behind.
 abbrev pub RebuildReadBack : Type 0
-RebuildReadBack = (r : Rebuild) → within rebuildMosts (rebuildWords r) ≡ true → (ws : List ℕ) → storedRebuild (rebuildWords r ++ ws) ≡ some r
+RebuildReadBack = (r : Rebuild) → within rebuildMosts (rebuildWords r) ≡ true → (ws : List ℕ)
+    → storedRebuild (rebuildWords r ++ ws) ≡ some r
 
 -- Words that hold a rebuild have the room for one.
 abbrev pub RebuildHasRoom : Type 0
 RebuildHasRoom = (w : List ℕ) (r : Rebuild) → storedRebuild w ≡ some r → rebuildCount ≤ length w
 
--- A rebuild r is stored: its words stand in front, and what lies behind them is as it was. Each field fits its type, on which reading back rests.
+-- A rebuild r is stored: its words stand in front, and what lies behind them is as it was. Each field fits its type, on which reading back
+-- rests.
 pub record StoresRebuild (r : Rebuild) (w w′ : List ℕ) : Type 0 where
   pub words : w′ ≡ rebuildWords r ++ drop rebuildCount w
   pub fits : within rebuildMosts (rebuildWords r) ≡ true

@@ -29,7 +29,9 @@ use lib.Ieee.{Float}
 use Rattle.state.specs.declared.Homing.{Homing}
 use Rattle.stored.specs.Fields.{within, wordAt, flagAt, spotAt, placeRead, pointIn}
 unfoldable pub use Rattle.stored.specs.Parts.{trailAt, frameAt, motionAt, followAt, courseAt, lapAt, guideRead, shownAt}
-pub use Rattle.stored.specs.Parts.{wordCount, numberCount, windowAt, placeMosts, headingMosts, trailMosts, motionMosts, followMosts, courseMosts, lapMosts, guideMosts, guideIn, shownFlag, placeWords, headingWords, trailWords, motionWords, followWords, courseWords, lapWords, guideWords, PlaceFits}
+pub use Rattle.stored.specs.Parts.{wordCount, numberCount, windowAt, placeMosts, headingMosts, trailMosts, motionMosts, followMosts}
+pub use Rattle.stored.specs.Parts.{courseMosts, lapMosts, guideMosts, guideIn, shownFlag, placeWords, headingWords, trailWords}
+pub use Rattle.stored.specs.Parts.{motionWords, followWords, courseWords, lapWords, guideWords, PlaceFits}
 unfoldable pub use Rattle.stored.specs.Words.{mosts, wordsOf}
 pub use Rattle.stored.specs.Words.{mark}
 
@@ -96,8 +98,8 @@ ReadBack = (h : Homing) → StateFits h → (ws : List ℕ) (ns : List Float) �
 abbrev pub HasRoom : Type 0
 HasRoom = (w : List ℕ) (n : List Float) (h : Homing) → stored w n ≡ some h → (wordCount ≤ length w) × (numberCount ≤ length n)
 
--- A state h is stored: its words and its numbers stand in front, and what lies behind them is as it was. Each field fits its type, on which reading back
--- rests.
+-- A state h is stored: its words and its numbers stand in front, and what lies behind them is as it was. Each field fits its type, on which
+-- reading back rests.
 pub record Stores (h : Homing) (w : List ℕ) (n : List Float) (w′ : List ℕ) (n′ : List Float) : Type 0 where
   pub words : w′ ≡ wordsOf h ++ drop wordCount w
   pub numbers : n′ ≡ numbersOf h ++ drop numberCount n

@@ -3,7 +3,8 @@ use Prim.Native.Nat.{ℕ}
 use mathlib.Core.List.{List, [], _∷_, _++_}
 use Rattle.state.specs.declared.Homing.{Homing}
 use Rattle.stored.specs.Fields.{most64, flagOf, spotFlag}
-use Rattle.stored.specs.Parts.{placeMosts, trailMosts, motionMosts, followMosts, courseMosts, lapMosts, guideMosts, guideIn, shownFlag, placeWords, trailWords, motionWords, followWords, courseWords, lapWords, guideWords}
+use Rattle.stored.specs.Parts.{placeMosts, trailMosts, motionMosts, followMosts, courseMosts, lapMosts, guideMosts, guideIn}
+use Rattle.stored.specs.Parts.{shownFlag, placeWords, trailWords, motionWords, followWords, courseWords, lapWords, guideWords}
 
 -- the letters CITTUMA1
 abbrev pub mark : ℕ

@@ -12,7 +12,9 @@ ghost use mathlib.Core.Path.{_≡_};
 ghost use Prim.Native.Nat.{_+_, _<_, _≤_};
 ghost use lib.ListN.{length};
 ghost use lib.Seq.{paste};
-ghost use Rattle.stored.specs.Fields.{most32, most16, most8, wordAt, narrowAt, flagAt, signedAt, pointAt, spotAt, headingAt, placeRead, lineOfTag, stageOfTag, modeOfTag, flagOf, unsigned as unsignedOf, spotFlag, pointIn, headingFlag, headingIn, placeFlag, latIn, lonIn, lineTag, stageTag, modeTag};
+ghost use Rattle.stored.specs.Fields.{most32, most16, most8, wordAt, narrowAt, flagAt, signedAt, pointAt, spotAt, headingAt};
+ghost use Rattle.stored.specs.Fields.{placeRead, lineOfTag, stageOfTag, modeOfTag, flagOf, unsigned as unsignedOf, spotFlag, pointIn};
+ghost use Rattle.stored.specs.Fields.{headingFlag, headingIn, placeFlag, latIn, lonIn, lineTag, stageTag, modeTag};
 
 // The most that a word may be, by its field's type.
 pub const U64: u64 = 0xFFFF_FFFF_FFFF_FFFF;

@@ -21,7 +21,10 @@ ghost use mathlib.Core.List.{[]};
 ghost use Prim.Native.Nat.{_+_, _≤_};
 ghost use lib.ListN.{length, take, drop};
 ghost use Rattle.stored.specs.Fields.{within};
-ghost use Rattle.stored.specs.Parts.{wordCount, numberCount, windowAt, trailAt, frameAt, motionAt, followAt, courseAt, lapAt, guideRead, shownAt, guideIn, shownFlag, placeWords, headingWords, motionWords, followWords, courseWords, lapWords, guideWords, placeMosts, headingMosts, motionMosts, followMosts, courseMosts, lapMosts, guideMosts, PlaceFits};
+ghost use Rattle.stored.specs.Parts.{wordCount, numberCount, windowAt, trailAt, frameAt, motionAt, followAt, courseAt, lapAt};
+ghost use Rattle.stored.specs.Parts.{guideRead, shownAt, guideIn, shownFlag, placeWords, headingWords, motionWords, followWords};
+ghost use Rattle.stored.specs.Parts.{courseWords, lapWords, guideWords, placeMosts, headingMosts, motionMosts, followMosts};
+ghost use Rattle.stored.specs.Parts.{courseMosts, lapMosts, guideMosts, PlaceFits};
 
 // How many numbers the window has.
 const WINDOW: usize = 96;

@@ -15,7 +15,8 @@ pub const MARK: u64 = 4848499195026161969;
 
 // The words before the course's.
 pub fn front_words(h: Homing) -> [u64; 22]
-    ensures { λ r. ⌜ (r ≡ take 22 (wordsOf h)) × (within (take 22 mosts) (take 22 (wordsOf h)) ≡ true) × (PlaceFits (h .frame .origin)) × (PlaceFits (h .fed)) × (length (h .window) ≡ 96) ⌝ }
+    ensures { λ r. ⌜ (r ≡ take 22 (wordsOf h)) × (within (take 22 mosts) (take 22 (wordsOf h)) ≡ true) × (PlaceFits (h .frame .origin))
+        × (PlaceFits (h .fed)) × (length (h .window) ≡ 96) ⌝ }
 {
     let trail = h.trail;
     let frame = h.frame;

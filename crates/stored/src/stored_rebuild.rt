@@ -11,7 +11,8 @@ ghost use mathlib.Core.Bool.{true};
 ghost use Prim.Native.Nat.{_+_, _<_, _≤_};
 ghost use lib.ListN.{length};
 ghost use Rattle.stored.specs.Fields.{within};
-ghost use Rattle.stored.specs.Rebuilt.{rebuildCount, rebuildMosts, utcRead, stageRead, rebuildAt, holdsRebuild, pendingFlag, pendingIn, utcFlag, utcIn, rebuildWords, StoresRebuild};
+ghost use Rattle.stored.specs.Rebuilt.{rebuildCount, rebuildMosts, utcRead, stageRead, rebuildAt, holdsRebuild, pendingFlag};
+ghost use Rattle.stored.specs.Rebuilt.{pendingIn, utcFlag, utcIn, rebuildWords, StoresRebuild};
 ghost use Rattle.stored.specs.Inner.{LoadsRebuild};
 
 pub const REBUILD_WORDS: usize = 7;

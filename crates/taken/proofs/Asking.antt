@@ -15,7 +15,8 @@ use Rattle.state.specs.declared.Line.{Line}
 use Rattle.state.specs.declared.Line.the-variants as line
 use Rattle.state.specs.State.{State}
 use Rattle.course.specs.Fix.{Fix}
-use Rattle.calls.specs.Questions.{question1, segmentFits, followFits, countsFit, spotsFit, numbersFit, stateFits, heldFits, latitudeFits, longitudeFits, asksFix, _orElse_, asksFixes}
+use Rattle.calls.specs.Questions.{question1, segmentFits, followFits, countsFit, spotsFit, numbersFit, stateFits, heldFits, latitudeFits}
+use Rattle.calls.specs.Questions.{longitudeFits, asksFix, _orElse_, asksFixes}
 use Rattle.calls.specs.Calls.{pointOf, asksPlace}
 use Rattle.taken.specs.Taken.{FixOnGlobe, FixesOnGlobe}
 use Rattle.taken.proofs.Tests.{both}
@@ -60,7 +61,8 @@ module _ {C n : ℕ} (s : State) (k : Kept C n s) where
   spots-fit =
       both
       (both
-      (both (both (spot-fits (s .here) (k .here)) (spot-fits (s .motion .from) (k .motion .from))) (spot-fits (s .follow .matched) (k .follow .matched)))
+      (both (both (spot-fits (s .here) (k .here)) (spot-fits (s .motion .from) (k .motion .from)))
+      (spot-fits (s .follow .matched) (k .follow .matched)))
       (spot-fits (s .course .fix) (k .course .fix))) (spot-fits (s .lap .start) (k .lap))
 
   numbers-fit : numbersFit s ≡ true
@@ -72,7 +74,8 @@ module _ {C n : ℕ} (s : State) (k : Kept C n s) where
       (both
       (both
       (both (both (places-fit (s .track .window) (k .track .waiting)) spots-fit) (along-fits (s .course .along) (k .course .along)))
-      (along-fits (s .course .reached) (k .course .reached))) (k .motion .heading)) (k .guide)) (factor-fits (s .frame .«east_per_e7») (k .frame .factor)))
+      (along-fits (s .course .reached) (k .course .reached))) (k .motion .heading)) (k .guide))
+      (factor-fits (s .frame .«east_per_e7») (k .frame .factor)))
       (k .track .sound .tolerance)
 
   pub state-fits : stateFits s ≡ true
@@ -81,7 +84,8 @@ module _ {C n : ℕ} (s : State) (k : Kept C n s) where
 
   pub held-fits : C ≤ most → heldFits C s ≡ true
   unfolding heldFits
-  held-fits room = both (le-leb (length (s .track .crumbs)) C (k .track .sound .held)) (laid-fits 0 (s .track .crumbs) (omega (arith, k .track .sound .held)) (k .track .laid))
+  held-fits room = both (le-leb (length (s .track .crumbs)) C (k .track .sound .held))
+      (laid-fits 0 (s .track .crumbs) (omega (arith, k .track .sound .held)) (k .track .laid))
 
 -- ---- questions 2 and 3
 pub fix-asked : (x : Fix) → FixOnGlobe x → asksFix x ≡ 0

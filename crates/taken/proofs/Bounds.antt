@@ -47,7 +47,8 @@ along-start = record { fits = zero-fits binary32; least = tt; most = lit≤ tt }
 steps-held : (i : ℕ) → i < 4096 → Held binary32 (suc i) (pos 27)
 steps-held i few = (omega arith, lit≤ tt, lt-of-le-of-lt (mul-le-mul-right (2 ^ 27) few) (lit< tt))
 
-pub along-step : (i : ℕ) (x : Float) (a b : Point) → i < 4096 → Along (steps i) x → Place a → Place b → Along (steps (suc i)) (x ⊕ distance a b)
+pub along-step : (i : ℕ) (x : Float) (a b : Point) → i < 4096 → Along (steps i) x → Place a → Place b
+    → Along (steps (suc i)) (x ⊕ distance a b)
 along-step i x a b few along A B =
     let d = distance-within a b A B in
     let w : Within (steps (suc i)) (x ⊕ distance a b) = add-step binary32 i 27 x (distance a b) (steps-held i few) (along .most) (d .0) in

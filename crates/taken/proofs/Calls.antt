@@ -30,7 +30,9 @@ use Rattle.joining.specs.Join.{withRetrace, retracing}
 use Rattle.joining.specs.Retrace.{lenBefore, ridesBack}
 use Rattle.update.specs.Update.{update}
 use Rattle.course.specs.Fix.{Fix, located}
-use Rattle.calls.specs.Fix.{fixLostMs, isAt, unfixed, cleared, missing, sameFix, headed, stillMs, stillAt, addUpdate, tellFollowing, joinedCourse, turnedBack, engagedBack, retraced, mayRetrace, joinedOrNot, fixOn, arrivedAt, newFix, seen, observe, passOnly, replay, unheaded, endReplay}
+use Rattle.calls.specs.Fix.{fixLostMs, isAt, unfixed, cleared, missing, sameFix, headed, stillMs, stillAt, addUpdate, tellFollowing}
+use Rattle.calls.specs.Fix.{joinedCourse, turnedBack, engagedBack, retraced, mayRetrace, joinedOrNot, fixOn, arrivedAt, newFix, seen}
+use Rattle.calls.specs.Fix.{observe, passOnly, replay, unheaded, endReplay}
 use Rattle.calls.specs.Follow.{updateHere, brought, engagedOr, wayHome, follow, nearHere, followFrom, setFollowing, autoOff, setAutoFollow}
 use Rattle.calls.specs.Calls.{pointOf}
 use Rattle.taken.specs.Taken.{FixOnGlobe, FixesOnGlobe}
@@ -38,9 +40,11 @@ use Rattle.taken.proofs.Tests.{either, one-of}
 use Rattle.taken.proofs.Laid.{most}
 use Rattle.taken.proofs.Recording.{retrace-recorded, none-counted, more-counted}
 use Rattle.taken.proofs.Moving.{Spotted, located-framed, framed-place, heading-moving, unheaded-moving, step-start}
-use Rattle.taken.proofs.State.{nothing-shown, Lined, Coursed, Kept, kept-track, kept-frame, kept-fed, kept-here, kept-here-ms, kept-motion, kept-course, kept-auto-follow, kept-lap, kept-guide}
+use Rattle.taken.proofs.State.{nothing-shown, Lined, Coursed, Kept, kept-track, kept-frame, kept-fed, kept-here, kept-here-ms}
+use Rattle.taken.proofs.State.{kept-motion, kept-course, kept-auto-follow, kept-lap, kept-guide}
 use Rattle.taken.proofs.Searching.{OnSegment, met-on}
-use Rattle.taken.proofs.Following.{add-kept, flush-kept, stop-kept, cut-kept, engage-at-kept, engage-kept, Joined, joining-kept, joining-end, joining-follow}
+use Rattle.taken.proofs.Following.{add-kept, flush-kept, stop-kept, cut-kept, engage-at-kept, engage-kept, Joined, joining-kept}
+use Rattle.taken.proofs.Following.{joining-end, joining-follow}
 use Rattle.taken.proofs.Updating.{update-kept}
 
 module _ (C : ℕ) (least : 3 ≤ C) (room : C ≤ most) (points : ℕ) where
@@ -119,7 +123,8 @@ module _ (C : ℕ) (least : 3 ≤ C) (room : C ≤ most) (course : List Crumb) (
 
   follow-from-kept : (on : Line) (now : ℕ) (s : State) → K s → K (followFrom on C course now s .state)
   unfolding followFrom
-  follow-from-kept line.Nothing now s k = follow-kept (nearHere (s .here) course) now s k (λ near e. near-here-on (s .here) near (k .here) e)
+  follow-from-kept line.Nothing now s k =
+      follow-kept (nearHere (s .here) course) now s k (λ near e. near-here-on (s .here) near (k .here) e)
   follow-from-kept line.Breadcrumb now s k = brought-kept now s k
   follow-from-kept line.Course now s k = brought-kept now s k
 
@@ -169,7 +174,8 @@ module _ (C : ℕ) (least : 3 ≤ C) (room : C ≤ most) (course : List Crumb) (
     retraced-kept false s h k = add-update-kept s (k refl)
 
     -- where nothing is followed the breadcrumb may be cut
-    turned-kept : (n len : ℕ) (s : State) → K s → s .follow .line ≡ line.Nothing → K (turnedBack (withTrack (withRetrace n len (s .track)) s))
+    turned-kept : (n len : ℕ) (s : State) → K s → s .follow .line ≡ line.Nothing
+        → K (turnedBack (withTrack (withRetrace n len (s .track)) s))
     unfolding turnedBack cutTo forgotten withRetrace
     turned-kept n len s k e =
         cut-kept C least room (length course) len (withRetrace n len (s .track)) s (retrace-recorded C n len (s .track) (k .track)) k e
@@ -184,9 +190,13 @@ module _ (C : ℕ) (least : 3 ≤ C) (room : C ≤ most) (course : List Crumb) (
         one-of Retraces (ridesBack (s .motion .heading) (t .crumbs) p)
         (λ r. (
           λ a. turned-kept (t .retrace + 1) (lenBefore t) s k e,
-          λ a. kept-track k (retrace-recorded C (t .retrace + 1) (lenBefore t) t (k .track)) (more-counted (t .retrace + 1) t (leb-false _ _ a) (k .counted)) (k .follow),
+          λ a. kept-track k (retrace-recorded C (t .retrace + 1) (lenBefore t) t (k .track))
+              (more-counted (t .retrace + 1) t (leb-false _ _ a) (k .counted)) (k .follow),
         ))
-        (λ r. (λ a. absurd (true≢false (sym a)), λ a. kept-track k (retrace-recorded C 0 (t .retraceLen) t (k .track)) (none-counted (t .retraceLen) t) (k .follow)))
+        (λ r. (
+          λ a. absurd (true≢false (sym a)),
+          λ a. kept-track k (retrace-recorded C 0 (t .retraceLen) t (k .track)) (none-counted (t .retraceLen) t) (k .follow),
+        ))
 
     may-retrace-kept : (may : Bool) (s : State) → K s → s .follow .line ≡ line.Nothing → K (mayRetrace may C course p now s .state)
     unfolding mayRetrace
@@ -204,7 +214,8 @@ module _ (C : ℕ) (least : 3 ≤ C) (room : C ≤ most) (course : List Crumb) (
     fix-on-kept line.Breadcrumb s e k = update-at p now s k P
     fix-on-kept line.Course s e k = add-update-kept s k
     fix-on-kept line.Nothing s e k =
-        joined-or-not-kept _ _ (joining-kept C course lined p s k) (ap (λ f. f .line) (joining-follow C course lined p s) ∙ e) (joining-end C course lined p s)
+        joined-or-not-kept _ _ (joining-kept C course lined p s k) (ap (λ f. f .line) (joining-follow C course lined p s) ∙ e)
+        (joining-end C course lined p s)
 
   arrived-at-kept : (x : Fix) (now : ℕ) (s : State) → K s → FixOnGlobe x → K (arrivedAt x now s)
   unfolding arrivedAt
@@ -221,7 +232,8 @@ module _ (C : ℕ) (least : 3 ≤ C) (room : C ≤ most) (course : List Crumb) (
   unfolding newFix
   new-fix-kept x now s k g =
       let f = located-framed x (s .frame) g (k .frame) in
-      fix-on-kept _ (framed-place (located x (s .frame)) x f g) now (s .follow .line) _ (arrived-follow x now s) (arrived-at-kept x now s k g)
+      fix-on-kept _ (framed-place (located x (s .frame)) x f g) now (s .follow .line) _ (arrived-follow x now s)
+      (arrived-at-kept x now s k g)
 
   seen-kept : (x : Fix) (now : ℕ) (s : State) → K s → FixOnGlobe x → K (seen C course x now s .state)
   unfolding seen

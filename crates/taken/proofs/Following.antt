@@ -37,13 +37,15 @@ use Rattle.joining.specs.Join.{joinedTo, joinOn, mayJoin, joinWith, joining}
 use Rattle.taken.proofs.Tests.{one-of}
 use Rattle.taken.proofs.Bounds.{Along, far, along-start, along-far}
 use Rattle.taken.proofs.Laid.{most, laid-at}
-use Rattle.taken.proofs.Recording.{Recorded, uncounted, Onward, keep-onward, flush-onward, add-onward, grows, cut-recorded, forgotten-recorded, forgotten-none}
+use Rattle.taken.proofs.Recording.{Recorded, uncounted, Onward, keep-onward, flush-onward, add-onward, grows, cut-recorded}
+use Rattle.taken.proofs.Recording.{forgotten-recorded, forgotten-none}
 use Rattle.taken.proofs.Moving.{Spotted}
 use Rattle.taken.proofs.State.{Lined, SegmentOn, Followed, Coursed, Kept, kept-track, kept-follow, kept-course}
 
 -- ---- the breadcrumb in the whole state
 -- a breadcrumb that is longer, or one that a thinning made
-left-followed : (on : Line) (len len′ points : ℕ) (f : Follow) → on ≡ f .line → Followed len points f → Followed len′ points (endedByThinning on f)
+left-followed : (on : Line) (len len′ points : ℕ) (f : Follow) → on ≡ f .line → Followed len points f
+    → Followed len′ points (endedByThinning on f)
 unfolding endedByThinning
 left-followed line.Breadcrumb len len′ points f e h = record { segment = tt; matched = tt }
 left-followed line.Nothing len len′ points f e h =
@@ -76,7 +78,8 @@ recorded-kept {C} {points} {s} d k sound o g =
       frame = k .frame;
       here = k .here;
       motion = k .motion;
-      follow = thinning-followed (thinnedIn (d .notes)) (length (s .track .crumbs)) (length (d .track .crumbs)) points (s .follow) g (k .follow);
+      follow =
+          thinning-followed (thinnedIn (d .notes)) (length (s .track .crumbs)) (length (d .track .crumbs)) points (s .follow) g (k .follow);
       course = k .course;
       lap = k .lap;
       guide = k .guide;
@@ -126,7 +129,11 @@ module _ (C : ℕ) (least : 3 ≤ C) (room : C ≤ most) (points : ℕ) where
       → Kept C points (withTrack (withCrumbs (take n (t .crumbs)) (forgotten t)) s)
   cut-kept n t s r k e =
       kept-track k (cut-recorded C n t r) (uncounted _ (forgotten-none t))
-      (record { segment = subst (λ l. SegmentOn l (s .follow .segment) (length (take n (t .crumbs))) points) (sym e) tt; matched = k .follow .matched })
+      (record {
+        segment = subst (λ l. SegmentOn l (s .follow .segment) (length (take n (t .crumbs))) points) (sym e) tt;
+        matched =
+            k .follow .matched;
+      })
 
   leave-kept : (x : Spot) (segment : ℕ) (s : State) → Spotted x → Kept C points s
       → Kept C points (leaveAt C x segment (withFollow (stopped Nowhere (s .follow)) (withTrack (forgotten (s .track)) s)) .state)
@@ -135,7 +142,8 @@ module _ (C : ℕ) (least : 3 ≤ C) (room : C ≤ most) (points : ℕ) where
       let off = stopped-followed _ Nowhere (s .follow) tt in
       kept-track (kept-follow k off) (forgotten-recorded C (s .track) (k .track)) (uncounted _ refl) (record { segment = tt; matched = tt })
   leave-kept (At p) segment s h k =
-      keep-kept p _ (cut-kept segment (s .track) (withFollow (stopped Nowhere (s .follow)) s) (k .track) (kept-follow k (stopped-followed _ Nowhere (s .follow) tt)) refl) h
+      keep-kept p _ (cut-kept segment (s .track) (withFollow (stopped Nowhere (s .follow)) s) (k .track)
+      (kept-follow k (stopped-followed _ Nowhere (s .follow) tt)) refl) h
 
   stop-breadcrumb-kept : (s : State) → Kept C points s → Kept C points (stopBreadcrumb C s .state)
   unfolding stopBreadcrumb
@@ -157,16 +165,19 @@ module _ (C : ℕ) (course : List Crumb) (lined : Lined course) where
   unfolding alongAt
   along-at end =
       one-of (Along far) (ltb end (length course))
-      (λ e. laid-at 0 end course (omega (arith, lined .few)) (lined .laid) (ltb-true _ _ e) .along) (λ e. along-far 0 plusZero (omega arith) along-start)
+      (λ e. laid-at 0 end course (omega (arith, lined .few)) (lined .laid) (ltb-true _ _ e) .along)
+      (λ e. along-far 0 plusZero (omega arith) along-start)
 
   course-from : (end : ℕ) (c : Course) → Coursed (length course) c → Coursed (length course) (courseFrom course end c)
   unfolding courseFrom
   course-from end c h = record { len = h .len; along = along-at end; reached = along-at end; fix = tt }
 
-  pub engage-at-kept : (on : Line) (end now : ℕ) (s : State) → SegmentOn on end (length (s .track .crumbs)) (length course) → Kept C (length course) s
+  pub engage-at-kept : (on : Line) (end now : ℕ) (s : State) → SegmentOn on end (length (s .track .crumbs)) (length course)
+      → Kept C (length course) s
       → Kept C (length course) (engageAt course on end now s)
   unfolding engageAt
-  engage-at-kept on end now s segment k = kept-follow (kept-course k (course-from end (s .course) (k .course))) (record { segment = segment; matched = tt })
+  engage-at-kept on end now s segment k =
+      kept-follow (kept-course k (course-from end (s .course) (k .course))) (record { segment = segment; matched = tt })
 
   two : (l : List Crumb) → leads l ≡ true → 2 ≤ length l
   unfolding leads
@@ -196,12 +207,14 @@ module _ (C : ℕ) (course : List Crumb) (lined : Lined course) where
   abbrev pub Joined : State → Type 0
   Joined s = (1 ≤ s .course .«join_end») × (s .course .«join_end» < length course)
 
-  join-on-end : (j : Join) (s : State) → ((end : ℕ) → j ≡ Segment end → (1 ≤ end) × (end < length course)) → joinOn j s .answer ≡ true → Joined (joinOn j s .state)
+  join-on-end : (j : Join) (s : State) → ((end : ℕ) → j ≡ Segment end → (1 ≤ end) × (end < length course)) → joinOn j s .answer ≡ true
+      → Joined (joinOn j s .state)
   unfolding joinOn joinedTo
   join-on-end NoSegment s h e = absurd (true≢false (sym e))
   join-on-end (Segment end) s h e = h end refl
 
-  join-with-end : (heading : Heading) (p : Point) (s : State) (end : ℕ) → joinWith heading course p s ≡ Segment end → (1 ≤ end) × (end < length course)
+  join-with-end : (heading : Heading) (p : Point) (s : State) (end : ℕ) → joinWith heading course p s ≡ Segment end
+      → (1 ≤ end) × (end < length course)
   unfolding joinWith
   join-with-end Unknown p s end e = let z : _≡_ {A = ℕ} 0 1 = cc in absurd (omega arith)
   join-with-end (Known heading) p s end e = by (mayJoin course s) e

@@ -1,4 +1,5 @@
--- Lines laid down crumb by crumb: every place is one of the plane, and along grows by 2^27 m a crumb at most. What the rules do to them. Assumes nothing.
+-- Lines laid down crumb by crumb: every place is one of the plane, and along grows by 2^27 m a crumb at most. What the rules do to them.
+-- Assumes nothing.
 use Prim.Native.Nat.{ℕ, zero, suc, _+_, _≤_, _<_}
 use native.Mathlib.Omega.{arith}
 use mathlib.Core.Path.{_≡_, refl, subst}

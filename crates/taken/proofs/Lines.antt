@@ -42,7 +42,8 @@ globe-aux (x ∷ xs) ys h k = globe-aux xs (x ∷ ys) (h .1) (h .0, k)
 globe-reverse : (xs : List Fix) → FixesOnGlobe xs → FixesOnGlobe (reverse xs)
 globe-reverse xs h = globe-aux xs [] h tt
 
-laid-behind : (i : ℕ) (a : Crumb) (f : Frame) (xs : List Fix) → i + length xs ≤ most → CrumbAt i a → Framed f → FixesOnGlobe xs → Laid (suc i) (placeBehind f (some a) xs)
+laid-behind : (i : ℕ) (a : Crumb) (f : Frame) (xs : List Fix) → i + length xs ≤ most → CrumbAt i a → Framed f → FixesOnGlobe xs
+    → Laid (suc i) (placeBehind f (some a) xs)
 unfolding placeBehind alongBehind
 laid-behind i a f [] few A h g = tt
 laid-behind i a f (x ∷ xs) few A h g =
@@ -144,13 +145,33 @@ module _ (C : ℕ) (least : 3 ≤ C) (room : C ≤ most) (points : ℕ) where
   unfolding offCourse stopCourse stopped
   off-followed line.Course n s e k = record { segment = tt; matched = tt }
   off-followed line.Nothing n s e k =
-      record { segment = subst (λ l. SegmentOn l (s .follow .segment) (length (s .track .crumbs)) n) (sym e) tt; matched = k .follow .matched }
+      record {
+        segment = subst (λ l. SegmentOn l (s .follow .segment) (length (s .track .crumbs)) n) (sym e) tt;
+        matched =
+            k .follow .matched;
+      }
   off-followed line.Breadcrumb n s e k =
       let h = subst (λ l. SegmentOn l (s .follow .segment) (length (s .track .crumbs)) points) e (k .follow .segment) in
-      record { segment = subst (λ l. SegmentOn l (s .follow .segment) (length (s .track .crumbs)) n) (sym e) h; matched = k .follow .matched }
+      record {
+        segment = subst (λ l. SegmentOn l (s .follow .segment) (length (s .track .crumbs)) n) (sym e) h;
+        matched =
+            k .follow .matched;
+      }
 
-  relined : (n : ℕ) (t : State) (c : Course) → Kept C points t → Followed (length (t .track .crumbs)) n (t .follow) → Coursed n c → Kept C n (withCourse c t)
-  relined n t c k f h = record { track = k .track; counted = k .counted; frame = k .frame; here = k .here; motion = k .motion; follow = f; course = h; lap = k .lap; guide = k .guide }
+  relined : (n : ℕ) (t : State) (c : Course) → Kept C points t → Followed (length (t .track .crumbs)) n (t .follow) → Coursed n c
+      → Kept C n (withCourse c t)
+  relined n t c k f h = record {
+    track = k .track;
+    counted = k .counted;
+    frame = k .frame;
+    here = k .here;
+    motion = k .motion;
+    follow =
+        f;
+    course = h;
+    lap = k .lap;
+    guide = k .guide;
+  }
 
   pub set-course-kept : (xs : List Fix) (s : State) → Kept C points s → Kept C (length (lineOf (s .frame) xs)) (setCourse xs s .state)
   unfolding setCourse

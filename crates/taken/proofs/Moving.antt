@@ -93,7 +93,11 @@ renewed-moving from p now P = record { from = P; heading = known-fits from p }
 aged-moving : (m : Motion) (from : Point) (now : ℕ) → Moving m → Place from → Moving (aged m from now)
 unfolding aged
 aged-moving m from now h P =
-    record { from = P; heading = one-of (λ x. headingFits x ≡ true) (ltb headingStaleMs (elapsed now (m .«heading_ms»))) (λ t. unknown-fits) (λ t. h .heading) }
+    record {
+      from = P;
+      heading =
+          one-of (λ x. headingFits x ≡ true) (ltb headingStaleMs (elapsed now (m .«heading_ms»))) (λ t. unknown-fits) (λ t. h .heading);
+    }
 
 pub heading-moving : (m : Motion) (p : Point) (now : ℕ) → Moving m → Place p → Moving (trackHeading m p now)
 unfolding trackHeading

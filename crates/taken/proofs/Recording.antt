@@ -19,7 +19,8 @@ use Rattle.crumbs.specs.Crumb.{point}
 use Rattle.crumbs.specs.Choice.{last}
 use Rattle.trail.specs.Notes.{Note, thinnedIn}
 use Rattle.trail.specs.Trail.{retraceFixes, Track, withCrumbs, fresh, toleranceM, thin, put, keep, flush, wait, simplify, add, resetTrack}
-use Rattle.trail.proofs.Rules.{keep-full, keep-room, flush-none, flush-some, bends, simplify-bends, simplify-straight, add-first, near, add-near, add-far}
+use Rattle.trail.proofs.Rules.{keep-full, keep-room, flush-none, flush-some, bends, simplify-bends, simplify-straight, add-first, near}
+use Rattle.trail.proofs.Rules.{add-near, add-far}
 use Rattle.trail.proofs.Theorems.{Sound, thin-sound, flush-sound, Holding, MayKeep, nothing, one, Keeps, full}
 use Rattle.trail.proofs.Theorems as trail
 use Rattle.follow.specs.Engage.{forgotten}
@@ -150,11 +151,13 @@ module _ (C : ℕ) (least : 3 ≤ C) (room : C ≤ most) where
 module _ (C : ℕ) where
   pub fresh-recorded : Recorded C fresh
   unfolding fresh
-  fresh-recorded = record { sound = record { held = omega arith; waiting = omega arith; tolerance = new-tolerance }; laid = tt; waiting = tt }
+  fresh-recorded =
+      record { sound = record { held = omega arith; waiting = omega arith; tolerance = new-tolerance }; laid = tt; waiting = tt }
 
   pub reset-recorded : (t : Track) → Recorded C (resetTrack t .track)
   unfolding resetTrack
-  reset-recorded t = record { sound = record { held = omega arith; waiting = omega arith; tolerance = new-tolerance }; laid = tt; waiting = tt }
+  reset-recorded t =
+      record { sound = record { held = omega arith; waiting = omega arith; tolerance = new-tolerance }; laid = tt; waiting = tt }
 
   -- the first n crumbs, with nothing that waits and no turn-round
   pub cut-recorded : (n : ℕ) (t : Track) → Recorded C t → Recorded C (withCrumbs (take n (t .crumbs)) (forgotten t))
@@ -169,12 +172,22 @@ module _ (C : ℕ) where
   pub forgotten-recorded : (t : Track) → Recorded C t → Recorded C (forgotten t)
   unfolding forgotten
   forgotten-recorded t r =
-      record { sound = record { held = r .sound .held; waiting = omega arith; tolerance = r .sound .tolerance }; laid = r .laid; waiting = tt }
+      record {
+        sound = record { held = r .sound .held; waiting = omega arith; tolerance = r .sound .tolerance };
+        laid = r .laid;
+        waiting =
+            tt;
+      }
 
   pub retrace-recorded : (n len : ℕ) (t : Track) → Recorded C t → Recorded C (withRetrace n len t)
   unfolding withRetrace
   retrace-recorded n len t r =
-      record { sound = record { held = r .sound .held; waiting = r .sound .waiting; tolerance = r .sound .tolerance }; laid = r .laid; waiting = r .waiting }
+      record {
+        sound = record { held = r .sound .held; waiting = r .sound .waiting; tolerance = r .sound .tolerance };
+        laid =
+            r .laid;
+        waiting = r .waiting;
+      }
 
 pub fresh-counted : Counted fresh
 unfolding fresh

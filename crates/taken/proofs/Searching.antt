@@ -35,17 +35,20 @@ unfolding meets project atShare
 meets-matches a b p end A B P =
     record {
       place = project-place p (point a) (point b) P (A .place) (B .place);
-      along = along-share (share p (point a) (point b)) (a .along) (b .along) (share-share p (point a) (point b) P (A .place) (B .place)) (A .along) (B .along);
+      along = along-share (share p (point a) (point b)) (a .along) (b .along) (share-share p (point a) (point b) P (A .place) (B .place))
+          (A .along) (B .along);
     }
 
 nearest-matches : (line : List Crumb) (p : Point) (end : ℕ) → Lined line → Place p → end < length line → Matches (nearestOn line p end)
 unfolding nearestOn
 nearest-matches line p end l P there =
     meets-matches (at line (end - 1)) (at line end) p end
-    (laid-at 0 (end - 1) line (omega (arith, l .few)) (l .laid) (omega arith)) (laid-at 0 end line (omega (arith, l .few)) (l .laid) there) P
+    (laid-at 0 (end - 1) line (omega (arith, l .few)) (l .laid) (omega arith))
+    (laid-at 0 end line (omega (arith, l .few)) (l .laid) there) P
 
 -- whatever is met among ends of the line
-pub met-on : (line : List Crumb) (p : Point) (ends : Range) (near : Nearest) → Lined line → Place p → 1 ≤ ends .from → ends .to < length line
+pub met-on : (line : List Crumb) (p : Point) (ends : Range) (near : Nearest) → Lined line → Place p → 1 ≤ ends .from
+    → ends .to < length line
     → Met line p ends near → OnSegment (length line) near
 met-on line p ends near l P first last met =
     let there : near .end < length line = omega (arith, met .to) in

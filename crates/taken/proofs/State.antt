@@ -17,7 +17,8 @@ use Rattle.state.specs.declared.Follow.{Follow}
 use Rattle.state.specs.declared.Course.{Course}
 use Rattle.state.specs.declared.Shown.{Shown}
 use Rattle.state.specs.declared.Shown.the-variants as shown
-use Rattle.state.specs.State.{State, withTrack, withFrame, withFed, withHere, withHereMs, withMotion, withFollow, withCourse, withAutoFollow, withArrived, withLap, withUpdatedMs, withGuide}
+use Rattle.state.specs.State.{State, withTrack, withFrame, withFed, withHere, withHereMs, withMotion, withFollow, withCourse}
+use Rattle.state.specs.State.{withAutoFollow, withArrived, withLap, withUpdatedMs, withGuide}
 use Rattle.calls.specs.Questions.{shownFits}
 use Rattle.taken.proofs.Bounds.{Along, far}
 use Rattle.taken.proofs.Laid.{most, Laid}
@@ -64,40 +65,183 @@ pub record Kept (C points : ℕ) (s : State) : Type 0 where
 
 module _ {C points : ℕ} {s : State} (k : Kept C points s) where
   pub kept-track : {x : Track} → Recorded C x → Counted x → Followed (length (x .crumbs)) points (s .follow) → Kept C points (withTrack x s)
-  kept-track r c f = record { track = r; counted = c; frame = k .frame; here = k .here; motion = k .motion; follow = f; course = k .course; lap = k .lap; guide = k .guide }
+  kept-track r c f = record {
+    track = r;
+    counted = c;
+    frame = k .frame;
+    here = k .here;
+    motion = k .motion;
+    follow = f;
+    course =
+        k .course;
+    lap = k .lap;
+    guide = k .guide;
+  }
 
   pub kept-frame : {x : Frame} → Framed x → Kept C points (withFrame x s)
-  kept-frame h = record { track = k .track; counted = k .counted; frame = h; here = k .here; motion = k .motion; follow = k .follow; course = k .course; lap = k .lap; guide = k .guide }
+  kept-frame h = record {
+    track = k .track;
+    counted = k .counted;
+    frame = h;
+    here = k .here;
+    motion = k .motion;
+    follow =
+        k .follow;
+    course = k .course;
+    lap = k .lap;
+    guide = k .guide;
+  }
 
   pub kept-fed : {x : Fed} → Kept C points (withFed x s)
-  kept-fed = record { track = k .track; counted = k .counted; frame = k .frame; here = k .here; motion = k .motion; follow = k .follow; course = k .course; lap = k .lap; guide = k .guide }
+  kept-fed = record {
+    track = k .track;
+    counted = k .counted;
+    frame = k .frame;
+    here = k .here;
+    motion = k .motion;
+    follow =
+        k .follow;
+    course = k .course;
+    lap = k .lap;
+    guide = k .guide;
+  }
 
   pub kept-here : {x : Spot} → Spotted x → Kept C points (withHere x s)
-  kept-here h = record { track = k .track; counted = k .counted; frame = k .frame; here = h; motion = k .motion; follow = k .follow; course = k .course; lap = k .lap; guide = k .guide }
+  kept-here h = record {
+    track = k .track;
+    counted = k .counted;
+    frame = k .frame;
+    here = h;
+    motion = k .motion;
+    follow =
+        k .follow;
+    course = k .course;
+    lap = k .lap;
+    guide = k .guide;
+  }
 
   pub kept-here-ms : {x : ℕ} → Kept C points (withHereMs x s)
-  kept-here-ms = record { track = k .track; counted = k .counted; frame = k .frame; here = k .here; motion = k .motion; follow = k .follow; course = k .course; lap = k .lap; guide = k .guide }
+  kept-here-ms = record {
+    track = k .track;
+    counted = k .counted;
+    frame = k .frame;
+    here = k .here;
+    motion = k .motion;
+    follow =
+        k .follow;
+    course = k .course;
+    lap = k .lap;
+    guide = k .guide;
+  }
 
   pub kept-motion : {x : Motion} → Moving x → Kept C points (withMotion x s)
-  kept-motion h = record { track = k .track; counted = k .counted; frame = k .frame; here = k .here; motion = h; follow = k .follow; course = k .course; lap = k .lap; guide = k .guide }
+  kept-motion h = record {
+    track = k .track;
+    counted = k .counted;
+    frame = k .frame;
+    here = k .here;
+    motion = h;
+    follow =
+        k .follow;
+    course = k .course;
+    lap = k .lap;
+    guide = k .guide;
+  }
 
   pub kept-follow : {x : Follow} → Followed (length (s .track .crumbs)) points x → Kept C points (withFollow x s)
-  kept-follow h = record { track = k .track; counted = k .counted; frame = k .frame; here = k .here; motion = k .motion; follow = h; course = k .course; lap = k .lap; guide = k .guide }
+  kept-follow h = record {
+    track = k .track;
+    counted = k .counted;
+    frame = k .frame;
+    here = k .here;
+    motion = k .motion;
+    follow =
+        h;
+    course = k .course;
+    lap = k .lap;
+    guide = k .guide;
+  }
 
   pub kept-course : {x : Course} → Coursed points x → Kept C points (withCourse x s)
-  kept-course h = record { track = k .track; counted = k .counted; frame = k .frame; here = k .here; motion = k .motion; follow = k .follow; course = h; lap = k .lap; guide = k .guide }
+  kept-course h = record {
+    track = k .track;
+    counted = k .counted;
+    frame = k .frame;
+    here = k .here;
+    motion = k .motion;
+    follow =
+        k .follow;
+    course = h;
+    lap = k .lap;
+    guide = k .guide;
+  }
 
   pub kept-auto-follow : {x : Bool} → Kept C points (withAutoFollow x s)
-  kept-auto-follow = record { track = k .track; counted = k .counted; frame = k .frame; here = k .here; motion = k .motion; follow = k .follow; course = k .course; lap = k .lap; guide = k .guide }
+  kept-auto-follow = record {
+    track = k .track;
+    counted = k .counted;
+    frame = k .frame;
+    here = k .here;
+    motion = k .motion;
+    follow =
+        k .follow;
+    course = k .course;
+    lap = k .lap;
+    guide = k .guide;
+  }
 
   pub kept-arrived : {x : Bool} → Kept C points (withArrived x s)
-  kept-arrived = record { track = k .track; counted = k .counted; frame = k .frame; here = k .here; motion = k .motion; follow = k .follow; course = k .course; lap = k .lap; guide = k .guide }
+  kept-arrived = record {
+    track = k .track;
+    counted = k .counted;
+    frame = k .frame;
+    here = k .here;
+    motion = k .motion;
+    follow =
+        k .follow;
+    course = k .course;
+    lap = k .lap;
+    guide = k .guide;
+  }
 
   pub kept-lap : {x : Lap} → Spotted (x .start) → Kept C points (withLap x s)
-  kept-lap h = record { track = k .track; counted = k .counted; frame = k .frame; here = k .here; motion = k .motion; follow = k .follow; course = k .course; lap = h; guide = k .guide }
+  kept-lap h = record {
+    track = k .track;
+    counted = k .counted;
+    frame = k .frame;
+    here = k .here;
+    motion = k .motion;
+    follow =
+        k .follow;
+    course = k .course;
+    lap = h;
+    guide = k .guide;
+  }
 
   pub kept-updated : {x : ℕ} → Kept C points (withUpdatedMs x s)
-  kept-updated = record { track = k .track; counted = k .counted; frame = k .frame; here = k .here; motion = k .motion; follow = k .follow; course = k .course; lap = k .lap; guide = k .guide }
+  kept-updated = record {
+    track = k .track;
+    counted = k .counted;
+    frame = k .frame;
+    here = k .here;
+    motion = k .motion;
+    follow =
+        k .follow;
+    course = k .course;
+    lap = k .lap;
+    guide = k .guide;
+  }
 
   pub kept-guide : {x : Shown} → shownFits x ≡ true → Kept C points (withGuide x s)
-  kept-guide h = record { track = k .track; counted = k .counted; frame = k .frame; here = k .here; motion = k .motion; follow = k .follow; course = k .course; lap = k .lap; guide = h }
+  kept-guide h = record {
+    track = k .track;
+    counted = k .counted;
+    frame = k .frame;
+    here = k .here;
+    motion = k .motion;
+    follow =
+        k .follow;
+    course = k .course;
+    lap = k .lap;
+    guide = h;
+  }

@@ -17,10 +17,14 @@ use Rattle.state.specs.State.{State}
 use Rattle.state.specs.Rule.{Done}
 use Rattle.course.specs.Fix.{Fix}
 use Rattle.course.specs.Course.{points, lineOf}
-use Rattle.calls.specs.Questions.{question1, question4, stateFits, heldFits, lineFits, crumbsFit, unless, asksState, asksCrumbs, asksLine, asksBoth}
+use Rattle.calls.specs.Questions.{question1, question4, stateFits, heldFits, lineFits, crumbsFit, unless, asksState, asksCrumbs, asksLine}
+use Rattle.calls.specs.Questions.{asksBoth}
 use Rattle.calls.specs.Line.{new, setCourse}
-use Rattle.calls.specs.Calls.{Loan, noBuffer, crumbBuffer, lineBuffer, bothBuffers, lineForCourse, Query, Call, Ask, Reset, EndReplay, SetCourse, SetAutoFollow, Observe, Replay, SetFollowing, arguments, asksLent, asks, courseIn, performs, afterCall}
-use Rattle.taken.specs.Taken.{FixesOnGlobe, InRange, placedOf, Lendable, LendsLine, Lent, lineLeft, lineAfter, Own, start, called, refused, BufferAfter, EveryTaken, AnyLineAtFirst, EveryLineAgain}
+use Rattle.calls.specs.Calls.{Loan, noBuffer, crumbBuffer, lineBuffer, bothBuffers, lineForCourse, Query, Call, Ask, Reset, EndReplay}
+use Rattle.calls.specs.Calls.{SetCourse, SetAutoFollow, Observe, Replay, SetFollowing, arguments, asksLent, asks, courseIn, performs}
+use Rattle.calls.specs.Calls.{afterCall}
+use Rattle.taken.specs.Taken.{FixesOnGlobe, InRange, placedOf, Lendable, LendsLine, Lent, lineLeft, lineAfter, Own, start, called}
+use Rattle.taken.specs.Taken.{refused, BufferAfter, EveryTaken, AnyLineAtFirst, EveryLineAgain}
 use Rattle.taken.proofs.Tests.{either, both}
 use Rattle.taken.proofs.Laid.{most, laid-fits}
 use Rattle.taken.proofs.State.{Lined, Kept}

@@ -15,7 +15,8 @@ use Rattle.course.specs.Fix.{Fix}
 use Rattle.course.specs.Course.{lineOf}
 use Rattle.calls.specs.Questions.{question1, question4}
 use Rattle.calls.specs.Line.{new}
-use Rattle.calls.specs.Calls.{Loan, noBuffer, crumbBuffer, lineBuffer, bothBuffers, lineForCourse, Call, arguments, asks, courseIn, afterCall}
+use Rattle.calls.specs.Calls.{Loan, noBuffer, crumbBuffer, lineBuffer, bothBuffers, lineForCourse, Call, arguments, asks, courseIn}
+use Rattle.calls.specs.Calls.{afterCall}
 
 -- "latitude within ±900,000,000", "longitude within ±1,800,000,000"
 abbrev pub FixOnGlobe : Fix → Type 0
@@ -61,8 +62,8 @@ lineLeft l s (lineForCourse b xs) = lineOf (s .frame) xs
 abbrev pub lineAfter : List Crumb → State → Call → List Crumb
 lineAfter l s c = lineLeft l s (arguments c .loan)
 
--- ---- `Own size s l`: a guide on a crumb buffer of `size` numbers, made by `new` and called any number of times, may be in the state s, and
--- its `set_course` has left the line l
+-- ---- `Own size s l`: a guide on a crumb buffer of `size` numbers, made by `new` and called any number of times, may be in the state s,
+-- and its `set_course` has left the line l
 pub data Own (size : ℕ) : State → List Crumb → Type 0 where
   start : Own size new []
   called : {s : State} {l : List Crumb} → Own size s l → (c : Call) → Lent l s c → InRange c

@@ -58,7 +58,8 @@ module _ {n : ℕ} {t : Float} {entry exit : List Float} {r : Thinned} (f : Thin
             fewer = omega (arith, choice-length (rule .choice), length-crumbs n entry);
             rule = rule;
           }
-      by false a = let w : left k d p ≡ refused 9 = sym (ap says e) ∙ answered-refused a in let z : _≡_ {A = ℕ} 0 1 = cc in absurd (omega arith)
+      by false a = let w : left k d p ≡ refused 9 = sym (ap says e) ∙ answered-refused a in let z : _≡_ {A = ℕ} 0 1 = cc in
+          absurd (omega arith)
 
   pub refused-is : {x : ℕ} → r ≡ Refused x → (question9 (length entry) n t ≡ false) × (x ≡ 9) × (exit ≡ entry)
   refused-is {x} e = by (question9 (length entry) n t) refl

@@ -64,7 +64,8 @@ module _ (p a b : Point) {s : Float} (S : s ≡ offSquare p a b) where
     by-root R e = e ∙ ap (λ (z : Float). not (le z most)) (R ∙ root-is)
 
 -- what the test of a place that was read says of the rule's
-module _ (most : Float) {t : Bool} {p a b x y z : Point} (e : t ≡ not (le (offSegment p a b) most)) (f : p ≡ x) (g : a ≡ y) (h : b ≡ z) where
+module _ (most : Float) {t : Bool} {p a b x y z : Point} (e : t ≡ not (le (offSegment p a b) most)) (f : p ≡ x) (g : a ≡ y)
+    (h : b ≡ z) where
   read : t ≡ not (le (offSegment x y z) most)
   read = cc
 

@@ -93,7 +93,8 @@ module _ {step : Crumb → List Crumb → ℕ} (w : Within step) where
   unfolding passBy
   pass-last k [] h = absurd (omega arith)
   pass-last zero (a ∷ []) h = refl
-  pass-last zero (a ∷ b ∷ l) h = last-cons a b (passBy step (step a (b ∷ l) - 1) (b ∷ l)) l (pass-last (step a (b ∷ l) - 1) (b ∷ l) (rest a b l))
+  pass-last zero (a ∷ b ∷ l) h =
+      last-cons a b (passBy step (step a (b ∷ l) - 1) (b ∷ l)) l (pass-last (step a (b ∷ l) - 1) (b ∷ l) (rest a b l))
   pass-last (suc k) (a ∷ []) h = absurd (omega arith)
   pass-last (suc k) (a ∷ b ∷ l) h = pass-last k (b ∷ l) (omega arith)
 

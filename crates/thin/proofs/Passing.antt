@@ -21,7 +21,8 @@ use Rattle.thin.proofs.Passes.{step-within, pass-drop, pass-none, pass-
 use Rattle.thin.proofs.Reaching.{after, length-after}
 
 -- a halving pass goes two on where two follow
-pub step-halving : (t : Float) (buf : List Float) (len anchor : ℕ) → anchor + 2 < len → stepBy true t (crumbAt buf anchor) (after buf len anchor) ≡ 2
+pub step-halving : (t : Float) (buf : List Float) (len anchor : ℕ) → anchor + 2 < len
+    → stepBy true t (crumbAt buf anchor) (after buf len anchor) ≡ 2
 unfolding stepBy twoOn
 step-halving t buf len anchor h = omega (arith, length-after buf len anchor)
 
@@ -106,7 +107,11 @@ module _ {halve : Bool} {t : Float} {len : ℕ} where
 
     next-high : anchor + 1 < len → stepBy halve t (crumbAt buf anchor) (after buf len anchor) ≤ len - suc anchor
     next-high more =
-        omega (arith, step-within halve t .high (crumbAt buf anchor) (after buf len anchor) (omega (arith, length-after buf len anchor)), length-after buf len anchor)
+        omega (
+          arith,
+          step-within halve t .high (crumbAt buf anchor) (after buf len anchor) (omega (arith, length-after buf len anchor)),
+          length-after buf len anchor,
+        )
 
     -- where one crumb follows, the next is that one
     pub next-last : anchor + 2 ≡ len → len - 1 ≡ anchor + stepBy halve t (crumbAt buf anchor) (after buf len anchor)
@@ -144,7 +149,8 @@ module _ {halve : Bool} {t : Float} {len : ℕ} where
 
       front-put : take (kept + 1) (crumbs len (putAt buf kept (crumbAt buf next))) ≡ take kept (crumbs len buf) ++ (crumbAt buf next ∷ [])
       front-put =
-          rw (add-one kept, put) (take-suc-set (crumbs len buf) kept (crumbAt buf next) (omega (arith, before, next-inside, length-crumbs len buf)))
+          rw (add-one kept, put)
+          (take-suc-set (crumbs len buf) kept (crumbAt buf next) (omega (arith, before, next-inside, length-crumbs len buf)))
 
       kept-next : Kept halve t len buf₀ (putAt buf kept (crumbAt buf next)) (kept + 1) next
       kept-next =
@@ -162,5 +168,6 @@ module _ {halve : Bool} {t : Float} {len : ℕ} where
           }
 
       -- the same of a buffer that a put left, with the crumb that was read
-      pub kept-put : {exit : List Float} {x : Crumb} → exit ≡ putAt buf kept x → x ≡ crumbAt buf next → Kept halve t len buf₀ exit (kept + 1) next
+      pub kept-put : {exit : List Float} {x : Crumb} → exit ≡ putAt buf kept x → x ≡ crumbAt buf next
+          → Kept halve t len buf₀ exit (kept + 1) next
       kept-put e f = rw (e, f) kept-next

@@ -44,7 +44,8 @@ between buf len anchor end = take (end - (anchor + 1)) (after buf len anchor)
 pub length-after : (buf : List Float) (len anchor : ℕ) → length (after buf len anchor) ≡ len - suc anchor
 length-after buf len anchor = simp (length-drop, length-crumbs)
 
-getD-after : (buf : List Float) (len anchor k : ℕ) (d : Crumb) (i : ℕ) → suc anchor + k ≡ i → i < len → getD (after buf len anchor) k d ≡ crumbAt buf i
+getD-after : (buf : List Float) (len anchor k : ℕ) (d : Crumb) (i : ℕ) → suc anchor + k ≡ i → i < len
+    → getD (after buf len anchor) k d ≡ crumbAt buf i
 getD-after buf len anchor k d i e b =
     getD-drop (suc anchor) (crumbs len buf) k d ∙ (getD-crumbs len buf (suc anchor + k) d (omega arith) ∙ ap (crumbAt buf) e)
 
@@ -83,7 +84,8 @@ module _ {t : Float} {buf : List Float} {len anchor : ℕ} where
   unfolding reach
   ends-start h =
       let k : anchor + 2 - (anchor + 1) ≡ 1 = omega arith in
-      let n : left len anchor (anchor + 2) ≡ min 256 (length (after buf len anchor)) - 1 = all-left len anchor _ (length-after buf len anchor) in
+      let n : left len anchor (anchor + 2) ≡ min 256 (length (after buf len anchor)) - 1 =
+      all-left len anchor _ (length-after buf len anchor) in
       record { same = cc; inside = h; from = omega arith; upto = omega arith }
 
   module _ {end : ℕ} (v : Ends t buf len anchor end) where
@@ -127,14 +129,17 @@ module _ {t : Float} {buf : List Float} {len anchor : ℕ} where
             record {
               same =
                   ap (λ n. farther t (crumbAt buf anchor) (after buf len anchor) n (left len anchor (end + 1))) (sym k)
-                  ∙ (sym (farther-on t (crumbAt buf anchor) (after buf len anchor) (end - (anchor + 1)) (left len anchor (end + 1)) (rw tried good)) ∙ at-end);
+                  ∙ (sym (farther-on t (crumbAt buf anchor) (after buf len anchor) (end - (anchor + 1)) (left len anchor (end + 1))
+                  (rw tried good)) ∙ at-end);
               inside = v .inside;
               from = omega (arith, v .from);
               upto = omega arith;
             }
 
-        module _ {r : Float} (more : j < end) (off : r ≡ offSegment (point (crumbAt buf j)) (point (crumbAt buf anchor)) (point (crumbAt buf end))) where
-          split : drop (j - (anchor + 1)) (between buf len anchor end) ≡ crumbAt buf j ∷ drop (j + 1 - (anchor + 1)) (between buf len anchor end)
+        module _ {r : Float} (more : j < end)
+            (off : r ≡ offSegment (point (crumbAt buf j)) (point (crumbAt buf anchor)) (point (crumbAt buf end))) where
+          split : drop (j - (anchor + 1)) (between buf len anchor end)
+              ≡ crumbAt buf j ∷ drop (j + 1 - (anchor + 1)) (between buf len anchor end)
           split =
               let k : suc (j - (anchor + 1)) ≡ j + 1 - (anchor + 1) = omega (arith, u .from) in
               let e : getD (between buf len anchor end) (j - (anchor + 1)) (crumbAt buf j) ≡ crumbAt buf j =
@@ -146,7 +151,8 @@ module _ {t : Float} {buf : List Float} {len anchor : ℕ} where
           between-on e =
               record {
                 same =
-                    sym (clear-on t (crumbAt buf anchor) (crumbAt buf end) (crumbAt buf j) (drop (j + 1 - (anchor + 1)) (between buf len anchor end)) (rw off at e))
+                    sym (clear-on t (crumbAt buf anchor) (crumbAt buf end) (crumbAt buf j)
+                    (drop (j + 1 - (anchor + 1)) (between buf len anchor end)) (rw off at e))
                     ∙ (ap (clear t (crumbAt buf anchor) (crumbAt buf end)) (sym split) ∙ u .same);
                 from = omega (arith, u .from);
                 upto = omega arith;
@@ -158,7 +164,8 @@ module _ {t : Float} {buf : List Float} {len anchor : ℕ} where
               let bad : clear t (crumbAt buf anchor) (crumbAt buf end) (between buf len anchor end) ≡ false =
               sym (u .same)
               ∙ (ap (clear t (crumbAt buf anchor) (crumbAt buf end)) split
-              ∙ clear-stray t (crumbAt buf anchor) (crumbAt buf end) (crumbAt buf j) (drop (j + 1 - (anchor + 1)) (between buf len anchor end)) (rw off at e)) in
+              ∙ clear-stray t (crumbAt buf anchor) (crumbAt buf end) (crumbAt buf j)
+              (drop (j + 1 - (anchor + 1)) (between buf len anchor end)) (rw off at e)) in
               ended
               (sym at-end
               ∙ farther-stop t (crumbAt buf anchor) (after buf len anchor) (end - (anchor + 1)) (left len anchor (end + 1)) (rw tried bad))

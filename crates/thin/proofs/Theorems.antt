@@ -15,7 +15,8 @@ use Rattle.crumbs.specs.Choice.{Choice, first, last}
 use Rattle.crumbs.proofs.Choices.{choice-all, choice-trans, choice-length}
 use Rattle.thin.specs.Crumb.{passBy, measuringPass, halvingPass, doubled, target, Thinning, passesFrom, thinning}
 use Rattle.thin.specs.Theorems.{doubledBy, measured, Thins, EveryThinning, EveryHalving}
-use Rattle.thin.proofs.Passes.{Within, reach-within, twoOn-within, pass-choice, pass-first, pass-ends, pass-both, pass-few, halving-length}
+use Rattle.thin.proofs.Passes.{Within, reach-within, twoOn-within, pass-choice, pass-first, pass-ends, pass-both, pass-few}
+use Rattle.thin.proofs.Passes.{halving-length}
 use Rattle.thin.proofs.Asked.{asked}
 
 pub halves : EveryHalving

@@ -29,7 +29,8 @@ module _ (most p : ℕ) (t : Float) (l : List Crumb) (early : p ≤ 17) where
   again : 18 - p ≡ suc (18 - (p + 1))
   again = omega arith
 
-  rule-stop : length (measuringPass t l) ≤ most → passesFrom most p (18 - p) t l ≡ record { left = measuringPass t l; tolerance = t; passes = p }
+  rule-stop : length (measuringPass t l) ≤ most
+      → passesFrom most p (18 - p) t l ≡ record { left = measuringPass t l; tolerance = t; passes = p }
   unfolding passesFrom
   rule-stop h = rw (again, le-leb _ _ h, passesFrom)
 
@@ -44,7 +45,8 @@ rule-last : (most p : ℕ) (t : Float) (l : List Crumb) → 18 - p ≡ 0
 unfolding passesFrom
 rule-last most p t l e = rw e
 
-pub answer-left : (size : ℕ) (t : Float) (l : List Crumb) (w : Thinning) → question9 size (length l) t ≡ true → thinning (capacity size) t l ≡ w
+pub answer-left : (size : ℕ) (t : Float) (l : List Crumb) (w : Thinning) → question9 size (length l) t ≡ true
+    → thinning (capacity size) t l ≡ w
     → thinAnswer size t l ≡ left (length (w .left)) (w .tolerance) (w .passes)
 unfolding thinAnswer
 answer-left size t l w h e = rw (h, thinAnswer) (ap (λ v. left (length (v .left)) (v .tolerance) (v .passes)) e)
@@ -74,7 +76,8 @@ pub record Going (len : ℕ) (t : Float) (most : ℕ) (buf₀ buf : List Float) 
   pub stood : Stood len buf₀ buf
   pub size : length buf ≡ length buf₀
 
-pub going-start : {len : ℕ} {t : Float} {most : ℕ} {buf : List Float} → question9 (length buf) len t ≡ true → most ≡ target (capacity (length buf))
+pub going-start : {len : ℕ} {t : Float} {most : ℕ} {buf : List Float} → question9 (length buf) len t ≡ true
+    → most ≡ target (capacity (length buf))
     → Going len t most buf buf len t 1
 unfolding thinning
 going-start {len} {t} {most} {buf} a e =
@@ -89,7 +92,8 @@ going-start {len} {t} {most} {buf} a e =
       size = refl;
     }
 
-module _ {len : ℕ} {t : Float} {most : ℕ} {buf₀ buf : List Float} {kept : ℕ} {d : Float} {p : ℕ} (g : Going len t most buf₀ buf kept d p) where
+module _ {len : ℕ} {t : Float} {most : ℕ} {buf₀ buf : List Float} {kept : ℕ} {d : Float} {p : ℕ}
+    (g : Going len t most buf₀ buf kept d p) where
   pub room : kept ≤ capacity (length buf)
   room = let a = asked (length buf₀) len t (g .admitted) in omega (arith, a .fits, g .fewer, g .size)
 
@@ -125,7 +129,8 @@ module _ {len : ℕ} {t : Float} {most : ℕ} {buf₀ buf : List Float} {kept : 
             absurd
             (let a = asked (length buf₀) len t (g .admitted) in
             let e = count (was-halved {p = p} q (omega arith)) in
-            let few = halving-room (capacity (length buf₀)) (crumbs kept buf) (a .least) (omega (arith, length-crumbs kept buf, g .fewer, a .fits)) in
+            let few = halving-room (capacity (length buf₀)) (crumbs kept buf) (a .least)
+            (omega (arith, length-crumbs kept buf, g .fewer, a .fits)) in
             omega (arith, g .aim))
 
     pub going-on : most < r → Going len t most buf₀ exit r (doubled d) (p + 1)
@@ -163,7 +168,8 @@ module _ {len : ℕ} {t : Float} {most : ℕ} {buf₀ buf : List Float} {kept : 
         let e = rule-done few in
         record {
           answered =
-              sym (answer-left (length buf₀) t (crumbs len buf₀) _ (rw length-crumbs (g .admitted)) e ∙ ap (λ n. left n d p) (length-crumbs r exit));
+              sym (answer-left (length buf₀) t (crumbs len buf₀) _ (rw length-crumbs (g .admitted)) e
+              ∙ ap (λ n. left n d p) (length-crumbs r exit));
           refused = λ b. absurd (true-false (sym (g .admitted) ∙ b));
           held = λ _. rw (e, length-crumbs r exit);
           beyond = still-beyond;

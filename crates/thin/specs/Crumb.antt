@@ -16,8 +16,9 @@ unfoldable pub clear : Float → Crumb → Crumb → List Crumb → Bool
 clear t a b [] = true
 clear t a b (p ∷ between) = elim (le (offSegment (point p) (point a) (point b)) t) [ true ↦ clear t a b between | false ↦ false ]
 
--- "goes to the last one before an end with a point between not within tolerance": how far past its anchor a a measuring pass goes, l being the
--- points after the anchor. It can go `far`, and n ends are left to try; the next of them is far + 1 past the anchor, with far points between.
+-- "goes to the last one before an end with a point between not within tolerance": how far past its anchor a a measuring pass goes, l being
+-- the points after the anchor. It can go `far`, and n ends are left to try; the next of them is far + 1 past the anchor, with far points
+-- between.
 unfoldable pub farther : Float → Crumb → List Crumb → ℕ → ℕ → ℕ
 farther t a l far zero = far
 farther t a l far (suc n) = elim (clear t a (getD l far a) (take far l)) [ true ↦ farther t a l (suc far) n | false ↦ far ]
@@ -55,8 +56,8 @@ pub record Thinning : Type 0 where
   pub tolerance : Float
   pub passes : ℕ
 
--- "passes until at most T remain, at least one pass, tolerance doubled after each failing pass": from pass k on, n more of which may measure
--- before one halves. The halving pass is the last: `Theorems.antt` says that it leaves at most T.
+-- "passes until at most T remain, at least one pass, tolerance doubled after each failing pass": from pass k on, n more of which may
+-- measure before one halves. The halving pass is the last: `Theorems.antt` says that it leaves at most T.
 unfoldable pub passesFrom : ℕ → ℕ → ℕ → Float → List Crumb → Thinning
 passesFrom most k zero t l = record { left = halvingPass l; tolerance = t; passes = k }
 passesFrom most k (suc n) t l =

@@ -16,7 +16,8 @@ use Rattle.thin.specs.Questions.{question9}
 pub record Stood (n : ℕ) (entry exit : List Float) : Type 0 where
   pub among : (i : ℕ) → i < n → (j : ℕ) × ((j < n) × (crumbAt exit i ≡ crumbAt entry j))
 
--- An thinAnswer in document 01's terms: the number of the refusal, or how many crumbs are left, the tolerance of the last pass, and the passes made.
+-- An thinAnswer in document 01's terms: the number of the refusal, or how many crumbs are left, the tolerance of the last pass, and the
+-- passes made.
 pub data ThinAnswer : Type 0 where
   refused : ℕ → ThinAnswer
   left : ℕ → Float → ℕ → ThinAnswer

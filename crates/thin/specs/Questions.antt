@@ -1,5 +1,5 @@
--- Document 01, "Questions put to a call": "`thin`, in place of the two above: buffer a multiple of 3 long, C 3 to 4,096, length ≤ C, tolerance 0 or
--- more? No: 9." A NaN is not 0 or more.
+-- Document 01, "Questions put to a call": "`thin`, in place of the two above: buffer a multiple of 3 long, C 3 to 4,096, length ≤ C,
+-- tolerance 0 or more? No: 9." A NaN is not 0 or more.
 use Prim.Native.Nat.{ℕ}
 use mathlib.Core.Bool.{Bool, _&&_}
 use lib.Dec.{leb}

@@ -77,7 +77,8 @@ fn strays(p: Point, a: Point, b: Point, tolerance: f32, lo: f32, hi: f32) -> boo
 fn reach(buf: &[f32], len: usize, anchor: usize, tolerance: f32, lo: f32, hi: f32) -> usize
     requires { ⌜ (anchor < len) × (len ≤ capacity (length (now buf))) ⌝ }
     requires { ⌜ (Under tolerance lo) × (Over tolerance hi) ⌝ }
-    ensures { λ r. ⌜ r ≡ anchor + reach tolerance (crumbAt (now (buf .entry)) anchor) (drop (suc anchor) (crumbs len (now (buf .entry)))) ⌝ }
+    ensures { λ r. ⌜ r ≡ anchor + reach tolerance (crumbAt (now (buf .entry)) anchor)
+        (drop (suc anchor) (crumbs len (now (buf .entry)))) ⌝ }
 {
     let a = crumbs::point_at(buf, anchor);
     let mut end = anchor + 2;
@@ -106,7 +107,8 @@ fn next(
 ) -> usize
     requires { ⌜ (anchor + 2 < len) × (len ≤ capacity (length (now buf))) ⌝ }
     requires { ⌜ (Under tolerance lo) × (Over tolerance hi) ⌝ }
-    ensures { λ r. ⌜ r ≡ anchor + stepBy halve tolerance (crumbAt (now (buf .entry)) anchor) (drop (suc anchor) (crumbs len (now (buf .entry)))) ⌝ }
+    ensures { λ r. ⌜ r ≡ anchor + stepBy halve tolerance (crumbAt (now (buf .entry)) anchor)
+        (drop (suc anchor) (crumbs len (now (buf .entry)))) ⌝ }
 {
     if halve {
         return anchor + 2;

@@ -21,7 +21,8 @@ use Rattle.trail.specs.View.{waitingAt, places, track, TrailFit}
 use Rattle.trail.specs.Inner.{TrailFollows, Records, TrailChanges}
 use Rattle.trail.proofs.Window.{length-places, last-places, none-places}
 use Rattle.crumbs.proofs.along.Line.{last-crumbs, last-none}
-use Rattle.trail.proofs.Rules.{keep-full, keep-room, flush-none, flush-some, bends, simplify-bends, simplify-straight, add-first, near, add-near, add-far}
+use Rattle.trail.proofs.Rules.{keep-full, keep-room, flush-none, flush-some, bends, simplify-bends, simplify-straight, add-first}
+use Rattle.trail.proofs.Rules.{near, add-near, add-far}
 use Rattle.trail.proofs.Theorems.{thin-room, flush-empties}
 use Rattle.trail.proofs.Tracks.{sound-of, records-then, records-as, records-still}
 
@@ -45,7 +46,8 @@ unfolding put
 put-noted p u = refl
 
 -- there is room behind a thinning
-pub room-behind : {t t₁ : Trail} {w b b₁ : List Float} → TrailFit t (length b) → TrailFollows thin t w b t₁ w b₁ → t₁ .len < capacity (length b₁)
+pub room-behind : {t t₁ : Trail} {w b b₁ : List Float} → TrailFit t (length b) → TrailFollows thin t w b t₁ w b₁
+    → t₁ .len < capacity (length b₁)
 room-behind {t} {t₁} {w} {b} {b₁} f g =
     let C = capacity (length b) in
     let few = thin-room C (omega arith) (track t w b) (sound-of w b f) in
@@ -53,13 +55,15 @@ room-behind {t} {t₁} {w} {b} {b₁} f g =
     omega (arith, g .size)
 
 module _ (t : Trail) (w b : List Float) (p : Point) where
-  pub keeps-full : {t₁ t₂ : Trail} {b₁ b₂ : List Float} → TrailFit t (length b) → t .len ≡ capacity (length b) → TrailFollows thin t w b t₁ w b₁
+  pub keeps-full : {t₁ t₂ : Trail} {b₁ b₂ : List Float} → TrailFit t (length b) → t .len ≡ capacity (length b)
+      → TrailFollows thin t w b t₁ w b₁
       → TrailFollows (λ C. put p) t₁ w b₁ t₂ w b₂ → Records (λ C. keep C p) t w b (record { trail = t₂; thinned = true }) w b₂
   keeps-full {t₁} f e g h =
       let C = capacity (length b) in
       let within : t₁ .len ≤ t .len = omega (arith, room-behind f g, g .size) in
       records-as
-      (records-then {R = thin} {S = λ C. put p} (record { follows = g; thinned = thin-noted C (track t w b) }) h (omega arith) (λ C u. put-noted p u))
+      (records-then {R = thin} {S = λ C. put p} (record { follows = g; thinned = thin-noted C (track t w b) }) h (omega arith)
+      (λ C u. put-noted p u))
       (sym (keep-full C p (track t w b) (held-long t w b ∙ e)))
 
   pub keeps-room : {r : Trail} {exit : List Float} → (t .len ≡ capacity (length b) → ⊥) → TrailFollows (λ C. put p) t w b r w exit
@@ -109,11 +113,13 @@ pub flushes-none : {t : Trail} (w b : List Float) → TrailFit t (length b) → 
     → Records flush t w b (record { trail = t; thinned = false }) w b
 flushes-none {t} w b f e = records-as (records-still w b f) (sym (flush-none (capacity (length b)) (track t w b) (none-waiting t w b e)))
 
-pub flushes : (t : Trail) (w b : List Float) (p : Point) {r : Recorded} {exit : List Float} → 0 < t .«window_len» → p ≡ waitingAt w (t .«window_len» - 1)
+pub flushes : (t : Trail) (w b : List Float) (p : Point) {r : Recorded} {exit : List Float} → 0 < t .«window_len»
+    → p ≡ waitingAt w (t .«window_len» - 1)
     → Records (λ C. keep C p) t w b r w exit → Records flush t w b (record { trail = emptied (r .trail); thinned = r .thinned }) w exit
 flushes t w b p {r} {exit} some-wait is k =
     records-as
-    (records-then {R = λ C. keep C p} {S = λ C. become (withWindow [])} k (empties (r .trail) w exit (k .follows .fit)) (omega arith) (λ C u. refl))
+    (records-then {R = λ C. keep C p} {S = λ C. become (withWindow [])} k (empties (r .trail) w exit (k .follows .fit)) (omega arith)
+    (λ C u. refl))
     (sym (flush-some (capacity (length b)) p (track t w b) (last-waiting t w b some-wait ∙ ap some (sym is))))
 
 -- ---- simplify
@@ -133,7 +139,8 @@ wait-noted p u = refl
 pub room-to-wait : {t : Trail} {r : Recorded} {w b exit : List Float} → Records flush t w b r w exit → r .trail .«window_len» < windowPlaces
 room-to-wait {t} {r} {w} {b} {exit} k =
     let none-left : r .trail .«window_len» ≡ 0 =
-    sym (waiting-long (r .trail) w exit) ∙ ap length (ap (λ u. u .window) (k .follows .same) ∙ flush-empties (capacity (length b)) (track t w b)) in
+    sym (waiting-long (r .trail) w exit)
+    ∙ ap length (ap (λ u. u .window) (k .follows .same) ∙ flush-empties (capacity (length b)) (track t w b)) in
     omega arith
 
 module _ (t : Trail) (w b : List Float) (anchor p : Point) where
@@ -157,10 +164,12 @@ module _ (t : Trail) (w b : List Float) (anchor p : Point) where
       → Records (λ C. simplify C anchor p) t w b (record { trail = t₂; thinned = r .thinned }) w′ exit
   simplifies-bends e k c =
       records-as
-      (records-then {R = flush} {S = λ C. wait p} k (waits-follows p (k .follows .fit) c) (omega (arith, wait-holds p c)) (λ C u. wait-noted p u))
+      (records-then {R = flush} {S = λ C. wait p} k (waits-follows p (k .follows .fit) c) (omega (arith, wait-holds p c))
+      (λ C u. wait-noted p u))
       (sym (simplify-bends (capacity (length b)) p (track t w b) anchor e))
 
-  pub simplifies-straight : {r : Trail} {w′ : List Float} → TrailFit t (length b) → bends (capacity (length b)) p (track t w b) anchor ≡ false
+  pub simplifies-straight : {r : Trail} {w′ : List Float} → TrailFit t (length b)
+      → bends (capacity (length b)) p (track t w b) anchor ≡ false
       → TrailChanges (wait p) t w r w′ → Records (λ C. simplify C anchor p) t w b (record { trail = r; thinned = false }) w′ b
   simplifies-straight f e c =
       records-as {R = λ C. wait p} (record { follows = waits-follows p f c; thinned = sym (wait-noted p (track t w b)) })
@@ -176,7 +185,8 @@ unfolding track
 last-held t w b h = last-crumbs (t .len) b h
 
 module _ (t : Trail) (w b : List Float) (p : Point) where
-  pub adds-first : {r : Recorded} {exit : List Float} → t .len ≡ 0 → Records (λ C. keep C p) t w b r w exit → Records (λ C. add C p) t w b r w exit
+  pub adds-first : {r : Recorded} {exit : List Float} → t .len ≡ 0 → Records (λ C. keep C p) t w b r w exit
+      → Records (λ C. add C p) t w b r w exit
   adds-first e k = records-as k (sym (add-first (capacity (length b)) p (track t w b) (none-held t w b e)))
 
   -- the anchor and the last place, as the code has them
@@ -189,7 +199,8 @@ module _ (t : Trail) (w b : List Float) (p : Point) where
     unfolding track
     near-is = rw (is, anchored)
 
-    pub adds-near : TrailFit t (length b) → lt (distance place p) minStepM ≡ true → Records (λ C. add C p) t w b (record { trail = t; thinned = false }) w b
+    pub adds-near : TrailFit t (length b) → lt (distance place p) minStepM ≡ true
+        → Records (λ C. add C p) t w b (record { trail = t; thinned = false }) w b
     adds-near f e =
         records-as (records-still w b f)
         (sym (add-near (capacity (length b)) p (track t w b) (crumbAt b (t .len - 1)) (last-held t w b some-held) (sym near-is ∙ e)))

@@ -14,7 +14,8 @@ use Rattle.crumbs.specs.declared.Crumb.{Crumb}
 use Rattle.crumbs.specs.Crumb.{point}
 use Rattle.crumbs.specs.Choice.{last}
 use Rattle.trail.specs.Notes.{Note, Kept, Thinned, Reset, thinnedIn}
-use Rattle.trail.specs.Trail.{windowPlaces, minStepM, Track, withWindow, _>>_, become, still, thin, put, keep, flushLast, flush, wait, strays, simplify, addBehind, add}
+use Rattle.trail.specs.Trail.{windowPlaces, minStepM, Track, withWindow, _>>_, become, still, thin, put, keep, flushLast, flush, wait}
+use Rattle.trail.specs.Trail.{strays, simplify, addBehind, add}
 
 -- where no place waits a flush does nothing
 pub flush-none : (C : ℕ) (t : Track) → last (t .window) ≡ none → flush C t ≡ still t

@@ -26,7 +26,8 @@ use Rattle.thin.proofs.Theorems.{thins-any}
 use Rattle.trail.specs.Notes.{Note, Kept, Thinned}
 use Rattle.crumbs.specs.Along.{realongBehind, realong}
 use Rattle.trail.specs.Trail.{windowPlaces, Track, thin, put, keep, flush, wait, strays, simplify, add}
-use Rattle.trail.proofs.Rules.{keep-full, keep-room, flush-none, flush-some, bends, simplify-bends, simplify-straight, add-first, near, add-near, add-far}
+use Rattle.trail.proofs.Rules.{keep-full, keep-room, flush-none, flush-some, bends, simplify-bends, simplify-straight, add-first}
+use Rattle.trail.proofs.Rules.{near, add-near, add-far}
 
 -- ---- recomputing along
 behind-places : (a : Crumb) (l : List Crumb) → map point (realongBehind a l) ≡ map point l

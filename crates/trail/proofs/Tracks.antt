@@ -36,7 +36,8 @@ unfolding track
 sound-of w b f = record { held = rw length-crumbs (f .held); waiting = rw length-places (f .waiting); tolerance = f .tolerance }
 
 -- a trail r in place of t, on a buffer of the same length
-fit-of : {t : Trail} (r : Trail) (w b exit : List Float) → TrailFit t (length b) → length exit ≡ length b → Sound (capacity (length b)) (track r w exit)
+fit-of : {t : Trail} (r : Trail) (w b exit : List Float) → TrailFit t (length b) → length exit ≡ length b
+    → Sound (capacity (length b)) (track r w exit)
     → TrailFit r (length exit)
 unfolding track
 fit-of r w b exit f e s =
@@ -65,7 +66,8 @@ module _ {t t₁ t₂ : Trail} {w w₁ w₂ b b₁ b₂ : List Float} {R S : ℕ
             ∙ behind-more (max (t .len) (t₁ .len)) n b₁ b (omega arith) (f .beyond);
       }
 
-pub records-then : {t t₂ : Trail} {r : Recorded} {w w₁ w₂ b b₁ b₂ : List Float} {R S : ℕ → Rule} → Records R t w b r w₁ b₁ → TrailFollows S (r .trail) w₁ b₁ t₂ w₂ b₂
+pub records-then : {t t₂ : Trail} {r : Recorded} {w w₁ w₂ b b₁ b₂ : List Float} {R S : ℕ → Rule} → Records R t w b r w₁ b₁
+    → TrailFollows S (r .trail) w₁ b₁ t₂ w₂ b₂
     → r .trail .len ≤ max (t .len) (t₂ .len) → ((C : ℕ) (u : Track) → thinnedIn (S C u .notes) ≡ false)
     → Records (λ C. R C >> S C) t w b (record { trail = t₂; thinned = r .thinned }) w₂ b₂
 records-then {t} {w = w} {b = b} {R = R} {S} f g h quiet =
@@ -90,7 +92,8 @@ records-as f e =
       thinned = f .thinned ∙ ap (λ d. thinnedIn (d .notes)) e;
     }
 
-pub records-still : {t : Trail} (w b : List Float) → TrailFit t (length b) → Records (λ C. still) t w b (record { trail = t; thinned = false }) w b
+pub records-still : {t : Trail} (w b : List Float) → TrailFit t (length b)
+    → Records (λ C. still) t w b (record { trail = t; thinned = false }) w b
 records-still w b f = record { follows = record { same = refl; fit = f; size = refl; beyond = refl }; thinned = refl }
 
 -- ---- a place waits
@@ -132,8 +135,10 @@ putOne t =
       «retrace_len» = t .«retrace_len»;
     }
 
-pub puts : (t : Trail) (p : Point) (w b : List Float) {along : Float} {exit : List Float} → TrailFit t (length b) → t .len < capacity (length b)
-    → along ≡ recordedM (crumbs (t .len) b) p → exit ≡ putAt b (t .len) (crumbOf p along) → TrailFollows (λ C. put p) t w b (putOne t) w exit
+pub puts : (t : Trail) (p : Point) (w b : List Float) {along : Float} {exit : List Float} → TrailFit t (length b)
+    → t .len < capacity (length b)
+    → along ≡ recordedM (crumbs (t .len) b) p → exit ≡ putAt b (t .len) (crumbOf p along)
+    → TrailFollows (λ C. put p) t w b (putOne t) w exit
 unfolding track put
 puts t p w b {along} {exit} f room far e =
     let n = t .len in
@@ -173,7 +178,12 @@ track-thin t w b exit k p q =
 asked : {t : Trail} {size : ℕ} → TrailFit t size → question9 size (t .len) (t .tolerance) ≡ true
 unfolding question9 ofInt
 asked {t} {size} f =
-    rw (f .whole-long, le-leb 3 (capacity size) (omega arith), le-leb (capacity size) 4096 (f .most), le-leb (t .len) (capacity size) (f .held))
+    rw (
+      f .whole-long,
+      le-leb 3 (capacity size) (omega arith),
+      le-leb (capacity size) 4096 (f .most),
+      le-leb (t .len) (capacity size) (f .held),
+    )
     (f .tolerance)
 
 module _ {t : Trail} {b b₁ : List Float} {r : Thinned} (f : TrailFit t (length b)) (done : ThinDone (t .len) (t .tolerance) b b₁ r) where
@@ -199,7 +209,8 @@ module _ {t : Trail} {b b₁ : List Float} {r : Thinned} (f : TrailFit t (length
         let same = track-thin t w b exit k (g .held ∙ ap realong (is .held)) (is .tolerance) in
         record {
           same = same;
-          fit = fit-of (thinnedTo t k d) w b exit f long (rw same (thin-sound (capacity (length b)) (omega arith) (track t w b) (sound-of w b f)));
+          fit = fit-of (thinnedTo t k d) w b exit f long
+              (rw same (thin-sound (capacity (length b)) (omega arith) (track t w b) (sound-of w b f)));
           size = long;
           beyond =
               behind-more k (max (t .len) k) exit b₁ (omega arith) (g .beyond)

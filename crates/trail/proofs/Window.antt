@@ -102,5 +102,6 @@ module _ (t : Float) (a p : Point) where
         at : Dec (i ≡ n) → (i < n → strays t a p (places n w) ≡ true)
             → (strays t a p (places n w) || lt t (offSegment (waitingAt w n) a p)) ≡ true
         at (yes e) earlier =
-            ap (λ k. strays t a p (places n w) || lt t (offSegment (waitingAt w k) a p)) (sym e) ∙ rw f (or-true (strays t a p (places n w)))
+            ap (λ k. strays t a p (places n w) || lt t (offSegment (waitingAt w k) a p)) (sym e)
+            ∙ rw f (or-true (strays t a p (places n w)))
         at (no ne) earlier = rw (earlier (omega arith))

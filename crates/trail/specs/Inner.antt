@@ -17,8 +17,8 @@ pub record TrailFollows (rule : ℕ → Rule) (t : Trail) (w entry : List Float)
   pub same : track r w′ exit ≡ rule (capacity (length entry)) (track t w entry) .track
   pub fit : TrailFit r (length exit)
   pub size : length exit ≡ length entry
-  -- The numbers behind the crumbs held before and after are unchanged. Free are those behind the crumbs held after, where a thinning left fewer,
-  -- and the numbers of the window that belong to no waiting place.
+  -- The numbers behind the crumbs held before and after are unchanged. Free are those behind the crumbs held after, where a thinning left
+  -- fewer, and the numbers of the window that belong to no waiting place.
   pub beyond : behind (max (t .len) (r .len)) exit ≡ behind (max (t .len) (r .len)) entry
 
 -- The same, with whether a thinning ran.

@@ -8,8 +8,8 @@ use Rattle.crumbs.specs.declared.Crumb.{Crumb}
 pub data Note : Type 0 where
   -- "Kept: a crumb is put behind those held. Noted is its place, east and north."
   Kept : Point → Note
-  -- "Thinning: `Homing::thin` runs. Noted are its passes, counted as above, and the crumbs it leaves": as they are held when `Homing::thin` has
-  -- run, with along recomputed. "The crumb whose keeping called for it set it off": its `Kept` is the next note.
+  -- "Thinning: `Homing::thin` runs. Noted are its passes, counted as above, and the crumbs it leaves": as they are held when `Homing::thin`
+  -- has run, with along recomputed. "The crumb whose keeping called for it set it off": its `Kept` is the next note.
   Thinned : ℕ → List Crumb → Note
   -- "Reset: the guide is reset."
   Reset : Note

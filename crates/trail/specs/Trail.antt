@@ -33,8 +33,8 @@ toleranceM = constant 6 1
 abbrev pub retraceFixes : ℕ
 retraceFixes = 8
 
--- What is recorded: the crumbs held, the tolerance, the places that wait, each oldest first; and the turn-round count, with how many crumbs were
--- held before the turn.
+-- What is recorded: the crumbs held, the tolerance, the places that wait, each oldest first; and the turn-round count, with how many crumbs
+-- were held before the turn.
 pub record Track : Type 0 where
   pub crumbs : List Crumb
   pub tolerance : Float
@@ -77,7 +77,8 @@ abbrev pub still : Rule
 still t = become (λ u. u) t
 
 -- ---- the rules
--- "Added: a thinning sets the turn-round count `retrace` to 0. In the Rust `retrace_len` survives". It leaves the tolerance of its last pass.
+-- "Added: a thinning sets the turn-round count `retrace` to 0. In the Rust `retrace_len` survives". It leaves the tolerance of its last
+-- pass.
 unfoldable pub thin : ℕ → Rule
 thin C t =
     let w = thinning C (t .tolerance) (t .crumbs) in
@@ -121,8 +122,8 @@ simplify C anchor p t =
       | false ↦ wait p t
     ]
 
--- The first crumb is kept at once. The last one held is the anchor, and p adds nothing where it is too near to the last place that waits, or to the
--- anchor where none does.
+-- The first crumb is kept at once. The last one held is the anchor, and p adds nothing where it is too near to the last place that waits,
+-- or to the anchor where none does.
 unfoldable pub addBehind : Option Crumb → ℕ → Point → Rule
 addBehind none C p t = keep C p t
 addBehind (some a) C p t =

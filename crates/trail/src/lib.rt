@@ -214,7 +214,8 @@ fn simplify(
     p: Point,
 ) -> Recorded
     requires { ⌜ (length (now window) ≡ 96) × (TrailFit t (length (now crumbs))) ⌝ }
-    ensures { λ r. ⌜ Records (λ C. simplify C anchor p) t (now (window .entry)) (now (crumbs .entry)) r (now (window .exit)) (now (crumbs .exit)) ⌝ }
+    ensures { λ r. ⌜ Records (λ C. simplify C anchor p) t (now (window .entry)) (now (crumbs .entry)) r (now (window .exit))
+        (now (crumbs .exit)) ⌝ }
 {
     if strays(window, t.window_len, anchor, p, t.tolerance) || t.window_len == WINDOW {
         let flushed = flush(t, window, crumbs);

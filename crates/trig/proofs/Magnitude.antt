@@ -8,7 +8,8 @@ use lib.IntN.{ℤ, pos, negsuc}
 use lib.Dec.{T, ltb, lt→ltb}
 use lib.Pow.{pow-pos}
 use lib.Ieee as ieee
-use lib.Ieee.{Float, nan, inf, fin, Format, binary32, prec, low, hid, top, up, down, round, fits, toBits, ofBits, sum, add, sub, mul, neg, lt, le}
+use lib.Ieee.{Float, nan, inf, fin, Format, binary32, prec, low, hid, top, up, down, round, fits, toBits, ofBits, sum, add, sub, mul, neg}
+use lib.Ieee.{lt, le}
 use lib.Ieee.Fits.{up-pos, down-pos, round-fits}
 use lib.Ieee.Bits.{is-true, ofBits-toBits}
 use lib.Ieee.Exact.{HasValue}
@@ -40,14 +41,16 @@ bits f (fin t m e) s a c p v =
 
 -- a number is written in one way
 same : (f : Format) (x y : Float) (s : Bool) (a c : ℕ) → 0 < c → T (fits f x) → T (fits f y) → HasValue x s a c → HasValue y s a c → x ≡ y
-same f x y s a c p t u v w = sym (ofBits-toBits f x t) ∙ ap (λ (n : ℕ). ofBits f n) (bits f x s a c p v ∙ sym (bits f y s a c p w)) ∙ ofBits-toBits f y u
+same f x y s a c p t u v w =
+    sym (ofBits-toBits f x t) ∙ ap (λ (n : ℕ). ofBits f n) (bits f x s a c p v ∙ sym (bits f y s a c p w)) ∙ ofBits-toBits f y u
 
 rounded : (f : Format) (s : Bool) (m : ℕ) (e : ℤ) → T (fits f (fin s m e)) → round f s (m * up e) (down e) ≡ fin s m e
 rounded f s m e t =
     let a = m * up e in
     let c = down e in
     let u = units-held f s m e (held f s m e t) in
-    same f (round f s a c) (fin s m e) s (grid f a c) (2 ^ low f) (pow-pos (low f)) (round-fits f s a c) t (round-value f s a c (round-under f a c (u .1))) (u .0)
+    same f (round f s a c) (fin s m e) s (grid f a c) (2 ^ low f) (pow-pos (low f)) (round-fits f s a c) t
+    (round-value f s a c (round-under f a c (u .1))) (u .0)
 
 -- ---- 0 - x
 sum-from-zero : (f : Format) (t : Bool) (b c : ℕ) → 0 < b → sum f false 0 t b c ≡ round f t b c
@@ -57,7 +60,8 @@ sum-from-zero f true b c p = rw (is-true (ltb 0 b) (lt→ltb 0 b p), sub-zero)
 
 opposite : (s : Bool) (m : ℕ) (e : ℤ) → T (fits binary32 (fin (not s) (suc m) e)) → plusZero ⊖ fin s (suc m) e ≡ fin (not s) (suc m) e
 unfolding sub add neg
-opposite s m e t = simp (zero-mul, mul-one, one-mul) (sum-from-zero binary32 (not s) (suc m * up e) (down e) (mul-pos (zero-lt-suc m) (up-pos e)) ∙ rounded binary32 (not s) (suc m) e t)
+opposite s m e t = simp (zero-mul, mul-one, one-mul)
+    (sum-from-zero binary32 (not s) (suc m * up e) (down e) (mul-pos (zero-lt-suc m) (up-pos e)) ∙ rounded binary32 (not s) (suc m) e t)
 
 -- a zero has the exponent 0
 zero-exponent : (s : Bool) (e : ℤ) → T (fits binary32 (fin s zero e)) → fin s zero e ≡ fin s zero (pos 0)
@@ -156,4 +160,5 @@ cos-within (fin s m e) h =
     either (part 43 4) (le a quarter) (nearCos (fin s m e)) (farCos b)
     (λ q. near-within (fin s m e) (size→within 13176795 (negsuc 23) (fin s m e) tt q))
     (λ q. widen (part 15 3) (part 43 4) (farCos b) tt
-    (far-within b (sub-between binary32 13176795 (negsuc 22) 13176795 (negsuc 23) 13 (negsuc 2) (part 13 3) a tt tt tt tt h (past→within 13176795 (negsuc 23) a tt tt q))))
+    (far-within b (sub-between binary32 13176795 (negsuc 22) 13176795 (negsuc 23) 13 (negsuc 2) (part 13 3) a tt tt tt tt h
+    (past→within 13176795 (negsuc 23) a tt tt q))))

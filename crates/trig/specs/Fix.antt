@@ -1,5 +1,6 @@
--- The cosine and the angle of a direction. Document 01, "Fix": "Stand-ins, used on both sides of the comparison; each f32 operation rounds once, constants to nearest".
--- Every operation here rounds once: `⊕`, `⊖`, `⊗` and `⊘` are binary32's. A quoted sentence is the document's. Definitions only.
+-- The cosine and the angle of a direction. Document 01, "Fix": "Stand-ins, used on both sides of the comparison; each f32 operation rounds
+-- once, constants to nearest". Every operation here rounds once: `⊕`, `⊖`, `⊗` and `⊘` are binary32's. A quoted sentence is the document's.
+-- Definitions only.
 use Prim.Native.Nat.{_*_, _^_}
 use mathlib.Core.Bool.{true, false, _&&_}
 use lib.Ieee.{Float, nan, inf, fin, neg, lt, le, eq}

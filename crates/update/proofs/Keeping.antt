@@ -49,11 +49,14 @@ arrival-crumbs true long d e s = by (lt leaveM d)
     by false = refl
 arrival-crumbs false long d e s = by (long && lt d arriveM)
   where
-    by : (b : Bool) → crumbsAfter (elim b [ true ↦ done event.Arrived (withArrived true (withFollow (offCleared (s .follow)) s)) | false ↦ done e s ]) ≡ s .track .crumbs
+    by : (b : Bool)
+        → crumbsAfter (elim b [ true ↦ done event.Arrived (withArrived true (withFollow (offCleared (s .follow)) s)) | false ↦ done e s ])
+        ≡ s .track .crumbs
     by true = refl
     by false = refl
 
-finished-crumbs : (course : List Crumb) (p : Point) (w : Way) (e : Event) (s : State) → crumbsAfter (finished course p w e s) ≡ s .track .crumbs
+finished-crumbs : (course : List Crumb) (p : Point) (w : Way) (e : Event) (s : State)
+    → crumbsAfter (finished course p w e s) ≡ s .track .crumbs
 unfolding finished
 finished-crumbs course p w e s = arrival-crumbs (s .arrived) _ _ e s
 
@@ -61,7 +64,8 @@ direct-crumbs : (course : List Crumb) (p : Point) (s : State) → crumbsAfter (d
 unfolding direct
 direct-crumbs course p s = finished-crumbs course p _ _ s
 
-matched-crumbs : (course : List Crumb) (p : Point) (now : ℕ) (near : Nearest) (s : State) → crumbsAfter (matchedAt course p now near s) ≡ s .track .crumbs
+matched-crumbs : (course : List Crumb) (p : Point) (now : ℕ) (near : Nearest) (s : State)
+    → crumbsAfter (matchedAt course p now near s) ≡ s .track .crumbs
 unfolding matchedAt
 matched-crumbs course p now near s = finished-crumbs course p _ _ _
 
@@ -69,11 +73,13 @@ begun-crumbs : (p : Point) (now : ℕ) (s : State) → begun p now s .track .cru
 unfolding begun
 begun-crumbs p now s = refl
 
-left-crumbs : (C : ℕ) (matched : Spot) (segment : ℕ) (s : State) → matched ≡ Nowhere → leaveAt C matched segment s .state .track .crumbs ≡ s .track .crumbs
+left-crumbs : (C : ℕ) (matched : Spot) (segment : ℕ) (s : State) → matched ≡ Nowhere
+    → leaveAt C matched segment s .state .track .crumbs ≡ s .track .crumbs
 unfolding leaveAt
 left-crumbs C matched segment s e = ap (λ (m : Spot). leaveAt C m segment s .state .track .crumbs) e
 
-stop-crumbs : (on : Line) (C : ℕ) (s : State) → (on ≡ line.Breadcrumb → s .follow .matched ≡ Nowhere) → stopOn on C s .state .track .crumbs ≡ s .track .crumbs
+stop-crumbs : (on : Line) (C : ℕ) (s : State) → (on ≡ line.Breadcrumb → s .follow .matched ≡ Nowhere)
+    → stopOn on C s .state .track .crumbs ≡ s .track .crumbs
 unfolding stopOn stopNothing stopCourse stopBreadcrumb forgotten
 stop-crumbs line.Nothing C s loose = refl
 stop-crumbs line.Course C s loose = refl
@@ -88,7 +94,8 @@ module _ (C : ℕ) (course : List Crumb) (p : Point) (now : ℕ) (s : State) (lo
   unfolding matchedTo
   matched-to-crumbs near = by (lt dropM (near .off)) (atCourseEnd s near)
     where
-      other : (b : Bool) → crumbsAfter (elim b [ true ↦ endedWith event.CourseEnd C course p now s | false ↦ matchedAt course p now near s ]) ≡ s .track .crumbs
+      other : (b : Bool) → crumbsAfter
+          (elim b [ true ↦ endedWith event.CourseEnd C course p now s | false ↦ matchedAt course p now near s ]) ≡ s .track .crumbs
       other true = ended-crumbs event.CourseEnd
       other false = matched-crumbs course p now near s
 
@@ -114,7 +121,8 @@ module _ (C : ℕ) (course : List Crumb) (p : Point) (now : ℕ) (s : State) (lo
   unfolding update begun
   update-crumbs = by (onLine (s .follow .line) && leb 2 (length (followed course s)))
     where
-      by : (b : Bool) → crumbsAfter (elim b [ true ↦ followOn C course p now (begun p now s) | false ↦ direct course p (begun p now s) ]) ≡ s .track .crumbs
+      by : (b : Bool) → crumbsAfter (elim b [ true ↦ followOn C course p now (begun p now s) | false ↦ direct course p (begun p now s) ])
+          ≡ s .track .crumbs
       by true = follow-crumbs C course p now (begun p now s) loose
       by false = direct-crumbs course p (begun p now s)
 
@@ -123,7 +131,8 @@ pub len-held : (h : Homing) (b : List Float) → length (stateOf h b .track .cru
 unfolding track
 len-held h b = length-crumbs (h .trail .len) b
 
-pub update-len : (course : List Crumb) (p : Point) (now : ℕ) (h : Homing) (entry : List Float) (r : Told) (exit : List Float) → Loose (stateOf h entry)
+pub update-len : (course : List Crumb) (p : Point) (now : ℕ) (h : Homing) (entry : List Float) (r : Told) (exit : List Float)
+    → Loose (stateOf h entry)
     → Updates (λ C. update C course p now) h entry r exit → r .homing .trail .len ≡ h .trail .len
 update-len course p now h entry r exit loose u =
     sym (len-held (r .homing) exit)

@@ -49,7 +49,8 @@ fit-same h r room lineRoom f t w c =
       onCourse = λ e.
           let on = f .onCourse (ap (λ (x : Follow). x .line) (sym w) ∙ e) in (
             subst (λ (x : Follow). 1 ≤ x .segment) (sym w) (on .0),
-            subst (λ (x : Course). r .follow .segment < x .«line_len») (sym c) (subst (λ (x : Follow). x .segment < h .course .«line_len») (sym w) (on .1)),
+            subst (λ (x : Course). r .follow .segment < x .«line_len») (sym c)
+                (subst (λ (x : Follow). x .segment < h .course .«line_len») (sym w) (on .1)),
           );
     }
 
@@ -80,7 +81,8 @@ updates-as rule other h entry r exit is u =
     }
 
 -- one that keeps no crumb
-pub updates-still : (rule : State → Done Event) (h : Homing) (b : List Float) (r : Told) → trail.TrailFit (h .trail) (length b) → Tells rule h b r → Updates (λ C. rule) h b r b
+pub updates-still : (rule : State → Done Event) (h : Homing) (b : List Float) (r : Told) → trail.TrailFit (h .trail) (length b)
+    → Tells rule h b r → Updates (λ C. rule) h b r b
 updates-still rule h b r f t =
     record {
       told = t .told;
@@ -94,7 +96,8 @@ updates-still rule h b r f t =
     }
 
 -- what came before left the trail alone
-pub updates-from : (before : State → State) (rule : ℕ → State → Done Event) (h g : Homing) (entry : List Float) (r : Told) (exit : List Float) → Changes before h g
+pub updates-from : (before : State → State) (rule : ℕ → State → Done Event) (h g : Homing) (entry : List Float) (r : Told)
+    (exit : List Float) → Changes before h g
     → Updates rule g entry r exit → Updates (λ C s. rule C (before s)) h entry r exit
 updates-from before rule h g entry r exit c u =
     let C = capacity (length entry) in
@@ -105,7 +108,8 @@ updates-from before rule h g entry r exit c u =
             same = u .follows .same ∙ ap (λ (s : State). rule C s .state) (c .same entry);
             fit = u .follows .fit;
             size = u .follows .size;
-            beyond = subst (λ (x : Trail). behind (max (x .len) (r .homing .trail .len)) exit ≡ behind (max (x .len) (r .homing .trail .len)) entry) (c .trail) (u .follows .beyond);
+            beyond = subst (λ (x : Trail). behind (max (x .len) (r .homing .trail .len)) exit
+                ≡ behind (max (x .len) (r .homing .trail .len)) entry) (c .trail) (u .follows .beyond);
           };
     }
 

@@ -22,12 +22,14 @@ enum-known-heading c = search needs
 
 add-t8 : tie.Need-add-t8
 add-t8 c =
-    let pointed = guide-given (c .before .before .before .before .before .args .g) (sym (c .before .before .before .before .asks-guide .ensures) ∙ c .before .before .before .if1 .left) in
+    let pointed = guide-given (c .before .before .before .before .before .args .g)
+    (sym (c .before .before .before .before .asks-guide .ensures) ∙ c .before .before .before .if1 .left) in
     record { fits = omega (arith, pointed .bearing, pointed .heading _ (c .before .heading .given .1)) }
 
 sub-t9 : tie.Need-sub-t9
 sub-t9 c =
-    let pointed = guide-given (c .before .before .before .before .before .args .g) (sym (c .before .before .before .before .asks-guide .ensures) ∙ c .before .before .before .if1 .left) in
+    let pointed = guide-given (c .before .before .before .before .before .args .g)
+    (sym (c .before .before .before .before .asks-guide .ensures) ∙ c .before .before .before .if1 .left) in
     omega (arith, pointed .bearing, pointed .heading _ (c .before .heading .given .1))
 
 enum-told : tie.Need-enum-told
@@ -37,13 +39,19 @@ returns-2 : tie.Need-returns-2
 unfolding saysAngle arrow
 returns-2 c =
     let g = c .before .before .before .before .before .args .g in
-    record { says = yes (c .before .before .before .before .asks-guide .ensures) (c .before .before .before .if1 .left) (sym (ap (λ (x : Heading). arrowFrom x (g .bearing)) (c .before .heading .given .1))) }
+    record {
+      says = yes (c .before .before .before .before .asks-guide .ensures) (c .before .before .before .if1 .left)
+          (sym (ap (λ (x : Heading). arrowFrom x (g .bearing)) (c .before .heading .given .1)));
+    }
 
 returns-3 : tie.Need-returns-3
 unfolding saysAngle arrow
 returns-3 c =
     let g = c .before .before .before .before .args .g in
-    record { says = yes (c .before .before .before .asks-guide .ensures) (c .before .before .if1 .left) (sym (ap (λ (x : Heading). arrowFrom x (g .bearing)) (c .enum-told .given .1))) }
+    record {
+      says = yes (c .before .before .before .asks-guide .ensures) (c .before .before .if1 .left)
+          (sym (ap (λ (x : Heading). arrowFrom x (g .bearing)) (c .enum-told .given .1)));
+    }
 
 pub arrow-spec : {M : Type 1} → statement M
 arrow-spec =

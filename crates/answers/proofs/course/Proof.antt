@@ -12,13 +12,15 @@ slice-aggregate-result : tie.Need-slice-aggregate-result
 slice-aggregate-result c = search needs
 
 returns : tie.Need-returns
-returns c = let g = c .before .before .before .before .args in course-refused (g .h) (now (g .line)) (c .before .before .asks-line .ensures) (c .before .if1 .taken)
+returns c = let g = c .before .before .before .before .args in
+    course-refused (g .h) (now (g .line)) (c .before .before .asks-line .ensures) (c .before .if1 .taken)
 
 front-requires : tie.Need-front-requires
 front-requires c κs = search needs
 
 returns-2 : tie.Need-returns-2
-returns-2 c = let g = c .before .before .before .before .args in course-returned (g .h) (now (g .line)) (c .before .before .asks-line .ensures) (c .before .if1 .left) (c .front .ensures)
+returns-2 c = let g = c .before .before .before .before .args in
+    course-returned (g .h) (now (g .line)) (c .before .before .asks-line .ensures) (c .before .if1 .left) (c .front .ensures)
 
 pub course-spec : {M : Type 1} → statement M
 course-spec = tie.close (tie.spec asks-line-requires slice-aggregate-result returns front-requires returns-2)

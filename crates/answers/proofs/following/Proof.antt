@@ -19,7 +19,8 @@ on-line-requires c κs = search needs
 
 returns-2 : tie.Need-returns-2
 unfolding saysVerdict asks asksLent following
-returns-2 c = record { says = λ b. yes (c .before .before .before .asks-state .ensures b) (c .before .before .if1 .left) (c .on-line .ensures) }
+returns-2 c =
+    record { says = λ b. yes (c .before .before .before .asks-state .ensures b) (c .before .before .if1 .left) (c .on-line .ensures) }
 
 pub following-spec : {M : Type 1} → statement M
 following-spec = tie.close (tie.spec asks-state-requires returns on-line-requires returns-2)

@@ -19,7 +19,8 @@ on-course-requires c κs = search needs
 
 returns-2 : tie.Need-returns-2
 unfolding saysVerdict asks asksLent followingCourse
-returns-2 c = record { says = λ b. yes (c .before .before .before .asks-state .ensures b) (c .before .before .if1 .left) (c .on-course .ensures) }
+returns-2 c =
+    record { says = λ b. yes (c .before .before .before .asks-state .ensures b) (c .before .before .if1 .left) (c .on-course .ensures) }
 
 pub following-course-spec : {M : Type 1} → statement M
 following-course-spec = tie.close (tie.spec asks-state-requires returns on-course-requires returns-2)

@@ -23,11 +23,17 @@ enum-told c = search needs
 
 returns-2 : tie.Need-returns-2
 unfolding saysShowing asks asksLent guide
-returns-2 c = record { says = λ b. yes (c .before .before .before .before .asks-state .ensures b) (c .before .before .before .if1 .left) (sym (c .before .shown .given .1)) }
+returns-2 c = record {
+  says = λ b. yes (c .before .before .before .before .asks-state .ensures b) (c .before .before .before .if1 .left)
+      (sym (c .before .shown .given .1));
+}
 
 returns-3 : tie.Need-returns-3
 unfolding saysShowing asks asksLent guide
-returns-3 c = record { says = λ b. yes (c .before .before .before .asks-state .ensures b) (c .before .before .if1 .left) (sym (c .enum-told .given .1)) }
+returns-3 c = record {
+  says =
+      λ b. yes (c .before .before .before .asks-state .ensures b) (c .before .before .if1 .left) (sym (c .enum-told .given .1));
+}
 
 pub guide-spec : {M : Type 1} → statement M
 guide-spec = tie.close (tie.spec asks-state-requires returns enum-known-shown enum-told returns-2 returns-3)

@@ -22,14 +22,16 @@ enum-told c = search needs
 
 returns : tie.Need-returns
 unfolding saysBack wayBackFrom
-returns c = let g = c .before .before .before .args in sym (ap (λ (x : Spot). gives (wayBackFrom x (crumbs (g .len) (now (g .crumbs))))) (c .enum-told .given .1))
+returns c = let g = c .before .before .before .args in
+    sym (ap (λ (x : Spot). gives (wayBackFrom x (crumbs (g .len) (now (g .crumbs))))) (c .enum-told .given .1))
 
 returns-2 : tie.Need-returns-2
 unfolding saysBack
 returns-2 c =
     let g = c .before .before .before .before .before .args in
     let l = crumbs (g .len) (now (g .crumbs)) in
-    ap gives (back-empty _ (g .len) (now (g .crumbs)) (c .if1 .taken)) ∙ sym (ap (λ (x : Spot). gives (wayBackFrom x l)) (c .before .before .here .given .1))
+    ap gives (back-empty _ (g .len) (now (g .crumbs)) (c .if1 .taken))
+    ∙ sym (ap (λ (x : Spot). gives (wayBackFrom x l)) (c .before .before .here .given .1))
 
 start-requires : tie.Need-start-requires
 start-requires c κs = search needs
@@ -52,7 +54,8 @@ returns-3 c =
     let g = c .before .before .before .before .before .before .before .before .before .before .args in
     let l = crumbs (g .len) (now (g .crumbs)) in
     let p = c .before .before .before .before .before .before .before .here .given .0 .0 in
-    let direct = c .before .as-u32 .ensures ∙ ap asU32 (c .before .before .before .distance .ensures ∙ ap (λ (q : Point). distance p q) (c .before .before .before .before .start .ensures)) in
+    let direct = c .before .as-u32 .ensures ∙ ap asU32 (c .before .before .before .distance .ensures
+    ∙ ap (λ (q : Point). distance p q) (c .before .before .before .before .start .ensures)) in
     let track = c .as-u322 .ensures ∙ ap asU32 (c .before .before .recorded-m .ensures) in
     ap gives (back-held p (g .len) (now (g .crumbs)) (c .before .before .before .before .before .if1 .left) _ _ direct track)
     ∙ sym (ap (λ (x : Spot). gives (wayBackFrom x l)) (c .before .before .before .before .before .before .before .here .given .1))

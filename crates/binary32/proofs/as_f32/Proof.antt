@@ -13,7 +13,8 @@ use Rattle.binary32.proofs.as_f32.Tie as tie
 upper : (c : tie.Then1) → Plain (c .before .args .d) (toZ w64 (ofZ w64 (c .before .args .d)))
 upper c = plain (c .before .args .d) (c .before .fits .d) (c .if1 .taken)
 
-lower : (c : tie.Else1) → Below (c .before .args .d) (negsuc 0 -ℤ toZ w64 (ofZ w64 (c .before .args .d))) (toZ w64 (ofZ w64 (negsuc 0 -ℤ toZ w64 (ofZ w64 (c .before .args .d)))))
+lower : (c : tie.Else1) → Below (c .before .args .d) (negsuc 0 -ℤ toZ w64 (ofZ w64 (c .before .args .d)))
+    (toZ w64 (ofZ w64 (negsuc 0 -ℤ toZ w64 (ofZ w64 (c .before .args .d)))))
 lower c = turned (c .before .args .d) (c .before .fits .d) (c .if1 .left)
 
 cast-smaller : tie.Need-cast-smaller

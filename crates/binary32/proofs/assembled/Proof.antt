@@ -1,4 +1,5 @@
--- `binary32::assembled` meets its contract: what `nearest_root` gives has 24 digits, so that its pattern stands for that many times 2 ^ j smallest values, which is where the root is rounded to. Assumes nothing.
+-- `binary32::assembled` meets its contract: what `nearest_root` gives has 24 digits, so that its pattern stands for that many times 2 ^ j
+-- smallest values, which is where the root is rounded to. Assumes nothing.
 use mathlib.Core.Path.{_≡_, sym, ap, _∙_}
 use Prim.Native.Nat.{ℕ, _+_, _*_, _^_, _≤_, _<_}
 use native.Mathlib.Omega.{arith}
@@ -40,7 +41,8 @@ returns c a d D e =
     let n = c .before .args .n in
     let j = c .before .args .j in
     let q = c .nearest-root .result in
-    sym (rounded binary32 a d n j q D e (c .before .pre .0) (omega arith) (c .nearest-root .ensures) ∙ pattern j q (lo c) (hi c) (c .before .pre .2))
+    sym (rounded binary32 a d n j q D e (c .before .pre .0) (omega arith) (c .nearest-root .ensures)
+    ∙ pattern j q (lo c) (hi c) (c .before .pre .2))
 
 pub assembled-spec : {M : Type 1} → statement M
 assembled-spec =

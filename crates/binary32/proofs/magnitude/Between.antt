@@ -1,10 +1,11 @@
--- A point between two places of at most 2 ^ k in size, a + t * (b - a) with t from 0 to 1, is at most 2 ^ k in size again, each of the three operations rounding once. For binary32.
--- Rounding b - a can carry a + t * (b - a) past 2 ^ k by half the distance to the next value at most, and that rounds back to 2 ^ k.
--- Assumes nothing.
+-- A point between two places of at most 2 ^ k in size, a + t * (b - a) with t from 0 to 1, is at most 2 ^ k in size again, each of the
+-- three operations rounding once. For binary32. Rounding b - a can carry a + t * (b - a) past 2 ^ k by half the distance to the next value
+-- at most, and that rounds back to 2 ^ k. Assumes nothing.
 use mathlib.Core.Path.{_≡_, refl, sym, ap, _∙_, subst}
 use mathlib.Core.Logic.{_⊎_, inl, inr}
 use Prim.Native.Nat.{ℕ, zero, suc, _+_, _-_, _*_, _^_, _≤_, _<_}
-use native.Mathlib.Nat.{le-refl, le-trans, le-of-eq, mul-comm, mul-assoc, mul-left-comm, mul-right-comm, mul-mul-mul-comm, mul-one, zero-mul, mul-pos, mul-le-mul-right, add-comm, pow-succ'}
+use native.Mathlib.Nat.{le-refl, le-trans, le-of-eq, mul-comm, mul-assoc, mul-left-comm, mul-right-comm, mul-mul-mul-comm, mul-one}
+use native.Mathlib.Nat.{zero-mul, mul-pos, mul-le-mul-right, add-comm, pow-succ'}
 use native.Mathlib.Omega.{arith}
 use mathlib.Core.Bool.{Bool, true, false, not, _&&_, Bool·beq, cond}
 use lib.IntN.{ℤ, pos, negsuc}
@@ -16,7 +17,8 @@ use lib.Ieee.Exact.{HasValue}
 use lib.Ieee.Scale.{grid, overflow, finite, round-under}
 use Rattle.binary32.specs.Limits.{plusZero}
 use Rattle.binary32.proofs.magnitude.Size.{Within, Share, pow}
-use Rattle.binary32.proofs.magnitude.Round.{round-value, round-held, grid-le, Held, held, units-held, within-of-values, value-of-within, value-finite}
+use Rattle.binary32.proofs.magnitude.Round.{round-value, round-held, grid-le, Held, held, units-held, within-of-values}
+use Rattle.binary32.proofs.magnitude.Round.{value-of-within, value-finite}
 use Rattle.binary32.proofs.magnitude.Laws.{within-finite}
 use Rattle.binary32.proofs.magnitude.Units.{fl, fl-near, fl-mono, fl-back, add-units}
 use Rattle.binary32.proofs.magnitude.Shares.{at-most}
@@ -46,18 +48,27 @@ in-sum a b = omega arith
 in-sum' : (a b : ℕ) → b - a ≤ a + b
 in-sum' a b = omega arith
 
-gap-round : (u : Bool) (z a b : ℕ) → z ≤ a + b → T (finite (round binary32 false (a + b) (2 ^ 149))) → Units (round binary32 u z (2 ^ 149)) u (fl z)
+gap-round : (u : Bool) (z a b : ℕ) → z ≤ a + b → T (finite (round binary32 false (a + b) (2 ^ 149)))
+    → Units (round binary32 u z (2 ^ 149)) u (fl z)
 gap-round u z a b h t = round-value binary32 u z (2 ^ 149) (fl-mono z (a + b) h t .1)
 
-alike : (s v : Bool) (a b : ℕ) → T (finite (round binary32 false (a + b) (2 ^ 149))) → Gap s a s b (cond (ltb b a) (round binary32 (not s) (a - b) (2 ^ 149)) (round binary32 v (b - a) (2 ^ 149)))
+alike : (s v : Bool) (a b : ℕ) → T (finite (round binary32 false (a + b) (2 ^ 149)))
+    → Gap s a s b (cond (ltb b a) (round binary32 (not s) (a - b) (2 ^ 149)) (round binary32 v (b - a) (2 ^ 149)))
 alike s v a b t = go (ltb b a) (nltb→le b a)
   where
-    go : (x : Bool) → (T (not x) → a ≤ b) → Gap s a s b (cond x (round binary32 (not s) (a - b) (2 ^ 149)) (round binary32 v (b - a) (2 ^ 149)))
+    go : (x : Bool) → (T (not x) → a ≤ b)
+        → Gap s a s b (cond x (round binary32 (not s) (a - b) (2 ^ 149)) (round binary32 v (b - a) (2 ^ 149)))
     go true l = (not s, fl (a - b), gap-round (not s) (a - b) a b (in-sum a b) t, across refl (fl-mono (a - b) (a + b) (in-sum a b) t .0))
     go false l = (v, fl (b - a), gap-round v (b - a) a b (in-sum' a b) t, onward (l tt) refl)
 
-unlike-signs : (s : Bool) (a b : ℕ) → T (finite (round binary32 false (a + b) (2 ^ 149))) → Gap s a (not s) b (round binary32 (not s) (b + a) (2 ^ 149))
-unlike-signs s a b t = (not s, fl (b + a), gap-round (not s) (b + a) a b (le-of-eq (add-comm b a)) t, across refl (le-of-eq (ap (λ (z : ℕ). fl z) (add-comm b a))))
+unlike-signs : (s : Bool) (a b : ℕ) → T (finite (round binary32 false (a + b) (2 ^ 149)))
+    → Gap s a (not s) b (round binary32 (not s) (b + a) (2 ^ 149))
+unlike-signs s a b t = (
+  not s,
+  fl (b + a),
+  gap-round (not s) (b + a) a b (le-of-eq (add-comm b a)) t,
+  across refl (le-of-eq (ap (λ (z : ℕ). fl z) (add-comm b a))),
+)
 
 gap : (s r : Bool) (a b : ℕ) → T (finite (round binary32 false (a + b) (2 ^ 149))) → Gap s a r b (sum binary32 r b (not s) a (2 ^ 149))
 unfolding sum
@@ -78,7 +89,11 @@ Part s d x = (u : Bool) × (n : ℕ) × Units x u n × (n ≤ d) × ((u ≡ s) �
 
 below-held : (u : Bool) (x y : ℕ) (v : Bool) (n : ℕ) (g : ℤ) → Held binary32 n g → 0 < y → x * down g ≤ n * up g * y
     → Units (round binary32 u x y) u (grid binary32 x y) × Within (fin v n g) (round binary32 u x y)
-below-held u x y v n g p Y h = (round-value binary32 u x y (grid-le binary32 x y (n * up g) (down g) Y (down-pos g) h (units-held binary32 v n g p .1) .1), round-held binary32 u x y v n g p Y h)
+below-held u x y v n g p Y h = (
+  round-value binary32 u x y
+      (grid-le binary32 x y (n * up g) (down g) Y (down-pos g) h (units-held binary32 v n g p .1) .1),
+  round-held binary32 u x y v n g p Y h,
+)
 
 zero-fits : T (fits binary32 plusZero)
 unfolding fits
@@ -98,31 +113,44 @@ part (fin false m e) (fin v n g) s d h p k =
     let x = m * up e * (n * up g) in
     let y = down e * down g in
     let u = unlike false v in
-    let r = below-held u x y v n g (held binary32 v n g p) (mul-pos (down-pos e) (down-pos g)) (at-most (m * up e) (down e) (n * up g) (down g) h) in
-    (u, grid binary32 x y, r .0, value-of-within (fin v n g) (round binary32 u x y) s u d (grid binary32 x y) (2 ^ 149) k (r .0) (pow-pos 149) (r .1), inl (unlike-false v ∙ k .0))
+    let r = below-held u x y v n g (held binary32 v n g p) (mul-pos (down-pos e) (down-pos g))
+    (at-most (m * up e) (down e) (n * up g) (down g) h) in (
+      u,
+      grid binary32 x y,
+      r .0,
+      value-of-within (fin v n g) (round binary32 u x y) s u d (grid binary32 x y) (2 ^ 149) k (r .0)
+          (pow-pos 149) (r .1),
+      inl (unlike-false v ∙ k .0),
+    )
 part (fin true m e) (fin v n g) s d h p k =
     let x = m * up e * (n * up g) in
     let y = down e * down g in
     let u = unlike true v in
-    let r = below-held u x y false 0 (pos 0) (held binary32 false 0 (pos 0) zero-fits) (mul-pos (down-pos e) (down-pos g)) (nothing m (up e) (n * up g) y h) in
-    let z : grid binary32 x y ≡ 0 = to-zero (grid binary32 x y) (value-of-within plusZero (round binary32 u x y) false u 0 (grid binary32 x y) (2 ^ 149) (refl, refl) (r .0) (pow-pos 149) (r .1)) in
+    let r = below-held u x y false 0 (pos 0) (held binary32 false 0 (pos 0) zero-fits) (mul-pos (down-pos e) (down-pos g))
+    (nothing m (up e) (n * up g) y h) in
+    let z : grid binary32 x y ≡ 0 = to-zero (grid binary32 x y) (value-of-within plusZero (round binary32 u x y) false u 0
+    (grid binary32 x y) (2 ^ 149) (refl, refl) (r .0) (pow-pos 149) (r .1)) in
     (u, grid binary32 x y, r .0, subst (λ (w : ℕ). w ≤ d) (sym z) native-zero-le, inr z)
   where
     native-zero-le : {d : ℕ} → 0 ≤ d
     native-zero-le {d} = omega arith
 
 -- ---- a plus a part of the gap
-module _ (j : ℕ) (b : Float) (is : Units b false (2 ^ (24 + j))) (top : T (finite (round binary32 false (2 ^ (24 + j) + 2 ^ j) (2 ^ 149)))) where
+module _ (j : ℕ) (b : Float) (is : Units b false (2 ^ (24 + j)))
+    (top : T (finite (round binary32 false (2 ^ (24 + j) + 2 ^ j) (2 ^ 149)))) where
   rounds : (s : Bool) (z : ℕ) → z ≤ 2 ^ (24 + j) + 2 ^ j → Within b (round binary32 s z (2 ^ 149))
   rounds s z h =
       let r = fl-back z j h top in
-      within-of-values b (round binary32 s z (2 ^ 149)) false s (2 ^ (24 + j)) (fl z) (2 ^ 149) (pow-pos 149) is (round-value binary32 s z (2 ^ 149) (r .1)) (r .0)
+      within-of-values b (round binary32 s z (2 ^ 149)) false s (2 ^ (24 + j)) (fl z) (2 ^ 149) (pow-pos 149) is
+      (round-value binary32 s z (2 ^ 149) (r .1)) (r .0)
 
-  sum-rounds : (s : Bool) (x : ℕ) (t : Bool) (y : ℕ) → (T (Bool·beq s t) → x + y ≤ 2 ^ (24 + j) + 2 ^ j) → x - y ≤ 2 ^ (24 + j) + 2 ^ j → y - x ≤ 2 ^ (24 + j) + 2 ^ j → Within b (sum binary32 s x t y (2 ^ 149))
+  sum-rounds : (s : Bool) (x : ℕ) (t : Bool) (y : ℕ) → (T (Bool·beq s t) → x + y ≤ 2 ^ (24 + j) + 2 ^ j) → x - y ≤ 2 ^ (24 + j) + 2 ^ j
+      → y - x ≤ 2 ^ (24 + j) + 2 ^ j → Within b (sum binary32 s x t y (2 ^ 149))
   unfolding sum
   sum-rounds s x t y h k l = go (Bool·beq s t) (ltb x y) h
     where
-      go : (v w : Bool) → (T v → x + y ≤ 2 ^ (24 + j) + 2 ^ j) → Within b (cond v (round binary32 s (x + y) (2 ^ 149)) (cond w (round binary32 t (y - x) (2 ^ 149)) (round binary32 (s && ltb y x) (x - y) (2 ^ 149))))
+      go : (v w : Bool) → (T v → x + y ≤ 2 ^ (24 + j) + 2 ^ j) → Within b (cond v (round binary32 s (x + y) (2 ^ 149))
+          (cond w (round binary32 t (y - x) (2 ^ 149)) (round binary32 (s && ltb y x) (x - y) (2 ^ 149))))
       go true w g = rounds s (x + y) (g tt)
       go false true g = rounds t (y - x) l
       go false false g = rounds (s && ltb y x) (x - y) k
@@ -167,7 +195,8 @@ double j = sym (pow-succ' 2 (24 + j)) ∙ ap (λ (x : ℕ). 2 ^ x) (shift j)
 
 -- the whole in units: what `a` plus a part of `b - a` is
 in-units : (j : ℕ) (g : Float) → Units g false (2 ^ (24 + j)) → T (finite (round binary32 false (2 ^ (24 + j) + 2 ^ j) (2 ^ 149)))
-    → (s : Bool) (x y : ℕ) (t : Bool) (d : ℕ) (u : Bool) (p : ℕ) → x ≤ 2 ^ (24 + j) → y ≤ 2 ^ (24 + j) → Way s x y t d → p ≤ d → ((u ≡ t) ⊎ (p ≡ 0)) → Within g (sum binary32 s x u p (2 ^ 149))
+    → (s : Bool) (x y : ℕ) (t : Bool) (d : ℕ) (u : Bool) (p : ℕ) → x ≤ 2 ^ (24 + j) → y ≤ 2 ^ (24 + j) → Way s x y t d → p ≤ d
+    → ((u ≡ t) ⊎ (p ≡ 0)) → Within g (sum binary32 s x u p (2 ^ 149))
 in-units j g is top s x y t d u p X Y (across e l) P (inl f) =
     let B = 2 ^ (24 + j) in
     let E = 2 ^ j in
@@ -191,7 +220,8 @@ units-of (inf s) f t = absurd t
 units-of (fin s m e) f t = (s, grid binary32 (m * up e) (down e), units-held binary32 s m e (held binary32 s m e f) .0)
 
 pub fewer-finite : (z c : ℕ) → z ≤ c → T (finite (round binary32 false c (2 ^ 149))) → T (finite (round binary32 false z (2 ^ 149)))
-fewer-finite z c h t = value-finite (round binary32 false z (2 ^ 149)) false (fl z) (2 ^ 149) (round-value binary32 false z (2 ^ 149) (fl-mono z c h t .1))
+fewer-finite z c h t =
+    value-finite (round binary32 false z (2 ^ 149)) false (fl z) (2 ^ 149) (round-value binary32 false z (2 ^ 149) (fl-mono z c h t .1))
 
 pub sub-units : (b a : Float) (r s : Bool) (y x : ℕ) → Units b r y → Units a s x → sub binary32 b a ≡ sum binary32 r y (not s) x (2 ^ 149)
 unfolding sub
@@ -199,32 +229,41 @@ sub-units b a r s y x ub ua = add-units binary32 b (neg a) r (not s) y x (2 ^ 14
 
 -- from the two values in units, and the gap's
 from-units : (j : ℕ) (g a b t : Float) → Units g false (2 ^ (24 + j)) → T (finite (round binary32 false (2 ^ (24 + j) + 2 ^ j) (2 ^ 149)))
-    → (s r : Bool) (x y : ℕ) → Units a s x → x ≤ 2 ^ (24 + j) → y ≤ 2 ^ (24 + j) → Gap s x r y (sub binary32 b a) → Share t → Within g (add binary32 a (mul binary32 t (sub binary32 b a)))
+    → (s r : Bool) (x y : ℕ) → Units a s x → x ≤ 2 ^ (24 + j) → y ≤ 2 ^ (24 + j) → Gap s x r y (sub binary32 b a) → Share t
+    → Within g (add binary32 a (mul binary32 t (sub binary32 b a)))
 from-units j g a b t is top s r x y ua X Y d S =
-    let p : Part (d .0) (d .1) (mul binary32 t (sub binary32 b a)) = part t (sub binary32 b a) (d .0) (d .1) S (sub-fits binary32 b a) (d .2) in
+    let p : Part (d .0) (d .1) (mul binary32 t (sub binary32 b a)) =
+    part t (sub binary32 b a) (d .0) (d .1) S (sub-fits binary32 b a) (d .2) in
     rw (add-units binary32 a (mul binary32 t (sub binary32 b a)) s (p .0) x (p .1) (2 ^ 149) (pow-pos 149) ua (p .2))
     (in-units j g is top s x y (d .0) (d .1) (p .0) (p .1) X Y (d .3) (p .3) (p .4))
 
-gap-of : (a b : Float) (s r : Bool) (x y : ℕ) → Units a s x → Units b r y → T (finite (round binary32 false (x + y) (2 ^ 149))) → Gap s x r y (sub binary32 b a)
+gap-of : (a b : Float) (s r : Bool) (x y : ℕ) → Units a s x → Units b r y → T (finite (round binary32 false (x + y) (2 ^ 149)))
+    → Gap s x r y (sub binary32 b a)
 gap-of a b s r x y ua ub far = rw (sub-units b a r s y x ub ua) (gap s r x y far)
 
 -- top and far: neither the bound and half a last place, nor twice the bound, overflows
-pub between : (j : ℕ) (g a b t : Float) → Units g false (2 ^ (24 + j)) → T (finite (round binary32 false (2 ^ (24 + j) + 2 ^ j) (2 ^ 149))) → T (finite (round binary32 false (2 * 2 ^ (24 + j)) (2 ^ 149)))
-    → T (fits binary32 a) → T (fits binary32 b) → Within g a → Within g b → Share t → Within g (add binary32 a (mul binary32 t (sub binary32 b a)))
+pub between : (j : ℕ) (g a b t : Float) → Units g false (2 ^ (24 + j)) → T (finite (round binary32 false (2 ^ (24 + j) + 2 ^ j) (2 ^ 149)))
+    → T (finite (round binary32 false (2 * 2 ^ (24 + j)) (2 ^ 149)))
+    → T (fits binary32 a) → T (fits binary32 b) → Within g a → Within g b → Share t
+    → Within g (add binary32 a (mul binary32 t (sub binary32 b a)))
 between j g a b t is top far fa fb A B S = go (units-of a fa (within-finite g a A)) (units-of b fb (within-finite g b B))
   where
-    go : ((s : Bool) × (n : ℕ) × Units a s n) → ((s : Bool) × (n : ℕ) × Units b s n) → Within g (add binary32 a (mul binary32 t (sub binary32 b a)))
+    go : ((s : Bool) × (n : ℕ) × Units a s n) → ((s : Bool) × (n : ℕ) × Units b s n)
+        → Within g (add binary32 a (mul binary32 t (sub binary32 b a)))
     go va vb =
         let X : va .1 ≤ 2 ^ (24 + j) = value-of-within g a false (va .0) (2 ^ (24 + j)) (va .1) (2 ^ 149) is (va .2) (pow-pos 149) A in
         let Y : vb .1 ≤ 2 ^ (24 + j) = value-of-within g b false (vb .0) (2 ^ (24 + j)) (vb .1) (2 ^ 149) is (vb .2) (pow-pos 149) B in
         from-units j g a b t is top (va .0) (vb .0) (va .1) (vb .1) (va .2) X Y
-        (gap-of a b (va .0) (vb .0) (va .1) (vb .1) (va .2) (vb .2) (fewer-finite (va .1 + vb .1) (2 * 2 ^ (24 + j)) (sum-le (va .1) (vb .1) (2 ^ (24 + j)) X Y) far)) S
+        (gap-of a b (va .0) (vb .0) (va .1) (vb .1) (va .2) (vb .2)
+        (fewer-finite (va .1 + vb .1) (2 * 2 ^ (24 + j)) (sum-le (va .1) (vb .1) (2 ^ (24 + j)) X Y) far)) S
 
 -- ---- at the bounds that are used: a place is at most 2 ^ 25 m, a distance along a line at most 2 ^ 53 m
-pub place-between : (a b t : Float) → T (fits binary32 a) → T (fits binary32 b) → Within (pow 25) a → Within (pow 25) b → Share t → Within (pow 25) (add binary32 a (mul binary32 t (sub binary32 b a)))
+pub place-between : (a b t : Float) → T (fits binary32 a) → T (fits binary32 b) → Within (pow 25) a → Within (pow 25) b → Share t
+    → Within (pow 25) (add binary32 a (mul binary32 t (sub binary32 b a)))
 unfolding round
 place-between a b t = between 150 (pow 25) a b t (refl, refl) tt tt
 
-pub along-between : (a b t : Float) → T (fits binary32 a) → T (fits binary32 b) → Within (pow 53) a → Within (pow 53) b → Share t → Within (pow 53) (add binary32 a (mul binary32 t (sub binary32 b a)))
+pub along-between : (a b t : Float) → T (fits binary32 a) → T (fits binary32 b) → Within (pow 53) a → Within (pow 53) b → Share t
+    → Within (pow 53) (add binary32 a (mul binary32 t (sub binary32 b a)))
 unfolding round
 along-between a b t = between 178 (pow 53) a b t (refl, refl) tt tt

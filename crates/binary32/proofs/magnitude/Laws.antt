@@ -1,8 +1,9 @@
--- What each operation does to a bound on its operands' sizes. Each law over closed bounds has one test, which computes: `tt` under `unfolding add` (or `mul`, `div`, `ofInt`).
--- Assumes nothing.
+-- What each operation does to a bound on its operands' sizes. Each law over closed bounds has one test, which computes: `tt` under
+-- `unfolding add` (or `mul`, `div`, `ofInt`). Assumes nothing.
 use mathlib.Core.Path.{_≡_, refl, sym, ap, _∙_, subst}
 use Prim.Native.Nat.{ℕ, zero, suc, _+_, _-_, _*_, _^_, _≤_, _<_}
-use native.Mathlib.Nat.{le-refl, le-trans, le-of-eq, mul-comm, mul-assoc, mul-left-comm, mul-mul-mul-comm, mul-one, one-mul, zero-mul, mul-pos, mul-le-mul, mul-le-mul-right, add-mul, add-le-add, zero-lt-suc}
+use native.Mathlib.Nat.{le-refl, le-trans, le-of-eq, mul-comm, mul-assoc, mul-left-comm, mul-mul-mul-comm, mul-one, one-mul, zero-mul}
+use native.Mathlib.Nat.{mul-pos, mul-le-mul, mul-le-mul-right, add-mul, add-le-add, zero-lt-suc}
 use native.Mathlib.Omega.{arith}
 use mathlib.Core.Bool.{Bool, true, false, not, _&&_, Bool·beq, cond}
 use lib.IntN.{ℤ, pos, negsuc, natAbs}
@@ -15,7 +16,8 @@ use Rattle.binary32.specs.Limits.{sizeOf}
 use Rattle.binary32.proofs.magnitude.Size.{Within, within}
 use Rattle.binary32.proofs.magnitude.Round.{round-within, round-held}
 
--- a parameter's fit, as a function's proof has it: `passed (c .good .0 .1)` for the first parameter, `passed (c .good .1 .0 .1)` for the second
+-- a parameter's fit, as a function's proof has it: `passed (c .good .0 .1)` for the first parameter, `passed (c .good .1 .0 .1)` for the
+-- second
 pub passed : {b : Bool} → b ≡ true → T b
 passed e = subst (λ (x : Bool). T x) (sym e) tt
 
@@ -78,10 +80,12 @@ less' : (a b : ℕ) → (a - b) ≤ a + b
 less' a b = omega arith
 
 -- ±a / c + ±b / c, where (a + b) / c is at most p / q
-pub sum-within : (f : Format) (s : Bool) (a : ℕ) (t : Bool) (b c p q : ℕ) → 0 < c → 0 < q → (a + b) * q ≤ p * c → T (finite (round f false p q)) → Within (round f false p q) (sum f s a t b c)
+pub sum-within : (f : Format) (s : Bool) (a : ℕ) (t : Bool) (b c p q : ℕ) → 0 < c → 0 < q → (a + b) * q ≤ p * c
+    → T (finite (round f false p q)) → Within (round f false p q) (sum f s a t b c)
 unfolding sum
 sum-within f s a t b c p q C Q h u =
-    cond-within (round f false p q) (Bool·beq s t) (round f s (a + b) c) (cond (ltb a b) (round f t (b - a) c) (round f (s && ltb b a) (a - b) c))
+    cond-within (round f false p q) (Bool·beq s t) (round f s (a + b) c)
+    (cond (ltb a b) (round f t (b - a) c) (round f (s && ltb b a) (a - b) c))
     (round-within f s (a + b) c p q C Q h u)
     (cond-within (round f false p q) (ltb a b) (round f t (b - a) c) (round f (s && ltb b a) (a - b) c)
     (round-within f t (b - a) c p q C Q (le-trans (mul-le-mul-right q (less a b c)) h) u)
@@ -89,12 +93,16 @@ sum-within f s a t b c p q C Q h u =
 
 frac-add : (x xd y yd b bd c cd : ℕ) → x * bd ≤ b * xd → y * cd ≤ c * yd → (x * yd + y * xd) * (bd * cd) ≤ (b * cd + c * bd) * (xd * yd)
 frac-add x xd y yd b bd c cd h k =
-    let p : x * yd * (bd * cd) ≤ b * cd * (xd * yd) = le-trans (le-of-eq (mul-mul-mul-comm x yd bd cd)) (le-trans (mul-le-mul-right (yd * cd) h) (le-of-eq (simp (mul-assoc, mul-comm, mul-left-comm)))) in
-    let q : y * xd * (bd * cd) ≤ c * bd * (xd * yd) = le-trans (le-of-eq (simp (mul-assoc, mul-comm, mul-left-comm))) (le-trans (mul-le-mul-right (xd * bd) k) (le-of-eq (simp (mul-assoc, mul-comm, mul-left-comm)))) in
-    le-trans (le-of-eq (add-mul (x * yd) (y * xd) (bd * cd))) (le-trans (add-le-add p q) (le-of-eq (sym (add-mul (b * cd) (c * bd) (xd * yd)))))
+    let p : x * yd * (bd * cd) ≤ b * cd * (xd * yd) = le-trans (le-of-eq (mul-mul-mul-comm x yd bd cd))
+    (le-trans (mul-le-mul-right (yd * cd) h) (le-of-eq (simp (mul-assoc, mul-comm, mul-left-comm)))) in
+    let q : y * xd * (bd * cd) ≤ c * bd * (xd * yd) = le-trans (le-of-eq (simp (mul-assoc, mul-comm, mul-left-comm)))
+    (le-trans (mul-le-mul-right (xd * bd) k) (le-of-eq (simp (mul-assoc, mul-comm, mul-left-comm)))) in
+    le-trans (le-of-eq (add-mul (x * yd) (y * xd) (bd * cd)))
+    (le-trans (add-le-add p q) (le-of-eq (sym (add-mul (b * cd) (c * bd) (xd * yd)))))
 
 -- a bound for a sum: the sum of the bounds, rounded
-pub add-sizes : (f : Format) (b c x y : Float) → T (finite (add f (sizeOf b) (sizeOf c))) → Within b x → Within c y → Within (add f (sizeOf b) (sizeOf c)) (add f x y)
+pub add-sizes : (f : Format) (b c x y : Float) → T (finite (add f (sizeOf b) (sizeOf c))) → Within b x → Within c y
+    → Within (add f (sizeOf b) (sizeOf c)) (add f x y)
 unfolding add sum
 add-sizes f nan c x y t h k = absurd h
 add-sizes f (inf s) c x y t h k = absurd h
@@ -105,24 +113,29 @@ add-sizes f (fin s n d) (inf v) (fin u m e) y t h k = absurd k
 add-sizes f (fin s n d) (fin v p r) (fin u m e) nan t h k = absurd k
 add-sizes f (fin s n d) (fin v p r) (fin u m e) (inf w) t h k = absurd k
 add-sizes f (fin s n d) (fin v p r) (fin u m e) (fin w l g) t h k =
-    sum-within f u (m * up e * down g) w (l * up g * down e) (down e * down g) (n * up d * down r + p * up r * down d) (down d * down r) (mul-pos (down-pos e) (down-pos g)) (mul-pos (down-pos d) (down-pos r))
+    sum-within f u (m * up e * down g) w (l * up g * down e) (down e * down g) (n * up d * down r + p * up r * down d) (down d * down r)
+    (mul-pos (down-pos e) (down-pos g)) (mul-pos (down-pos d) (down-pos r))
     (frac-add (m * up e) (down e) (l * up g) (down g) (n * up d) (down d) (p * up r) (down r) h k) t
 
 -- with all three bounds written out
-pub add-within : (f : Format) (b c g x y : Float) → T (within g (add f (sizeOf b) (sizeOf c))) → Within b x → Within c y → Within g (add f x y)
+pub add-within : (f : Format) (b c g x y : Float) → T (within g (add f (sizeOf b) (sizeOf c))) → Within b x → Within c y
+    → Within g (add f x y)
 add-within f b c g x y t h k =
     let w = test→within g (add f (sizeOf b) (sizeOf c)) t in
     within-trans g (add f (sizeOf b) (sizeOf c)) (add f x y) w (add-sizes f b c x y (within-finite g (add f (sizeOf b) (sizeOf c)) w) h k)
 
-pub sub-within : (f : Format) (b c g x y : Float) → T (within g (add f (sizeOf b) (sizeOf c))) → Within b x → Within c y → Within g (sub f x y)
+pub sub-within : (f : Format) (b c g x y : Float) → T (within g (add f (sizeOf b) (sizeOf c))) → Within b x → Within c y
+    → Within g (sub f x y)
 unfolding sub
 sub-within f b c g x y t h k = add-within f b c g x (neg y) t h (neg-within c y k)
 
 -- ---- mul
 frac-mul : (x xd y yd b bd c cd : ℕ) → x * bd ≤ b * xd → y * cd ≤ c * yd → x * y * (bd * cd) ≤ b * c * (xd * yd)
-frac-mul x xd y yd b bd c cd h k = le-trans (le-of-eq (mul-mul-mul-comm x y bd cd)) (le-trans (mul-le-mul h k) (le-of-eq (mul-mul-mul-comm b xd c yd)))
+frac-mul x xd y yd b bd c cd h k =
+    le-trans (le-of-eq (mul-mul-mul-comm x y bd cd)) (le-trans (mul-le-mul h k) (le-of-eq (mul-mul-mul-comm b xd c yd)))
 
-pub mul-sizes : (f : Format) (b c x y : Float) → T (finite (mul f (sizeOf b) (sizeOf c))) → Within b x → Within c y → Within (mul f (sizeOf b) (sizeOf c)) (mul f x y)
+pub mul-sizes : (f : Format) (b c x y : Float) → T (finite (mul f (sizeOf b) (sizeOf c))) → Within b x → Within c y
+    → Within (mul f (sizeOf b) (sizeOf c)) (mul f x y)
 unfolding mul
 mul-sizes f nan c x y t h k = absurd h
 mul-sizes f (inf s) c x y t h k = absurd h
@@ -133,10 +146,12 @@ mul-sizes f (fin s n d) (inf v) (fin u m e) y t h k = absurd k
 mul-sizes f (fin s n d) (fin v p r) (fin u m e) nan t h k = absurd k
 mul-sizes f (fin s n d) (fin v p r) (fin u m e) (inf w) t h k = absurd k
 mul-sizes f (fin s n d) (fin v p r) (fin u m e) (fin w l g) t h k =
-    round-within f (unlike u w) (m * up e * (l * up g)) (down e * down g) (n * up d * (p * up r)) (down d * down r) (mul-pos (down-pos e) (down-pos g)) (mul-pos (down-pos d) (down-pos r))
+    round-within f (unlike u w) (m * up e * (l * up g)) (down e * down g) (n * up d * (p * up r)) (down d * down r)
+    (mul-pos (down-pos e) (down-pos g)) (mul-pos (down-pos d) (down-pos r))
     (frac-mul (m * up e) (down e) (l * up g) (down g) (n * up d) (down d) (p * up r) (down r) h k) t
 
-pub mul-within : (f : Format) (b c g x y : Float) → T (within g (mul f (sizeOf b) (sizeOf c))) → Within b x → Within c y → Within g (mul f x y)
+pub mul-within : (f : Format) (b c g x y : Float) → T (within g (mul f (sizeOf b) (sizeOf c))) → Within b x → Within c y
+    → Within g (mul f x y)
 mul-within f b c g x y t h k =
     let w = test→within g (mul f (sizeOf b) (sizeOf c)) t in
     within-trans g (mul f (sizeOf b) (sizeOf c)) (mul f x y) w (mul-sizes f b c x y (within-finite g (mul f (sizeOf b) (sizeOf c)) w) h k)
@@ -146,7 +161,9 @@ pub ofInt-within : (f : Format) (g : Float) (n : ℕ) (z : ℤ) → T (within g 
 unfolding ofInt
 ofInt-within f g n (pos k) t h =
     let w = test→within g (round f false n 1) t in
-    within-trans g (round f false n 1) (round f false k 1) w (round-within f false k 1 n 1 (zero-lt-suc 0) (zero-lt-suc 0) (mul-le-mul-right 1 h) (within-finite g (round f false n 1) w))
+    within-trans g (round f false n 1) (round f false k 1) w
+    (round-within f false k 1 n 1 (zero-lt-suc 0) (zero-lt-suc 0) (mul-le-mul-right 1 h) (within-finite g (round f false n 1) w))
 ofInt-within f g n (negsuc k) t h =
     let w = test→within g (round f false n 1) t in
-    within-trans g (round f false n 1) (round f true (suc k) 1) w (round-within f true (suc k) 1 n 1 (zero-lt-suc 0) (zero-lt-suc 0) (mul-le-mul-right 1 h) (within-finite g (round f false n 1) w))
+    within-trans g (round f false n 1) (round f true (suc k) 1) w
+    (round-within f true (suc k) 1 n 1 (zero-lt-suc 0) (zero-lt-suc 0) (mul-le-mul-right 1 h) (within-finite g (round f false n 1) w))

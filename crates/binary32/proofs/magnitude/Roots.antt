@@ -2,7 +2,8 @@
 use mathlib.Core.Path.{_≡_, refl, sym, ap, _∙_, subst}
 use mathlib.Core.Logic.{_⊎_, inl, inr}
 use Prim.Native.Nat.{ℕ, zero, suc, _+_, _*_, _^_, _≤_, _<_}
-use native.Mathlib.Nat.{le-refl, le-trans, le-of-eq, le-of-lt, eq-or-lt-of-le, mul-comm, mul-assoc, mul-left-comm, mul-one, one-mul, zero-mul, mul-pos, mul-le-mul-right, zero-lt-suc}
+use native.Mathlib.Nat.{le-refl, le-trans, le-of-eq, le-of-lt, eq-or-lt-of-le, mul-comm, mul-assoc, mul-left-comm, mul-one, one-mul}
+use native.Mathlib.Nat.{zero-mul, mul-pos, mul-le-mul-right, zero-lt-suc}
 use native.Mathlib.Omega.{arith}
 use mathlib.Core.Bool.{Bool, true, false}
 use lib.IntN.{ℤ, pos, negsuc}
@@ -26,7 +27,8 @@ squares a c g h l = le-trans (mul-le-mul-right (h * h) (mul-le-mul-right c l)) (
 least : (z : ℕ) → 0 ≤ z
 least z = omega arith
 
-pub root-within : (f : Format) (n k : ℕ) (x : Float) → Held f n (pos k) → NonNeg x → Within (fin false (n * 2 ^ k * (n * 2 ^ k)) (pos 0)) x → Within (fin false n (pos k)) (root f x)
+pub root-within : (f : Format) (n k : ℕ) (x : Float) → Held f n (pos k) → NonNeg x → Within (fin false (n * 2 ^ k * (n * 2 ^ k)) (pos 0)) x
+    → Within (fin false n (pos k)) (root f x)
 unfolding root rootOf
 root-within f n k nan p h w = absurd h
 root-within f n k (inf s) p h w = absurd h
@@ -42,8 +44,10 @@ root-within f n k (fin false (suc m) e) p h w =
     let r = 2 ^ suc (low f) in
     let l : a ≤ g * g * c = le-trans (le-of-eq (sym (mul-one a))) (le-trans w (le-of-eq (ap (λ (z : ℕ). z * c) (mul-one (g * g))))) in
     let u : halves (a * c * (r * r)) * 1 ≤ g * (2 * (c * r)) =
-    le-trans (le-of-eq (mul-one (halves (a * c * (r * r))))) (le-trans (halves-le (a * c * (r * r)) (g * (c * r)) (squares a c g r l)) (le-of-eq (mul-left-comm 2 g (c * r)))) in
-    round-held f false (halves (a * c * (r * r))) (2 * (c * r)) false n (pos k) p (mul-pos (zero-lt-suc 1) (mul-pos (down-pos e) (pow-pos (suc (low f))))) u
+    le-trans (le-of-eq (mul-one (halves (a * c * (r * r)))))
+    (le-trans (halves-le (a * c * (r * r)) (g * (c * r)) (squares a c g r l)) (le-of-eq (mul-left-comm 2 g (c * r)))) in
+    round-held f false (halves (a * c * (r * r))) (2 * (c * r)) false n (pos k) p
+    (mul-pos (zero-lt-suc 1) (mul-pos (down-pos e) (pow-pos (suc (low f))))) u
 
 pub root-nonneg : (f : Format) (x : Float) → NonNeg x → T (finite (root f x)) → NonNeg (root f x)
 unfolding root rootOf
@@ -55,4 +59,5 @@ root-nonneg f (fin true (suc m) e) h t = absurd t
 root-nonneg f (fin false (suc m) e) h t =
     let c = down e in
     let r = 2 ^ suc (low f) in
-    round-nonneg f false (halves (suc m * up e * c * (r * r))) (2 * (c * r)) (mul-pos (zero-lt-suc 1) (mul-pos (down-pos e) (pow-pos (suc (low f))))) (λ p. absurd p) t
+    round-nonneg f false (halves (suc m * up e * c * (r * r))) (2 * (c * r))
+    (mul-pos (zero-lt-suc 1) (mul-pos (down-pos e) (pow-pos (suc (low f))))) (λ p. absurd p) t

@@ -2,7 +2,8 @@
 -- Assumes nothing.
 use mathlib.Core.Path.{_≡_, refl, sym, ap, _∙_, subst}
 use Prim.Native.Nat.{ℕ, zero, suc, _+_, _-_, _*_, _^_, _≤_, _<_}
-use native.Mathlib.Nat.{le-refl, le-trans, le-of-eq, lt-irrefl, mul-comm, mul-one, one-mul, zero-mul, mul-assoc, mul-pos, mul-le-mul-right, zero-lt-suc}
+use native.Mathlib.Nat.{le-refl, le-trans, le-of-eq, lt-irrefl, mul-comm, mul-one, one-mul, zero-mul, mul-assoc, mul-pos, mul-le-mul-right}
+use native.Mathlib.Nat.{zero-lt-suc}
 use native.Mathlib.Omega.{arith}
 use mathlib.Core.Bool.{Bool, true, false, not, _&&_, _||_, cond}
 use lib.IntN.{ℤ, pos, negsuc}
@@ -31,7 +32,8 @@ units-no-nan f s q k = go (ltb (q * 2 ^ k) (overflow f))
     go false = tt
 
 pub round-no-nan : (f : Format) (s : Bool) (a c : ℕ) → T (not (isNan (round f s a c)))
-round-no-nan f s a c = subst (λ (z : Float). T (not (isNan z))) (sym (round-is f s a c)) (units-no-nan f s (kept (prec f) (a * 2 ^ low f) c) (drop (prec f) (a * 2 ^ low f) c))
+round-no-nan f s a c = subst (λ (z : Float). T (not (isNan z))) (sym (round-is f s a c))
+    (units-no-nan f s (kept (prec f) (a * 2 ^ low f) c) (drop (prec f) (a * 2 ^ low f) c))
 
 -- ---- div
 pub not-zero : (n : ℕ) → 0 < n → n ≡ 0 → ⊥
@@ -40,7 +42,8 @@ not-zero n h e = omega arith
 lt-num : (n : ℕ) (t : Bool) (d : ℤ) → T (lt plusZero (fin t n d)) → 0 < n
 unfolding lt
 lt-num n true d h = absurd h
-lt-num n false d h = first-pos n (up d) (first-pos (n * up d) 1 (le-trans (step (0 * 1 * down d)) (ltb→lt (0 * 1 * down d) (n * up d * 1) h)))
+lt-num n false d h =
+    first-pos n (up d) (first-pos (n * up d) 1 (le-trans (step (0 * 1 * down d)) (ltb→lt (0 * 1 * down d) (n * up d * 1) h)))
   where
     step : (z : ℕ) → 1 ≤ suc z
     step z = omega arith
@@ -53,7 +56,8 @@ div-no-nan f (fin s m e) nan p q h = absurd q
 div-no-nan f (fin s m e) (inf t) p q h = absurd q
 div-no-nan f (fin s m e) (fin t n d) p q h = go (eqb n 0) (eqb→eq n 0)
   where
-    go : (b : Bool) → (T b → n ≡ 0) → T (not (isNan (cond b (cond (eqb m 0) nan (inf (unlike s t))) (round f (unlike s t) (m * up e * down d) (n * up d * down e)))))
+    go : (b : Bool) → (T b → n ≡ 0)
+        → T (not (isNan (cond b (cond (eqb m 0) nan (inf (unlike s t))) (round f (unlike s t) (m * up e * down d) (n * up d * down e)))))
     go true g = absurd (not-zero n (lt-num n t d h) (g tt))
     go false g = round-no-nan f (unlike s t) (m * up e * down d) (n * up d * down e)
 
@@ -94,7 +98,8 @@ clamp-div f x y p q h = clamp-share (div f x y) (div-no-nan f x y p q h)
 
 -- ---- a share of a value that the format holds lies between 0 and that value
 pub at-most : (t td x xd : ℕ) → t ≤ td → t * x * xd ≤ x * (td * xd)
-at-most t td x xd h = le-trans (mul-le-mul-right xd (mul-le-mul-right x h)) (le-of-eq (ap (λ (z : ℕ). z * xd) (mul-comm td x) ∙ mul-assoc x td xd))
+at-most t td x xd h =
+    le-trans (mul-le-mul-right xd (mul-le-mul-right x h)) (le-of-eq (ap (λ (z : ℕ). z * xd) (mul-comm td x) ∙ mul-assoc x td xd))
 
 part-of : (s : Bool) (m : ℕ) (e : ℤ) → Share (fin s m e) → m * up e ≤ down e
 part-of false m e h = h
@@ -110,7 +115,8 @@ share-within f (inf u) x s p h = absurd s
 share-within f (fin u m e) nan s p h = absurd h
 share-within f (fin u m e) (inf v) s p h = absurd h
 share-within f (fin u m e) (fin v n d) s p h =
-    round-held f (unlike u v) (m * up e * (n * up d)) (down e * down d) v n d (held f v n d p) (mul-pos (down-pos e) (down-pos d)) (at-most (m * up e) (down e) (n * up d) (down d) (part-of u m e s))
+    round-held f (unlike u v) (m * up e * (n * up d)) (down e * down d) v n d (held f v n d p) (mul-pos (down-pos e) (down-pos d))
+    (at-most (m * up e) (down e) (n * up d) (down d) (part-of u m e s))
 
 pub share-nonneg : (t : Float) → Share t → NonNeg t
 share-nonneg nan h = absurd h

@@ -1,9 +1,11 @@
--- binary32 in whole units of its smallest value, 2 ^ -149: what a sum of two values is in units, and how far the rounding of a number of units can move it.
--- Assumes nothing.
+-- binary32 in whole units of its smallest value, 2 ^ -149: what a sum of two values is in units, and how far the rounding of a number of
+-- units can move it. Assumes nothing.
 use mathlib.Core.Path.{_≡_, refl, sym, ap, ap₂, _∙_, subst}
 use mathlib.Core.Logic.{_⊎_, inl, inr}
 use Prim.Native.Nat.{ℕ, zero, suc, _+_, _-_, _*_, _/_, _%_, _^_, _≤_, _<_, compare, Ordering, Ordering·lt, Ordering·eq, Ordering·gt}
-use native.Mathlib.Nat.{le-refl, le-trans, le-of-eq, le-of-lt, lt-of-lt-of-le, lt-of-le-of-lt, eq-or-lt-of-le, mul-comm, mul-assoc, mul-left-comm, mul-right-comm, mul-one, one-mul, add-mul, mul-pos, mul-le-mul-right, mul-lt-mul-of-pos-right, lt-of-mul-lt-mul-right, le-of-mul-le-mul-right, mul-div-cancel, div-add-mod', pow-succ', mul-sub}
+use native.Mathlib.Nat.{le-refl, le-trans, le-of-eq, le-of-lt, lt-of-lt-of-le, lt-of-le-of-lt, eq-or-lt-of-le, mul-comm, mul-assoc}
+use native.Mathlib.Nat.{mul-left-comm, mul-right-comm, mul-one, one-mul, add-mul, mul-pos, mul-le-mul-right, mul-lt-mul-of-pos-right}
+use native.Mathlib.Nat.{lt-of-mul-lt-mul-right, le-of-mul-le-mul-right, mul-div-cancel, div-add-mod', pow-succ', mul-sub}
 use native.Mathlib.Omega.{arith}
 use mathlib.Core.Bool.{Bool, true, false, not, _&&_, Bool·beq, cond}
 use lib.IntN.{ℤ, pos, negsuc}
@@ -33,7 +35,8 @@ near z u = go (compare (z % u * 2) u) (nleb→lt (z % u * 2) u) (eqb→eq (z % u
   where
     go : (o : Ordering) → (T (not (isLe o)) → u < z % u * 2) → (T (isEq o) → z % u * 2 ≡ u) → 2 * (nearest (z / u) o * u) ≤ 2 * z + u
     go Ordering·lt h e = stay (z / u) (z % u) u z (div-add-mod' z u)
-    go Ordering·eq h e = up-to (z / u + z / u % 2) (suc (z / u)) u (2 * z + u) (nearest-le (z / u) Ordering·eq) (step-up (z / u) (z % u) u z (div-add-mod' z u) (le-of-eq (sym (e tt))))
+    go Ordering·eq h e = up-to (z / u + z / u % 2) (suc (z / u)) u (2 * z + u) (nearest-le (z / u) Ordering·eq)
+        (step-up (z / u) (z % u) u z (div-add-mod' z u) (le-of-eq (sym (e tt))))
     go Ordering·gt h e = step-up (z / u) (z % u) u z (div-add-mod' z u) (le-of-lt (h tt))
 
 -- ---- a number of units, rounded
@@ -54,7 +57,8 @@ few : (s j : ℕ) → s ≤ 25 + j → s - 24 ≤ suc j
 few s j h = omega arith
 
 places-le : (z j : ℕ) → z < 2 ^ (25 + j) → places z ≤ suc j
-places-le z j h = few (size (z * 2 ^ 149 / 2 ^ 149)) j (size-le (z * 2 ^ 149 / 2 ^ 149) (25 + j) (subst (λ (x : ℕ). x < 2 ^ (25 + j)) (sym (mul-div-cancel z (pow-pos 149))) h))
+places-le z j h = few (size (z * 2 ^ 149 / 2 ^ 149)) j
+    (size-le (z * 2 ^ 149 / 2 ^ 149) (25 + j) (subst (λ (x : ℕ). x < 2 ^ (25 + j)) (sym (mul-div-cancel z (pow-pos 149))) h))
 
 halve : (a z u p : ℕ) → 2 * a ≤ 2 * z + u → u ≤ 2 * p → a ≤ z + p
 halve a z u p h k = omega arith
@@ -62,7 +66,8 @@ halve a z u p h k = omega arith
 fl-near-lt : (z j : ℕ) → z < 2 ^ (25 + j) → fl z ≤ z + 2 ^ j
 fl-near-lt z j h =
     let d = places z in
-    halve (fl z) z (2 ^ d) (2 ^ j) (subst (λ (x : ℕ). 2 * x ≤ 2 * z + 2 ^ d) (sym (fl-is z)) (near z (2 ^ d))) (le-trans (pow-mono (places-le z j h)) (le-of-eq (pow-succ' 2 j)))
+    halve (fl z) z (2 ^ d) (2 ^ j) (subst (λ (x : ℕ). 2 * x ≤ 2 * z + 2 ^ d) (sym (fl-is z)) (near z (2 ^ d)))
+    (le-trans (pow-mono (places-le z j h)) (le-of-eq (pow-succ' 2 j)))
 
 -- 2 ^ 24 at the place t, and one unit of that place more: both round to 2 ^ 24 at that place
 whole-at : (t : ℕ) → fl (2 ^ 24 * 2 ^ t) ≡ 2 ^ 24 * 2 ^ t
@@ -83,7 +88,8 @@ top-is j = ap (λ (x : ℕ). 2 ^ x) (shift j) ∙ pow-add 2 24 (suc j)
 pub fl-near : (z j : ℕ) → z ≤ 2 ^ (25 + j) → fl z ≤ z + 2 ^ j
 fl-near z j h =
     elim (eq-or-lt-of-le h) [
-      | inl e ↦ subst (λ (x : ℕ). fl x ≤ x + 2 ^ j) (sym (e ∙ top-is j)) (le-trans (le-of-eq (whole-at (suc j))) (native.Mathlib.Nat.le-add-right (2 ^ 24 * 2 ^ suc j) (2 ^ j)))
+      | inl e ↦ subst (λ (x : ℕ). fl x ≤ x + 2 ^ j) (sym (e ∙ top-is j))
+          (le-trans (le-of-eq (whole-at (suc j))) (native.Mathlib.Nat.le-add-right (2 ^ 24 * 2 ^ suc j) (2 ^ j)))
       | inr l ↦ fl-near-lt z j l
     ]
 
@@ -95,7 +101,8 @@ tie-is : (j : ℕ) → 2 ^ (24 + j) + 2 ^ j ≡ (2 ^ 24 + 1) * 2 ^ j
 tie-is j = ap₂ _+_ (pow-add 2 24 j) (sym (one-mul (2 ^ j))) ∙ sym (add-mul (2 ^ 24) 1 (2 ^ j))
 
 -- what exceeds 2 ^ (24 + j) units by 2 ^ j at most, half the distance to the next value, rounds back to it
-pub fl-back : (z j : ℕ) → z ≤ 2 ^ (24 + j) + 2 ^ j → T (finite (round binary32 false (2 ^ (24 + j) + 2 ^ j) (2 ^ 149))) → (fl z ≤ 2 ^ (24 + j)) × (fl z < overflow binary32)
+pub fl-back : (z j : ℕ) → z ≤ 2 ^ (24 + j) + 2 ^ j → T (finite (round binary32 false (2 ^ (24 + j) + 2 ^ j) (2 ^ 149)))
+    → (fl z ≤ 2 ^ (24 + j)) × (fl z < overflow binary32)
 fl-back z j h t =
     let m = fl-mono z (2 ^ (24 + j) + 2 ^ j) h t in
     (le-trans (m .0) (le-of-eq (ap (λ (x : ℕ). fl x) (tie-is j) ∙ tie-at j ∙ sym (pow-add 2 24 j))), m .1)
@@ -109,7 +116,8 @@ by-tests false true f g = absurd (g tt)
 by-tests false false f g = refl
 
 scaled-lt : (a b c a' b' c' : ℕ) → 0 < c → a * c' ≡ a' * c → b * c' ≡ b' * c → a' < b' → a < b
-scaled-lt a b c a' b' c' C p q h = lt-of-mul-lt-mul-right c' (lt-of-le-of-lt (le-of-eq p) (lt-of-lt-of-le (mul-lt-mul-of-pos-right h C) (le-of-eq (sym q))))
+scaled-lt a b c a' b' c' C p q h =
+    lt-of-mul-lt-mul-right c' (lt-of-le-of-lt (le-of-eq p) (lt-of-lt-of-le (mul-lt-mul-of-pos-right h C) (le-of-eq (sym q))))
 
 same-test : (a b c a' b' c' : ℕ) → 0 < c → 0 < c' → a * c' ≡ a' * c → b * c' ≡ b' * c → ltb a b ≡ ltb a' b'
 same-test a b c a' b' c' C C' p q =
@@ -119,19 +127,24 @@ same-test a b c a' b' c' C C' p q =
 
 less-scaled : (a b c a' b' c' : ℕ) → a * c' ≡ a' * c → b * c' ≡ b' * c → (a - b) * c' ≡ (a' - b') * c
 less-scaled a b c a' b' c' p q =
-    mul-comm (a - b) c' ∙ mul-sub c' a b ∙ ap₂ _-_ (mul-comm c' a ∙ p ∙ mul-comm a' c) (mul-comm c' b ∙ q ∙ mul-comm b' c) ∙ sym (mul-sub c a' b') ∙ mul-comm c (a' - b')
+    mul-comm (a - b) c' ∙ mul-sub c' a b ∙ ap₂ _-_ (mul-comm c' a ∙ p ∙ mul-comm a' c) (mul-comm c' b ∙ q ∙ mul-comm b' c)
+    ∙ sym (mul-sub c a' b') ∙ mul-comm c (a' - b')
 
-sum-same : (f : Format) (s : Bool) (a : ℕ) (t : Bool) (b c a' b' c' : ℕ) → 0 < c → 0 < c' → a * c' ≡ a' * c → b * c' ≡ b' * c → sum f s a t b c ≡ sum f s a' t b' c'
+sum-same : (f : Format) (s : Bool) (a : ℕ) (t : Bool) (b c a' b' c' : ℕ) → 0 < c → 0 < c' → a * c' ≡ a' * c → b * c' ≡ b' * c
+    → sum f s a t b c ≡ sum f s a' t b' c'
 unfolding sum
 sum-same f s a t b c a' b' c' C C' p q =
-    let x : round f s (a + b) c ≡ round f s (a' + b') c' = round-same f s (a + b) c (a' + b') c' C C' (add-mul a b c' ∙ ap₂ _+_ p q ∙ sym (add-mul a' b' c)) in
+    let x : round f s (a + b) c ≡ round f s (a' + b') c' =
+    round-same f s (a + b) c (a' + b') c' C C' (add-mul a b c' ∙ ap₂ _+_ p q ∙ sym (add-mul a' b' c)) in
     let y : round f t (b - a) c ≡ round f t (b' - a') c' = round-same f t (b - a) c (b' - a') c' C C' (less-scaled b a c b' a' c' q p) in
     let z : round f (s && ltb b a) (a - b) c ≡ round f (s && ltb b' a') (a' - b') c' =
-    ap (λ (v : Bool). round f (s && v) (a - b) c) (same-test b a c b' a' c' C C' q p) ∙ round-same f (s && ltb b' a') (a - b) c (a' - b') c' C C' (less-scaled a b c a' b' c' p q) in
+    ap (λ (v : Bool). round f (s && v) (a - b) c) (same-test b a c b' a' c' C C' q p)
+    ∙ round-same f (s && ltb b' a') (a - b) c (a' - b') c' C C' (less-scaled a b c a' b' c' p q) in
     let u : ltb a b ≡ ltb a' b' = same-test a b c a' b' c' C C' p q in
     λ i. cond (Bool·beq s t) (x i) (cond (u i) (y i) (z i))
 
-pub add-units : (f : Format) (x y : Float) (s t : Bool) (a b c : ℕ) → 0 < c → HasValue x s a c → HasValue y t b c → add f x y ≡ sum f s a t b c
+pub add-units : (f : Format) (x y : Float) (s t : Bool) (a b c : ℕ) → 0 < c → HasValue x s a c → HasValue y t b c
+    → add f x y ≡ sum f s a t b c
 unfolding add
 add-units f nan y s t a b c C h k = absurd h
 add-units f (inf u) y s t a b c C h k = absurd h
@@ -140,5 +153,6 @@ add-units f (fin u m e) (inf v) s t a b c C h k = absurd k
 add-units f (fin u m e) (fin v n d) s t a b c C h k =
     sum-same f u (m * up e * down d) v (n * up d * down e) (down e * down d) a b c (mul-pos (down-pos e) (down-pos d)) C
     (mul-right-comm (m * up e) (down d) c ∙ ap (λ (z : ℕ). z * down d) (h .1) ∙ mul-assoc a (down e) (down d))
-    (mul-right-comm (n * up d) (down e) c ∙ ap (λ (z : ℕ). z * down e) (k .1) ∙ mul-assoc b (down d) (down e) ∙ ap (λ (z : ℕ). b * z) (mul-comm (down d) (down e)))
+    (mul-right-comm (n * up d) (down e) c ∙ ap (λ (z : ℕ). z * down e) (k .1) ∙ mul-assoc b (down d) (down e)
+    ∙ ap (λ (z : ℕ). b * z) (mul-comm (down d) (down e)))
     ∙ ap₂ (λ (p q : Bool). sum f p a q b c) (h .0) (k .0)

@@ -13,7 +13,8 @@ use Rattle.binary32.proofs.normalized.Tie as tie
 no-nan : (b : ℕ) → b < 9218868437227405312 → T (not (nanBits binary64 b))
 no-nan b h =
     subst (λ (x : Bool). T (not x)) (sym (nanBits-above binary64 b))
-    (not-T (ltb 9218868437227405312 (b % 9223372036854775808)) (λ (u : T (ltb 9218868437227405312 (b % 9223372036854775808))). no (ltb→lt 9218868437227405312 (b % 9223372036854775808) u)))
+    (not-T (ltb 9218868437227405312 (b % 9223372036854775808))
+    (λ (u : T (ltb 9218868437227405312 (b % 9223372036854775808))). no (ltb→lt 9218868437227405312 (b % 9223372036854775808) u)))
   where
     no : 9218868437227405312 < b % 9223372036854775808 → ⊥
     no u = omega arith

@@ -1,4 +1,5 @@
--- `binary32::of_bits` meets its contract, at a subnormal value and at a normal one. There the digits are shifted by 24 places where the exponent's field is even, and by 23 where it is odd. Assumes nothing.
+-- `binary32::of_bits` meets its contract, at a subnormal value and at a normal one. There the digits are shifted by 24 places where the
+-- exponent's field is even, and by 23 where it is odd. Assumes nothing.
 use mathlib.Core.Path.{_≡_, refl, sym, ap, _∙_, subst}
 use Prim.Native.Nat.{ℕ, zero, suc, _+_, _-_, _*_, _/_, _%_, _^_, _≤_, _<_}
 use native.Mathlib.Nat.{add-comm, mul-pos, zero-lt-suc, lt-of-lt-of-le, le-add-left}
@@ -22,7 +23,8 @@ beyond : (x : ℕ) → suc (suc x) < 2 → ⊥
 beyond x h = omega arith
 
 -- a normal value, with its digits shifted by k places
-normal : (b k j : ℕ) (r : Float) → b < 2139095040 → 0 < b / 8388608 → k + (j + j) ≡ b / 8388608 + 148 → Assembled ((b % 8388608 + 8388608) * 2 ^ k) j r → r ≡ root binary32 (ofBits binary32 b)
+normal : (b k j : ℕ) (r : Float) → b < 2139095040 → 0 < b / 8388608 → k + (j + j) ≡ b / 8388608 + 148
+    → Assembled ((b % 8388608 + 8388608) * 2 ^ k) j r → r ≡ root binary32 (ofBits binary32 b)
 normal b k j r h e d f =
     let x = b / 8388608 - 1 in
     let w = b % 8388608 + 8388608 in

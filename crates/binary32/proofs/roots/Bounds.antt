@@ -1,5 +1,5 @@
--- A bound on roots as bounds on what stands under them: with the root of `lo` at most `most`, all that is at most `lo` has a root that is; with the root of `hi`
--- above `most`, all that is at least `hi` has a root that is not at most `most`. Assumes nothing.
+-- A bound on roots as bounds on what stands under them: with the root of `lo` at most `most`, all that is at most `lo` has a root that is;
+-- with the root of `hi` above `most`, all that is at least `hi` has a root that is not at most `most`. Assumes nothing.
 use mathlib.Core.Path.{_≡_, refl, sym, ap, _∙_, subst}
 use mathlib.Core.Logic.{_⊎_, inl, inr}
 use Prim.Native.Nat.{ℕ, zero, suc, _+_, _-_, _*_, _/_, _^_, _≤_, _<_}
@@ -52,7 +52,8 @@ units-real f q k = go (ltb (q * 2 ^ k) (2 ^ (low f + suc (emax f))))
     go false = tt
 
 round-real : (f : Format) (a c : ℕ) → T (real (round f false a c))
-round-real f a c = subst (λ (z : Float). T (real z)) (sym (round-is f false a c)) (units-real f (closest (a * 2 ^ low f) (c * 2 ^ (size (a * 2 ^ low f / c) - prec f))) (size (a * 2 ^ low f / c) - prec f))
+round-real f a c = subst (λ (z : Float). T (real z)) (sym (round-is f false a c))
+    (units-real f (closest (a * 2 ^ low f) (c * 2 ^ (size (a * 2 ^ low f / c) - prec f))) (size (a * 2 ^ low f / c) - prec f))
 
 pub root-real : (f : Format) (x : Float) → T (clear x) → T (real x) → T (real (root f x))
 unfolding root rootOf
@@ -61,7 +62,8 @@ root-real f (inf true) c r = absurd c
 root-real f (inf false) c r = tt
 root-real f (fin true m e) c r = absurd c
 root-real f (fin false zero e) c r = tt
-root-real f (fin false (suc m) e) c r = let h = 2 ^ suc (low f) in round-real f (halves (suc m * up e * down e * (h * h))) (2 * (down e * h))
+root-real f (fin false (suc m) e) c r = let h = 2 ^ suc (low f) in
+    round-real f (halves (suc m * up e * down e * (h * h))) (2 * (down e * h))
 
 -- ---- of two numbers one is at most the other
 or-false : (a b : Bool) → (a || b) ≡ false → (a ≡ false) × (b ≡ false)
@@ -125,14 +127,16 @@ pub by-cases : {A : Type 0} (b : Bool) → (b ≡ true → A) → (b ≡ false �
 by-cases true f g = f refl
 by-cases false f g = g refl
 
-pub root-accept : (f : Format) (x lo most : Float) → T (fits f x) → T (fits f lo) → T (clear x) → le x lo ≡ true → le (root f lo) most ≡ true → le (root f x) most ≡ true
+pub root-accept : (f : Format) (x lo most : Float) → T (fits f x) → T (fits f lo) → T (clear x) → le x lo ≡ true
+    → le (root f lo) most ≡ true → le (root f x) most ≡ true
 root-accept f x lo most p q c h k =
     by-cases (le (root f x) most) (λ e. e) (λ e.
     let g = not-most (root f x) most (root-real f x c (real-left x lo h)) (real-right (root f lo) most k) e in
     let l = root-less f lo x q p (le-lt (root f lo) most (root f x) k g) in
     absurd (true≢false (sym (le-lt x lo x h l) ∙ lt-irrefl x)))
 
-pub root-reject : (f : Format) (x hi most : Float) → T (fits f x) → T (fits f hi) → le hi x ≡ true → lt most (root f hi) ≡ true → le (root f x) most ≡ false
+pub root-reject : (f : Format) (x hi most : Float) → T (fits f x) → T (fits f hi) → le hi x ≡ true → lt most (root f hi) ≡ true
+    → le (root f x) most ≡ false
 root-reject f x hi most p q h k =
     by-cases (le (root f x) most) (λ e.
     let l = root-less f x hi p q (le-lt (root f x) most (root f hi) e k) in

@@ -1,15 +1,20 @@
--- The root keeps the order: where the root of x is less than that of y, x is less than y. So of two squares only the lesser can have the lesser root, and
--- a search for the least root need not take any. For every two values that the format holds, zeros, infinities and NaNs included. Assumes nothing.
+-- The root keeps the order: where the root of x is less than that of y, x is less than y. So of two squares only the lesser can have the
+-- lesser root, and a search for the least root need not take any. For every two values that the format holds, zeros, infinities and NaNs
+-- included. Assumes nothing.
 use mathlib.Core.Path.{_≡_, refl, sym, ap, _∙_, subst}
 use mathlib.Core.Logic.{_⊎_, inl, inr}
 use Prim.Native.Nat.{ℕ, zero, suc, _+_, _-_, _*_, _/_, _%_, _^_, _≤_, _<_}
-use native.Mathlib.Nat.{le-refl, le-trans, le-of-eq, le-of-lt, lt-of-lt-of-le, lt-of-le-of-lt, lt-irrefl, not-le-of-lt, lt-of-not-le, le-of-suc-le-suc, eq-or-lt-of-le, eq-zero-or-pos, mul-one, one-mul, zero-mul, mul-comm, mul-assoc, mul-left-comm, mul-right-comm, mul-pos, mul-le-mul-right, mul-lt-mul-of-pos-right, lt-of-mul-lt-mul-right, le-of-mul-le-mul-right, eq-of-mul-eq-mul-right, mul-div-cancel, zero-lt-suc}
+use native.Mathlib.Nat.{le-refl, le-trans, le-of-eq, le-of-lt, lt-of-lt-of-le, lt-of-le-of-lt, lt-irrefl, not-le-of-lt, lt-of-not-le}
+use native.Mathlib.Nat.{le-of-suc-le-suc, eq-or-lt-of-le, eq-zero-or-pos, mul-one, one-mul, zero-mul, mul-comm, mul-assoc, mul-left-comm}
+use native.Mathlib.Nat.{mul-right-comm, mul-pos, mul-le-mul-right, mul-lt-mul-of-pos-right, lt-of-mul-lt-mul-right, le-of-mul-le-mul-right}
+use native.Mathlib.Nat.{eq-of-mul-eq-mul-right, mul-div-cancel, zero-lt-suc}
 use native.Mathlib.Omega.{arith}
 use mathlib.Core.Bool.{Bool, true, false, not, _&&_, _||_, cond, false≢true}
 use lib.IntN.{ℤ, pos, negsuc}
 use lib.Dec.{T, leb, ltb, eqb, leb→le, ltb→lt, lt→ltb, nltb→le, lit<}
 use lib.Pow.{pow-add, pow-pos, pow-lt}
-use lib.Ieee.{Float, nan, inf, fin, Format, binary32, binary64, prec, emax, low, up, down, size, odd, round, sum, add, mul, lt, le, fits, toBits, ofBits, hid}
+use lib.Ieee.{Float, nan, inf, fin, Format, binary32, binary64, prec, emax, low, up, down, size, odd, round, sum, add, mul, lt, le, fits}
+use lib.Ieee.{toBits, ofBits, hid}
 use lib.Ieee.Fits.{up-pos, down-pos, and-l, and-r, round-is}
 use lib.Ieee.Nearest.{closest}
 use lib.Ieee.Bits.{ofBits-toBits}
@@ -62,24 +67,29 @@ units f (fin false (suc m) e) t p =
     at : (e : ℤ) → suc m < 2 ^ prec f → down e ≤ 2 ^ low f → suc m * up e < 2 ^ suc (emax f) * down e → Units f (fin false (suc m) e)
     at (pos k) few g u =
         let v : suc m * 2 ^ k * 2 ^ low f ≡ suc m * 2 ^ (k + low f) * 1 =
-        mul-assoc (suc m) (2 ^ k) (2 ^ low f) ∙ ap (λ (z : ℕ). suc m * z) (sym (pow-add 2 k (low f))) ∙ sym (mul-one (suc m * 2 ^ (k + low f))) in
+        mul-assoc (suc m) (2 ^ k) (2 ^ low f) ∙ ap (λ (z : ℕ). suc m * z) (sym (pow-add 2 k (low f)))
+        ∙ sym (mul-one (suc m * 2 ^ (k + low f))) in
         record {
           m = suc m;
           i = k + low f;
           few = few;
           value = (refl, v);
-          under = lt-of-lt-of-le (below-overflow (suc m * 2 ^ k) 1 (2 ^ low f) (2 ^ suc (emax f)) (suc m * 2 ^ (k + low f)) (pow-pos (low f)) v u) (le-of-eq (sym (pow-add 2 (low f) (suc (emax f)))));
+          under = lt-of-lt-of-le (below-overflow (suc m * 2 ^ k) 1 (2 ^ low f) (2 ^ suc (emax f)) (suc m * 2 ^ (k + low f))
+              (pow-pos (low f)) v u) (le-of-eq (sym (pow-add 2 (low f) (suc (emax f)))));
         }
     at (negsuc k) few g u =
         let j = low f - suc k in
         let v : suc m * 1 * 2 ^ low f ≡ suc m * 2 ^ j * 2 ^ suc k =
-        ap (λ (z : ℕ). z * 2 ^ low f) (mul-one (suc m)) ∙ ap (λ (z : ℕ). suc m * 2 ^ z) (sym (rest (suc k) (low f) (exponent (suc k) (low f) g))) ∙ ap (λ (z : ℕ). suc m * z) (pow-add 2 j (suc k)) ∙ sym (mul-assoc (suc m) (2 ^ j) (2 ^ suc k)) in
+        ap (λ (z : ℕ). z * 2 ^ low f) (mul-one (suc m))
+        ∙ ap (λ (z : ℕ). suc m * 2 ^ z) (sym (rest (suc k) (low f) (exponent (suc k) (low f) g)))
+        ∙ ap (λ (z : ℕ). suc m * z) (pow-add 2 j (suc k)) ∙ sym (mul-assoc (suc m) (2 ^ j) (2 ^ suc k)) in
         record {
           m = suc m;
           i = j;
           few = few;
           value = (refl, v);
-          under = lt-of-lt-of-le (below-overflow (suc m * 1) (2 ^ suc k) (2 ^ low f) (2 ^ suc (emax f)) (suc m * 2 ^ j) (pow-pos (low f)) v u) (le-of-eq (sym (pow-add 2 (low f) (suc (emax f)))));
+          under = lt-of-lt-of-le (below-overflow (suc m * 1) (2 ^ suc k) (2 ^ low f) (2 ^ suc (emax f)) (suc m * 2 ^ j)
+              (pow-pos (low f)) v u) (le-of-eq (sym (pow-add 2 (low f) (suc (emax f)))));
         }
 
 -- ---- the same for a result, of which some number of units is known
@@ -113,8 +123,10 @@ ordered f X Y R S p q r s h = le-of-suc-le-suc (lt-of-not-le no)
     no : suc S ≤ R → ⊥
     no g =
         let l = 2 ^ low f in
-        let a : (R + S) * (R + S) ≤ 4 * (X * l) = subst (λ (z : ℕ). z < R → (R + z) * (R + z) ≤ 4 * (X * l)) (s .is) (p .below (s .m) (s .i) (s .few)) g in
-        let b : 4 * (Y * l) ≤ (S + R) * (S + R) = subst (λ (z : ℕ). S < z → 4 * (Y * l) ≤ (S + z) * (S + z)) (r .is) (q .above (r .m) (r .i) (r .few)) g in
+        let a : (R + S) * (R + S) ≤ 4 * (X * l) =
+        subst (λ (z : ℕ). z < R → (R + z) * (R + z) ≤ 4 * (X * l)) (s .is) (p .below (s .m) (s .i) (s .few)) g in
+        let b : 4 * (Y * l) ≤ (S + R) * (S + R) =
+        subst (λ (z : ℕ). S < z → 4 * (Y * l) ≤ (S + z) * (S + z)) (r .is) (q .above (r .m) (r .i) (r .few)) g in
         let c : (S + R) * (S + R) ≡ (R + S) * (R + S) = ap (λ (z : ℕ). z * z) (native.Mathlib.Nat.add-comm S R) in
         squeeze X Y l ((R + S) * (R + S)) (pow-pos (low f)) (le-trans b (le-of-eq c)) a h
 
@@ -151,9 +163,11 @@ bits f (fin false m e) X v =
     let n : m * up e * 2 ^ low f / down e ≡ X = ap (λ (z : ℕ). z / down e) (v .1) ∙ mul-div-cancel X (down-pos e) in
     ap (λ (z : ℕ). 0 + (size z - prec f) * hid f + z / 2 ^ (size z - prec f)) n
 
-pub same-value : (f : Format) (x y : Float) (X Y : ℕ) → T (fits f x) → T (fits f y) → HasValue x false X (2 ^ low f) → HasValue y false Y (2 ^ low f) → X ≡ Y → x ≡ y
+pub same-value : (f : Format) (x y : Float) (X Y : ℕ) → T (fits f x) → T (fits f y) → HasValue x false X (2 ^ low f)
+    → HasValue y false Y (2 ^ low f) → X ≡ Y → x ≡ y
 same-value f x y X Y p q u w e =
-    sym (ofBits-toBits f x p) ∙ ap (λ (b : ℕ). ofBits f b) (bits f x X u ∙ ap (λ (z : ℕ). pattern f z) e ∙ sym (bits f y Y w)) ∙ ofBits-toBits f y q
+    sym (ofBits-toBits f x p) ∙ ap (λ (b : ℕ). ofBits f b) (bits f x X u ∙ ap (λ (z : ℕ). pattern f z) e ∙ sym (bits f y Y w))
+    ∙ ofBits-toBits f y q
 
 -- ---- the law, for every two values that the format holds
 yes : {b : Bool} → T b → b ≡ true
@@ -171,10 +185,12 @@ crosses : (a c b d X Y l : ℕ) → 0 < c → 0 < d → a * l ≡ X * c → b * 
 crosses a c b d X Y l C D e g h =
     let s : X * (c * d) < Y * (c * d) = mul-lt-mul-of-pos-right h (mul-pos C D) in
     let t : a * d * l ≡ X * (c * d) = mul-right-comm a d l ∙ ap (λ (z : ℕ). z * d) e ∙ mul-assoc X c d in
-    let v : b * c * l ≡ Y * (c * d) = mul-right-comm b c l ∙ ap (λ (z : ℕ). z * c) g ∙ mul-assoc Y d c ∙ ap (λ (z : ℕ). Y * z) (mul-comm d c) in
+    let v : b * c * l ≡ Y * (c * d) =
+    mul-right-comm b c l ∙ ap (λ (z : ℕ). z * c) g ∙ mul-assoc Y d c ∙ ap (λ (z : ℕ). Y * z) (mul-comm d c) in
     lt-of-mul-lt-mul-right l (lt-of-le-of-lt (le-of-eq t) (lt-of-lt-of-le s (le-of-eq (sym v))))
 
-above : (f : Format) (x y : Float) → T (fits f x) → T (fits f y) → T (positive x) → T (positive y) → lt (root f x) (root f y) ≡ true → num x * den y < num y * den x
+above : (f : Format) (x y : Float) → T (fits f x) → T (fits f y) → T (positive x) → T (positive y) → lt (root f x) (root f y) ≡ true
+    → num x * den y < num y * den x
 above f x y p q P Q k =
     let u = units f x p P in
     let w = units f y q Q in
@@ -204,7 +220,8 @@ from-zero f nan t d R v k = absurd v
 from-zero f (inf s) t d R v k = absurd v
 from-zero f (fin true m e) t d R v k = absurd (false≢true (sym (v .0)))
 from-zero f (fin false m e) true d R v k = absurd (false≢true k)
-from-zero f (fin false m e) false d R v k = nothing (m * up e * down d) (down e) (subst (λ (z : ℕ). ltb (m * up e * down d) (z * down e) ≡ true) (zero-mul (up d)) k)
+from-zero f (fin false m e) false d R v k =
+    nothing (m * up e * down d) (down e) (subst (λ (z : ℕ). ltb (m * up e * down d) (z * down e) ≡ true) (zero-mul (up d)) k)
 
 -- the root of a value above zero is no less than a zero
 not-under-zero : (f : Format) (x : Float) (t : Bool) (d : ℤ) → T (fits f x) → T (positive x) → lt (root f x) (fin t zero d) ≡ true → ⊥
@@ -216,12 +233,14 @@ not-under-zero f x t d p P k =
 
 zero-less : (s : Bool) (e : ℤ) (n : ℕ) (d : ℤ) → lt (fin s zero e) (fin false (suc n) d) ≡ true
 unfolding lt
-zero-less true e n d = yes (lt→ltb 0 (0 * up e * down d + suc n * up d * down e) (more (0 * up e * down d) (suc n * up d * down e) (mul-pos (mul-pos (zero-lt-suc n) (up-pos d)) (down-pos e))))
+zero-less true e n d = yes (lt→ltb 0 (0 * up e * down d + suc n * up d * down e)
+    (more (0 * up e * down d) (suc n * up d * down e) (mul-pos (mul-pos (zero-lt-suc n) (up-pos d)) (down-pos e))))
   where
     more : (a b : ℕ) → 0 < b → 0 < a + b
     more a b h = omega arith
 zero-less false e n d =
-    yes (lt→ltb (0 * up e * down d) (suc n * up d * down e) (lt-of-le-of-lt (le-of-eq (ap (λ (z : ℕ). z * down d) (zero-mul (up e)) ∙ zero-mul (down d))) (mul-pos (mul-pos (zero-lt-suc n) (up-pos d)) (down-pos e))))
+    yes (lt→ltb (0 * up e * down d) (suc n * up d * down e) (lt-of-le-of-lt (le-of-eq
+    (ap (λ (z : ℕ). z * down d) (zero-mul (up e)) ∙ zero-mul (down d))) (mul-pos (mul-pos (zero-lt-suc n) (up-pos d)) (down-pos e))))
 
 -- Where the root of x is less than that of y, x is less than y.
 pub root-less : (f : Format) (x y : Float) → T (fits f x) → T (fits f y) → lt (root f x) (root f y) ≡ true → lt x y ≡ true
@@ -249,10 +268,12 @@ root-less f (fin s zero e) (fin false (suc n) d) p q k = zero-less s e n d
 root-less f (fin false (suc m) e) nan p q k = absurd (no-nan (rootOf f (suc m * up e) (down e)) k)
 root-less f (fin false (suc m) e) (inf true) p q k = absurd (no-nan (rootOf f (suc m * up e) (down e)) k)
 root-less f (fin false (suc m) e) (inf false) p q k = refl
-root-less f (fin false (suc m) e) (fin t zero d) p q k = absurd (not-under-zero f (fin false (suc m) e) t d p (lt→ltb 0 (suc m) (zero-lt-suc m)) k)
+root-less f (fin false (suc m) e) (fin t zero d) p q k =
+    absurd (not-under-zero f (fin false (suc m) e) t d p (lt→ltb 0 (suc m) (zero-lt-suc m)) k)
 root-less f (fin false (suc m) e) (fin true (suc n) d) p q k = absurd (no-nan (rootOf f (suc m * up e) (down e)) k)
 root-less f (fin false (suc m) e) (fin false (suc n) d) p q k =
-    yes (lt→ltb (suc m * up e * down d) (suc n * up d * down e) (above f (fin false (suc m) e) (fin false (suc n) d) p q (lt→ltb 0 (suc m) (zero-lt-suc m)) (lt→ltb 0 (suc n) (zero-lt-suc n)) k))
+    yes (lt→ltb (suc m * up e * down d) (suc n * up d * down e)
+    (above f (fin false (suc m) e) (fin false (suc n) d) p q (lt→ltb 0 (suc m) (zero-lt-suc m)) (lt→ltb 0 (suc n) (zero-lt-suc n)) k))
 
 -- two values of R and S units
 less-of-values : (x y : Float) (R S l : ℕ) → 0 < l → HasValue x false R l → HasValue y false S l → R < S → lt x y ≡ true
@@ -264,7 +285,8 @@ less-of-values (fin false m e) nan R S l L u w h = absurd w
 less-of-values (fin false m e) (inf t) R S l L u w h = absurd w
 less-of-values (fin false m e) (fin true n d) R S l L u w h = absurd (false≢true (sym (w .0)))
 less-of-values (fin false m e) (fin false n d) R S l L u w h =
-    yes (lt→ltb (m * up e * down d) (n * up d * down e) (crosses (m * up e) (down e) (n * up d) (down d) R S l (down-pos e) (down-pos d) (u .1) (w .1) h))
+    yes (lt→ltb (m * up e * down d) (n * up d * down e)
+    (crosses (m * up e) (down e) (n * up d) (down d) R S l (down-pos e) (down-pos d) (u .1) (w .1) h))
 
 -- the root of y units is some units: there is a value, one unit, that lies nearer than none
 some : (f : Format) (Y : ℕ) → 0 < Y → NoneNearer f Y 0 → ⊥
@@ -283,7 +305,8 @@ clear nan = true
 clear (inf s) = not s
 clear (fin s m e) = not s
 
-apart : (f : Format) (x y : Float) → T (fits f x) → T (fits f y) → T (positive x) → T (positive y) → num x * den y < num y * den x → lt (root f x) (root f y) ≡ false → root f x ≡ root f y
+apart : (f : Format) (x y : Float) → T (fits f x) → T (fits f y) → T (positive x) → T (positive y) → num x * den y < num y * den x
+    → lt (root f x) (root f y) ≡ false → root f x ≡ root f y
 apart f x y p q P Q h k =
     let u = units f x p P in
     let w = units f y q Q in
@@ -297,7 +320,8 @@ apart f x y p q P Q h k =
     let o : r .0 ≤ s .0 =
     ordered f X Y (r .0) (s .0) (root-nearest f x X (r .0) A (u .value) (r .1)) (root-nearest f y Y (s .0) B (w .value) (s .1))
     (digits f (root f x) (r .0) (root-fits f x P) (r .1)) (digits f (root f y) (s .0) (root-fits f y Q) (s .1))
-    (crossed-back (num x) (den x) (num y) (den y) X Y l (den-pos x) (den-pos y) (pow-pos (low f)) (value→cross x X l (u .value)) (value→cross y Y l (w .value)) h) in
+    (crossed-back (num x) (den x) (num y) (den y) X Y l (den-pos x) (den-pos y) (pow-pos (low f)) (value→cross x X l (u .value))
+    (value→cross y Y l (w .value)) h) in
     elim (eq-or-lt-of-le o) [
       | inl e ↦ same-value f (root f x) (root f y) (r .0) (s .0) (root-fits f x P) (root-fits f y Q) (r .1) (s .1) e
       | inr g ↦ absurd (false≢true (sym k ∙ less-of-values (root f x) (root f y) (r .0) (s .0) l (pow-pos (low f)) (r .1) (s .1) g))
@@ -307,7 +331,8 @@ apart f x y p q P Q h k =
     crossed-back a c b d X Y l C D L e g h =
         let s : a * d * l < b * c * l = mul-lt-mul-of-pos-right h L in
         let t : a * d * l ≡ X * (c * d) = mul-right-comm a d l ∙ ap (λ (z : ℕ). z * d) e ∙ mul-assoc X c d in
-        let v : b * c * l ≡ Y * (c * d) = mul-right-comm b c l ∙ ap (λ (z : ℕ). z * c) g ∙ mul-assoc Y d c ∙ ap (λ (z : ℕ). Y * z) (mul-comm d c) in
+        let v : b * c * l ≡ Y * (c * d) =
+        mul-right-comm b c l ∙ ap (λ (z : ℕ). z * c) g ∙ mul-assoc Y d c ∙ ap (λ (z : ℕ). Y * z) (mul-comm d c) in
         lt-of-mul-lt-mul-right (c * d) (lt-of-le-of-lt (le-of-eq (sym t)) (lt-of-lt-of-le s (le-of-eq v)))
 
 -- a root of a value above zero is above zero, and below an infinity
@@ -321,7 +346,8 @@ root-some f y e q Q =
     let n = root-nearest f y Y (s .0) B (w .value) (s .1) in
     elim (eq-zero-or-pos (s .0)) [
       | inl z ↦ absurd (some f Y B (subst (λ (k : ℕ). NoneNearer f Y k) z n))
-      | inr g ↦ less-of-values (fin false zero e) (root f y) 0 (s .0) l (pow-pos (low f)) (refl, ap (λ (k : ℕ). k * l) (zero-mul (up e)) ∙ zero-mul l ∙ sym (zero-mul (down e))) (s .1) g
+      | inr g ↦ less-of-values (fin false zero e) (root f y) 0 (s .0) l (pow-pos (low f))
+          (refl, ap (λ (k : ℕ). k * l) (zero-mul (up e)) ∙ zero-mul l ∙ sym (zero-mul (down e))) (s .1) g
     ]
 
 under-inf : (z : Float) (R l : ℕ) → HasValue z false R l → lt z (inf false) ≡ true
@@ -340,7 +366,8 @@ root-under-inf f x p P =
 not-under-nought : (a : ℕ) (d e : ℤ) → ltb a (0 * up d * down e) ≡ true → ⊥
 not-under-nought a d e k = nothing a (down e) (subst (λ (z : ℕ). ltb a (z * down e) ≡ true) (zero-mul (up d)) k)
 
-pub root-tie : (f : Format) (x y : Float) → T (fits f x) → T (fits f y) → T (clear x) → lt x y ≡ true → lt (root f x) (root f y) ≡ false → root f x ≡ root f y
+pub root-tie : (f : Format) (x y : Float) → T (fits f x) → T (fits f y) → T (clear x) → lt x y ≡ true → lt (root f x) (root f y) ≡ false
+    → root f x ≡ root f y
 unfolding root lt
 root-tie f nan y p q c h k = absurd (false≢true h)
 root-tie f (inf true) y p q c h k = absurd c
@@ -380,7 +407,8 @@ units-clear f q k = go (ltb (q * 2 ^ k) (2 ^ (low f + suc (emax f))))
     go false = tt
 
 round-clear : (f : Format) (a c : ℕ) → T (clear (round f false a c))
-round-clear f a c = subst (λ (z : Float). T (clear z)) (sym (round-is f false a c)) (units-clear f (closest (a * 2 ^ low f) (c * 2 ^ (size (a * 2 ^ low f / c) - prec f))) (size (a * 2 ^ low f / c) - prec f))
+round-clear f a c = subst (λ (z : Float). T (clear z)) (sym (round-is f false a c))
+    (units-clear f (closest (a * 2 ^ low f) (c * 2 ^ (size (a * 2 ^ low f / c) - prec f))) (size (a * 2 ^ low f / c) - prec f))
 
 pub square-clear : (f : Format) (x : Float) → T (clear (mul f x x))
 unfolding mul

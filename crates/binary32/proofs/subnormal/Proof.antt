@@ -1,4 +1,5 @@
--- `binary32::subnormal` meets its contract. The invariant: n * 4 ^ j stays m * 2 ^ 149, and n is a multiple of 2 ^ 25 below 2 ^ 48. The measure is j. Assumes nothing.
+-- `binary32::subnormal` meets its contract. The invariant: n * 4 ^ j stays m * 2 ^ 149, and n is a multiple of 2 ^ 25 below 2 ^ 48. The
+-- measure is j. Assumes nothing.
 use mathlib.Core.Path.{_≡_, sym, ap, _∙_}
 use Prim.Native.Nat.{ℕ, _+_, _-_, _*_, _%_, _^_, _≤_, _<_}
 use native.Mathlib.Nat.{mul-assoc, mul-one}
@@ -62,7 +63,8 @@ returns c =
     let s = c .before .before .before .before in
     let l = c .before .before .before .loop in
     let m = s .args .m in
-    root-at (ofBits binary32 m) (m * 1) (l .n) (l .j) (c .assembled .result) (low-value m (s .pre .1)) (omega arith) (ap (λ (x : ℕ). x * 2 ^ 149) (mul-one m) ∙ sym (l .inv .3)) (c .assembled .ensures)
+    root-at (ofBits binary32 m) (m * 1) (l .n) (l .j) (c .assembled .result) (low-value m (s .pre .1)) (omega arith)
+    (ap (λ (x : ℕ). x * 2 ^ 149) (mul-one m) ∙ sym (l .inv .3)) (c .assembled .ensures)
 
 pub subnormal-spec : {M : Type 1} → statement M
 subnormal-spec =

@@ -1,4 +1,5 @@
--- `binary32::whole_root` meets its contract. The invariant: the root lies from lo up to hi, and hi is at most 2 ^ 24. The measure is the width of that range. Assumes nothing.
+-- `binary32::whole_root` meets its contract. The invariant: the root lies from lo up to hi, and hi is at most 2 ^ 24. The measure is the
+-- width of that range. Assumes nothing.
 use Prim.Native.Nat.{ℕ, _+_, _-_, _*_, _/_, _^_, _≤_, _<_}
 use native.Mathlib.Nat.{mul-le-mul}
 use native.Mathlib.Omega.{arith}

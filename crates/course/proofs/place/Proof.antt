@@ -22,7 +22,8 @@ returns-2 : tie.Need-returns-2
 returns-2 c =
     let test = c .before .before in
     let s = test .before .before .before .args in
-    places-unplaced (s .f) (fixes (s .lats .now) (s .lons .now)) (s .line .now) (omega (arith, test .before .count .ensures, test .if1 .left))
+    places-unplaced (s .f) (fixes (s .lats .now) (s .lons .now)) (s .line .now)
+    (omega (arith, test .before .count .ensures, test .if1 .left))
     (sym (c .before .no-origin .ensures) ∙ c .if2 .taken)
 
 place-all-requires : tie.Need-place-all-requires

@@ -41,11 +41,13 @@ pub held-none : {S B : Type 0} {held : Option S} {h : S} → held ≡ some h →
 held-none e f = let z : _≡_ {A = ℕ} 0 1 = cc in absurd (omega arith)
 
 -- ---- values
-module _ {S R A W : Type 0} {held : Option S} {unread : ℕ} {promise : S → R → Type 0} {says : R → Answer A} {write : A → W → W} {was : W} where
+module _ {S R A W : Type 0} {held : Option S} {unread : ℕ} {promise : S → R → Type 0} {says : R → Answer A} {write : A → W → W}
+    {was : W} where
   pub not-held : {number : ℕ} → held ≡ none → number ≡ unread → Answers held unread promise says write number was was
   not-held e told = record { nothing = λ _. (told, refl); asked = λ h f. held-none f e }
 
-  pub handed : {h : S} {number : ℕ} {is : W} → held ≡ some h → (r : R) → promise h r → number ≡ numberOf (says r) → is ≡ valuesOf write (says r) was
+  pub handed : {h : S} {number : ℕ} {is : W} → held ≡ some h → (r : R) → promise h r → number ≡ numberOf (says r)
+      → is ≡ valuesOf write (says r) was
       → Answers held unread promise says write number was is
   handed e r p told written =
       record {
@@ -80,7 +82,8 @@ in-front b part (suc k) count n front same empty counted =
     empty ne ∙ sym (ap (λ (m : ℕ). inFront m b) (none-left part empty counted ne))
 
 module _ {S : Type 0} {held : Option S} {unread : ℕ} {promise : S → ℕ → List Float → Type 0} {b : List Float} where
-  pub no-part : {number told count : ℕ} → held ≡ none → told ≡ unread → (number ≡ told) × (count ≡ 0) → Parts held unread promise b number count
+  pub no-part : {number told count : ℕ} → held ≡ none → told ≡ unread → (number ≡ told) × (count ≡ 0)
+      → Parts held unread promise b number count
   no-part e is empty = record { nothing = λ _. (empty .0 ∙ is, empty .1); asked = λ h f. held-none f e }
 
   pub part-returned : {h : S} {number count : ℕ} → held ≡ some h → (part : List Float) → promise h number part → (n : ℕ)

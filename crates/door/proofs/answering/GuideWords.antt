@@ -50,7 +50,8 @@ module _ (w : List ℕ) where
   too-short short = simp (lt-leb guideSize (length w) short)
 
   pub tested : guideSize ≤ length w
-      → ((leb (wordAt w 0) 3 && (((leb (wordAt w 1) 1 && leb (wordAt w 2) 1) && leb (wordAt w 3) 1) && leb (wordAt w 8) 1)) && (leb (wordAt w 7) most16 && leb (wordAt w 9) most16))
+      → ((leb (wordAt w 0) 3 && (((leb (wordAt w 1) 1 && leb (wordAt w 2) 1) && leb (wordAt w 3) 1) && leb (wordAt w 8) 1))
+      && (leb (wordAt w 7) most16 && leb (wordAt w 9) most16))
       ≡ areGuide w
   unfolding areGuide
   tested long = simp (le-leb guideSize (length w) long)
@@ -123,7 +124,8 @@ are-words : (g : Guide) → leb (g .bearing) most16 ≡ true → leb (headingIn 
     → areGuide (guideWords g ++ ws) ≡ true
 unfolding areGuide
 are-words g bearing way ws =
-    let long : leb guideSize (length (guideWords g ++ ws)) ≡ true = le-leb guideSize (length (guideWords g ++ ws)) (long-enough (length ws)) in
+    let long : leb guideSize (length (guideWords g ++ ws)) ≡ true =
+    le-leb guideSize (length (guideWords g ++ ws)) (long-enough (length ws)) in
     simp (long, mode-most, flag-most, known-most, bearing, way)
 
 pub guide-read-back : GuideReadBack

@@ -40,7 +40,8 @@ first-asked : (b : Bool) → unless b 1 ≡ (unless b 1 orElse 0)
 first-asked true = refl
 first-asked false = refl
 
-module _ {b : List Float} {w : List ℕ} {n : List Float} {made : Changed} {number : ℕ} {fits : Bool} (new : MakesNew b made) (is : fits ≡ roomFor w n) where
+module _ {b : List Float} {w : List ℕ} {n : List Float} {made : Changed} {number : ℕ} {fits : Bool} (new : MakesNew b made)
+    (is : fits ≡ roomFor w n) where
   pub no-room : not fits ≡ true → number ≡ noStateWith (length b) → New b w n number w n
   no-room e asked =
       record {
@@ -50,7 +51,8 @@ module _ {b : List Float} {w : List ℕ} {n : List Float} {made : Changed} {numb
         leaves = record { taken = λ z. absurd (refuses (question1 (length b)) (sym asked ∙ z)); refused = λ _. (refl, refl) };
       }
 
-  pub with-room : {w′ : List ℕ} {n′ : List Float} → not fits ≡ false → number ≡ numberOf (saysReply (made .answer)) → Leaves number (made .homing) w n w′ n′ → New b w n number w′ n′
+  pub with-room : {w′ : List ℕ} {n′ : List Float} → not fits ≡ false → number ≡ numberOf (saysReply (made .answer))
+      → Leaves number (made .homing) w n w′ n′ → New b w n number w′ n′
   with-room e asked leaves =
       record {
         asked = asked
@@ -63,17 +65,20 @@ module _ {b : List Float} {w : List ℕ} {n : List Float} {made : Changed} {numb
         leaves = leaves;
       }
 
-pub room-found : (w : List ℕ) (n : List Float) {fits : Bool} → fits ≡ roomFor w n → not fits ≡ false → (wordCount ≤ length w) × (numberCount ≤ length n)
+pub room-found : (w : List ℕ) (n : List Float) {fits : Bool} → fits ≡ roomFor w n → not fits ≡ false
+    → (wordCount ≤ length w) × (numberCount ≤ length n)
 room-found w n is e =
     let two = and-eq-true-iff (leb wordCount (length w)) (leb numberCount (length n)) .0 (sym is ∙ was-true e) in
     (leb-true wordCount (length w) (two .0), leb-true numberCount (length n) (two .1))
 
 -- ---- a fix handed on by its bits is the same
 module _ (lat lon : ℤ) (a : mag lat < 2 ^ 31) (b : mag lon < 2 ^ 31) {now : ℕ} {entry exit : List Float} where
-  pub replayed : {h : Homing} {r : Changed} → Replays (fixAt (handed lat) (handed lon)) now h entry r exit → Replays (fixAt lat lon) now h entry r exit
+  pub replayed : {h : Homing} {r : Changed} → Replays (fixAt (handed lat) (handed lon)) now h entry r exit
+      → Replays (fixAt lat lon) now h entry r exit
   replayed {h = h} {r = r} = subst (λ (x : Fix). Replays x now h entry r exit) (handed-fix lat lon a b)
 
-  pub observed : {line : List Float} {event event′ : ℕ} {w w′ : List ℕ} {n n′ : List Float} {number : ℕ} → Observe line (place.At (handed lat) (handed lon)) now entry event exit event′ w n number w′ n′
+  pub observed : {line : List Float} {event event′ : ℕ} {w w′ : List ℕ} {n n′ : List Float} {number : ℕ}
+      → Observe line (place.At (handed lat) (handed lon)) now entry event exit event′ w n number w′ n′
       → Observe line (place.At lat lon) now entry event exit event′ w n number w′ n′
   observed {line} {event} {event′} {w} {w′} {n} {n′} {number} =
       subst (λ (x : Fix). Observe line (place.At (x .lat) (x .lon)) now entry event exit event′ w n number w′ n′) (handed-fix lat lon a b)

@@ -37,7 +37,8 @@ new-refused recovered v short =
       leaves = record { taken = λ e. absurd (omega (arith, e)); refused = λ _. refl };
     }
 
-pub new-stored : {r : Rebuild} {v v′ : List ℕ} (recovered : ℕ) → rebuildCount ≤ length v → r ≡ newRebuild recovered → StoresRebuild r v v′ → RebuildNew recovered v 0 v′
+pub new-stored : {r : Rebuild} {v v′ : List ℕ} (recovered : ℕ) → rebuildCount ≤ length v → r ≡ newRebuild recovered → StoresRebuild r v v′
+    → RebuildNew recovered v 0 v′
 new-stored {v = v} {v′ = v′} recovered long made s =
     record {
       asked = simp (le-leb rebuildCount (length v) long);

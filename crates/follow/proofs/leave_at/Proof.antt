@@ -18,7 +18,8 @@ enum-told : tie.Need-enum-told
 enum-told c = search needs
 
 returns : tie.Need-returns
-returns c = let s = c .before .before .before in left-nowhere (s .args .h) (s .args .matched) (s .args .segment) (now (s .args .crumbs)) (c .enum-told .given .1) (s .pre .0)
+returns c = let s = c .before .before .before in
+    left-nowhere (s .args .h) (s .args .matched) (s .args .segment) (now (s .args .crumbs)) (c .enum-told .given .1) (s .pre .0)
 
 keep-requires : tie.Need-keep-requires
 keep-requires c κs = search needs
@@ -28,7 +29,11 @@ same-length c = search needs
 
 returns-2 : tie.Need-returns-2
 unfolding track
-returns-2 c = let m = c .before .before .before .before .before .before in let s = m .before .before .before in let g = s .args in let k = c .before .before .keep in subst (λ (x : Spot). Follows (λ C. leaveAt C x (g .segment)) (g .h) (now (g .crumbs)) (k .result) (k .last .1 .0)) (sym (m .matched .given .1)) (left-at (g .h) _ (k .result) (m .matched .given .0 .0) (g .segment) (now (g .crumbs)) (k .last .1 .0) (cut-state (g .h) (g .segment) (now (g .crumbs)) (s .pre .1)) (s .pre .1) (k .ensures))
+returns-2 c = let m = c .before .before .before .before .before .before in
+    let s = m .before .before .before in let g = s .args in let k = c .before .before .keep in
+    subst (λ (x : Spot). Follows (λ C. leaveAt C x (g .segment)) (g .h) (now (g .crumbs)) (k .result) (k .last .1 .0))
+    (sym (m .matched .given .1)) (left-at (g .h) _ (k .result) (m .matched .given .0 .0) (g .segment) (now (g .crumbs)) (k .last .1 .0)
+    (cut-state (g .h) (g .segment) (now (g .crumbs)) (s .pre .1)) (s .pre .1) (k .ensures))
 
 pub leave-at-spec : {M : Type 1} → statement M
 leave-at-spec =

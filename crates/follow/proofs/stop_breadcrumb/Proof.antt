@@ -21,7 +21,10 @@ same-length c = search needs
 
 returns : tie.Need-returns
 unfolding forgotten track places
-returns c = let s = c .before .before .before .before .before .before .before .before .before in let g = s .args in let k = c .before .before .leave-at in stops-at (g .h) _ (k .result) (now (g .crumbs)) (k .last .1 .0) (ap (λ (x : Follow). withFollow x (withTrack (forgotten (track (g .h .trail) (g .h .window) (now (g .crumbs)))) (stateOf (g .h) (now (g .crumbs))))) (c .before .before .before .before .before .before .stopped .ensures)) refl (k .ensures)
+returns c = let s = c .before .before .before .before .before .before .before .before .before in let g = s .args in
+    let k = c .before .before .leave-at in stops-at (g .h) _ (k .result) (now (g .crumbs)) (k .last .1 .0) (ap (λ (x : Follow). withFollow x
+    (withTrack (forgotten (track (g .h .trail) (g .h .window) (now (g .crumbs)))) (stateOf (g .h) (now (g .crumbs)))))
+    (c .before .before .before .before .before .before .stopped .ensures)) refl (k .ensures)
 
 pub stop-breadcrumb-spec : {M : Type 1} → statement M
 stop-breadcrumb-spec = tie.close (tie.spec stopped-requires leave-at-requires same-length returns)

@@ -25,22 +25,31 @@ enum-told-3 : tie.Need-enum-told-3
 enum-told-3 c = search needs
 
 stop-breadcrumb-requires : tie.Need-stop-breadcrumb-requires
-stop-breadcrumb-requires c κs = (c .before .before .before .before .before .pre .0, c .before .before .before .before .before .pre .1 (c .before .enum-told3 .given .1))
+stop-breadcrumb-requires c κs =
+    (c .before .before .before .before .before .pre .0, c .before .before .before .before .before .pre .1 (c .before .enum-told3 .given .1))
 
 returns : tie.Need-returns
 unfolding stopOn
-returns c = let s = c .before .before .before .before .before in let g = s .args in stops-on (λ C t. done (tt {0}) (stopNothing t)) line.Nothing (g .h) (c .stop-nothing .result) (now (g .crumbs)) (now (g .crumbs)) (c .before .enum-told .given .1) (λ C t. refl) (unmoved stopNothing (g .h) (c .stop-nothing .result) (now (g .crumbs)) (s .pre .0) (c .stop-nothing .ensures))
+returns c = let s = c .before .before .before .before .before in let g = s .args in
+    stops-on (λ C t. done (tt {0}) (stopNothing t)) line.Nothing (g .h) (c .stop-nothing .result)
+    (now (g .crumbs)) (now (g .crumbs)) (c .before .enum-told .given .1) (λ C t. refl)
+    (unmoved stopNothing (g .h) (c .stop-nothing .result) (now (g .crumbs)) (s .pre .0) (c .stop-nothing .ensures))
 
 returns-2 : tie.Need-returns-2
 unfolding stopOn
-returns-2 c = let s = c .before .before .before .before .before in let g = s .args in stops-on (λ C t. done (tt {0}) (stopCourse t)) line.Course (g .h) (c .stop-course .result) (now (g .crumbs)) (now (g .crumbs)) (c .before .enum-told2 .given .1) (λ C t. refl) (unmoved stopCourse (g .h) (c .stop-course .result) (now (g .crumbs)) (s .pre .0) (c .stop-course .ensures))
+returns-2 c = let s = c .before .before .before .before .before in let g = s .args in
+    stops-on (λ C t. done (tt {0}) (stopCourse t)) line.Course (g .h) (c .stop-course .result)
+    (now (g .crumbs)) (now (g .crumbs)) (c .before .enum-told2 .given .1) (λ C t. refl)
+    (unmoved stopCourse (g .h) (c .stop-course .result) (now (g .crumbs)) (s .pre .0) (c .stop-course .ensures))
 
 same-length : tie.Need-same-length
 same-length c = search needs
 
 returns-3 : tie.Need-returns-3
 unfolding stopOn
-returns-3 c = let s = c .before .before .before .before .before .before .before .before in let g = s .args in let k = c .before .before .stop-breadcrumb in stops-on stopBreadcrumb line.Breadcrumb (g .h) (k .result) (now (g .crumbs)) (k .last .1 .0) (c .before .before .before .before .enum-told3 .given .1) (λ C t. refl) (k .ensures)
+returns-3 c = let s = c .before .before .before .before .before .before .before .before in let g = s .args in
+    let k = c .before .before .stop-breadcrumb in stops-on stopBreadcrumb line.Breadcrumb (g .h) (k .result) (now (g .crumbs))
+    (k .last .1 .0) (c .before .before .before .before .enum-told3 .given .1) (λ C t. refl) (k .ensures)
 
 pub stop-following-spec : {M : Type 1} → statement M
 stop-following-spec =

@@ -1,4 +1,5 @@
--- The nearest segment lies within 500 m where some segment does, unless the first one tried is a NaN away: then nothing is less, and it stays. Assumes nothing.
+-- The nearest segment lies within 500 m where some segment does, unless the first one tried is a NaN away: then nothing is less, and it
+-- stays. Assumes nothing.
 use Prim.Native.Nat.{ℕ, zero, suc, _-_, _*_, _≤_, _<_}
 use mathlib.Core.Path.{_≡_, refl, sym, ap, _∙_, subst}
 use mathlib.Core.Bool.{Bool, true, false, _&&_, _||_, cond, true≢false}
@@ -83,19 +84,23 @@ module _ (line : List Crumb) (p : Point) where
   unfolding falling
   one-on k best = let e : suc k - 1 ≡ k = omega arith in ap (λ (n : ℕ). shown (falling rule k n (rule (suc k) best))) e
 
-  considers : (k : ℕ) (old : Nearest) (cost : Float) → rule (suc k) (Least old cost) ≡ cond (lt (near (suc k) .off) cost) (Least (near (suc k)) (near (suc k) .off)) (Least old cost)
+  considers : (k : ℕ) (old : Nearest) (cost : Float)
+      → rule (suc k) (Least old cost) ≡ cond (lt (near (suc k) .off) cost) (Least (near (suc k)) (near (suc k) .off)) (Least old cost)
   unfolding considered costAnywhere plain cheaper
   considers k old cost = refl
 
   -- within 500 m, and it stays so
-  stays-near : (k : ℕ) (old : Nearest) (cost : Float) → old .off ≡ cost → le cost dropM ≡ true → shown (falling rule k k (Least old cost)) ≡ true
+  stays-near : (k : ℕ) (old : Nearest) (cost : Float) → old .off ≡ cost → le cost dropM ≡ true
+      → shown (falling rule k k (Least old cost)) ≡ true
   unfolding falling found closer foundAny
   stays-near zero old cost e h = let g : le (old .off) dropM ≡ true = rw e h in rw g
   stays-near (suc k) old cost e h =
       one-on k (Least old cost) ∙ ap (λ (b : SoFar). shown (falling rule k k b)) (considers k old cost)
       ∙ go (λ (c : Float) (n : Nearest). stays-near k n c) (lt (near (suc k) .off) cost) refl
     where
-      go : ((c : Float) (n : Nearest) → n .off ≡ c → le c dropM ≡ true → shown (falling rule k k (Least n c)) ≡ true) → (b : Bool) → lt (near (suc k) .off) cost ≡ b → shown (falling rule k k (cond b (Least (near (suc k)) (near (suc k) .off)) (Least old cost))) ≡ true
+      go : ((c : Float) (n : Nearest) → n .off ≡ c → le c dropM ≡ true → shown (falling rule k k (Least n c)) ≡ true)
+          → (b : Bool) → lt (near (suc k) .off) cost ≡ b
+          → shown (falling rule k k (cond b (Least (near (suc k)) (near (suc k) .off)) (Least old cost))) ≡ true
       go below true l = below (near (suc k) .off) (near (suc k)) refl (less-most (near (suc k) .off) cost dropM l h)
       go below false l = below cost old e h
 
@@ -104,19 +109,23 @@ module _ (line : List Crumb) (p : Point) where
   unfolding falling found closer foundAny le lt eq
   stays-lost zero old e = rw (e, closer)
   stays-lost (suc k) old e =
-      one-on k (Least old nan) ∙ ap (λ (b : SoFar). shown (falling rule k k b)) (considers k old nan ∙ ap (λ (b : Bool). cond b (Least (near (suc k)) (near (suc k) .off)) (Least old nan)) (under-nan (near (suc k) .off)))
+      one-on k (Least old nan) ∙ ap (λ (b : SoFar). shown (falling rule k k b)) (considers k old nan
+      ∙ ap (λ (b : Bool). cond b (Least (near (suc k)) (near (suc k) .off)) (Least old nan)) (under-nan (near (suc k) .off)))
       ∙ stays-lost k old e
 
   -- further off than 500 m: those below decide
-  still-far : (k : ℕ) (old : Nearest) (cost : Float) → old .off ≡ cost → T (real cost) → le cost dropM ≡ false → shown (falling rule k k (Least old cost)) ≡ someNear line p k
+  still-far : (k : ℕ) (old : Nearest) (cost : Float) → old .off ≡ cost → T (real cost) → le cost dropM ≡ false
+      → shown (falling rule k k (Least old cost)) ≡ someNear line p k
   unfolding falling found closer foundAny someNear liesNear
   still-far zero old cost e r h = let g : le (old .off) dropM ≡ false = rw e h in rw g
   still-far (suc k) old cost e r h =
       one-on k (Least old cost) ∙ ap (λ (b : SoFar). shown (falling rule k k b)) (considers k old cost)
       ∙ go (λ (c : Float) (n : Nearest). still-far k n c) (le (near (suc k) .off) dropM) (lt (near (suc k) .off) cost) refl refl
     where
-      go : ((c : Float) (n : Nearest) → n .off ≡ c → T (real c) → le c dropM ≡ false → shown (falling rule k k (Least n c)) ≡ someNear line p k) → (d b : Bool) → le (near (suc k) .off) dropM ≡ d → lt (near (suc k) .off) cost ≡ b
-          → shown (falling rule k k (cond b (Least (near (suc k)) (near (suc k) .off)) (Least old cost))) ≡ elim d [ true ↦ true | false ↦ someNear line p k ]
+      go : ((c : Float) (n : Nearest) → n .off ≡ c → T (real c) → le c dropM ≡ false → shown (falling rule k k (Least n c))
+          ≡ someNear line p k) → (d b : Bool) → le (near (suc k) .off) dropM ≡ d → lt (near (suc k) .off) cost ≡ b
+          → shown (falling rule k k (cond b (Least (near (suc k)) (near (suc k) .off)) (Least old cost)))
+          ≡ elim d [ true ↦ true | false ↦ someNear line p k ]
       go below true true n l = stays-near k (near (suc k)) (near (suc k) .off) refl n
       go below true false n l =
           let less = not-most cost dropM r (real-right (near (suc k) .off) dropM n) h in
@@ -137,14 +146,17 @@ module _ (line : List Crumb) (p : Point) where
       let e : near (suc k) .off ≡ nan = on-is line p (suc k) ∙ ap (root binary32) (no-number (squareOn line p (suc k)) h) in
       begins k ∙ ap (λ (c : Float). shown (falling rule k k (Least (near (suc k)) c))) e ∙ stays-lost k (near (suc k)) e
 
-  whole : (k : ℕ) → eq (squareOn line p (suc k)) (squareOn line p (suc k)) ≡ true → shown (falling rule (suc k) (suc k) Empty) ≡ someNear line p (suc k)
+  whole : (k : ℕ) → eq (squareOn line p (suc k)) (squareOn line p (suc k)) ≡ true
+      → shown (falling rule (suc k) (suc k) Empty) ≡ someNear line p (suc k)
   unfolding someNear liesNear
   whole k h = begins k ∙ go (le (near (suc k) .off) dropM) refl
     where
       r : T (real (near (suc k) .off))
-      r = subst (λ (z : Float). T (real z)) (sym (on-is line p (suc k))) (root-real binary32 (squareOn line p (suc k)) (on-not-below line p (suc k)) (number (squareOn line p (suc k)) h))
+      r = subst (λ (z : Float). T (real z)) (sym (on-is line p (suc k)))
+          (root-real binary32 (squareOn line p (suc k)) (on-not-below line p (suc k)) (number (squareOn line p (suc k)) h))
 
-      go : (d : Bool) → le (near (suc k) .off) dropM ≡ d → shown (falling rule k k (Least (near (suc k)) (near (suc k) .off))) ≡ elim d [ true ↦ true | false ↦ someNear line p k ]
+      go : (d : Bool) → le (near (suc k) .off) dropM ≡ d
+          → shown (falling rule k k (Least (near (suc k)) (near (suc k) .off))) ≡ elim d [ true ↦ true | false ↦ someNear line p k ]
       go true n = stays-near k (near (suc k)) (near (suc k) .off) refl n
       go false n = still-far k (near (suc k)) (near (suc k) .off) refl r n
 
@@ -167,12 +179,14 @@ module _ (line : List Crumb) (p : Point) where
         let g = S ∙ ap (squareOn line p) d in
         sym (any-is ∙ ap (λ (n : ℕ). shown (falling rule n n Empty)) e ∙ whole-lost (len - 2) (subst (λ (z : Float). eq z z ≡ false) g h))
 
-    pub near-some : {s : Float} {r : Bool} → 2 ≤ len → s ≡ squareOn line p (len - 1) → eq s s ≡ true → r ≡ someNear line p (len - 1) → r ≡ any
+    pub near-some : {s : Float} {r : Bool} → 2 ≤ len → s ≡ squareOn line p (len - 1) → eq s s ≡ true → r ≡ someNear line p (len - 1)
+        → r ≡ any
     near-some {s} {r} more S h R =
         let e : length line - 1 ≡ suc (len - 2) = omega arith in
         let d : len - 1 ≡ suc (len - 2) = omega arith in
         let g = S ∙ ap (squareOn line p) d in
-        R ∙ ap (someNear line p) d ∙ sym (any-is ∙ ap (λ (n : ℕ). shown (falling rule n n Empty)) e ∙ whole (len - 2) (subst (λ (z : Float). eq z z ≡ true) g h))
+        R ∙ ap (someNear line p) d
+        ∙ sym (any-is ∙ ap (λ (n : ℕ). shown (falling rule n n Empty)) e ∙ whole (len - 2) (subst (λ (z : Float). eq z z ≡ true) g h))
 
   -- ---- the loop
   module _ (end : ℕ) {b : Bool} (B : b ≡ liesNear line p end) (more : 0 < end) where
@@ -212,4 +226,5 @@ module _ (line : List Crumb) (p : Point) (end : ℕ) {s : Float} (S : s ≡ squa
   pub lies-not : lt s bar ≡ false → false ≡ liesNear line p end
   unfolding liesNear
   lies-not h =
-      sym (ap (λ (z : Float). le z dropM) (on-is line p end) ∙ far (squareOn line p end) bar dropM (on-fits line p end) (ofBits-fits binary32 0x4874_2401) above (subst (λ (z : Float). lt z bar ≡ false) S h))
+      sym (ap (λ (z : Float). le z dropM) (on-is line p end) ∙ far (squareOn line p end) bar dropM (on-fits line p end)
+      (ofBits-fits binary32 0x4874_2401) above (subst (λ (z : Float). lt z bar ≡ false) S h))

@@ -20,7 +20,8 @@ returns : tie.Need-returns
 unfolding asks
 returns c = λ b.
     let g = c .before .before .before .before .args in
-    or-this _ (c .before .asks-line .ensures b ∙ ap (λ (n : ℕ). asksLine (now (g .line)) n (stateOf (g .h) b)) (c .before .before .count .ensures)) (c .if1 .taken)
+    or-this _ (c .before .asks-line .ensures b
+    ∙ ap (λ (n : ℕ). asksLine (now (g .line)) n (stateOf (g .h) b)) (c .before .before .count .ensures)) (c .if1 .taken)
 
 asks-fixes-requires : tie.Need-asks-fixes-requires
 asks-fixes-requires c κs = search needs
@@ -29,7 +30,8 @@ returns-2 : tie.Need-returns-2
 unfolding asks
 returns-2 c = λ b.
     let g = c .before .before .before .before .before .args in
-    or-next (c .before .before .asks-line .ensures b ∙ ap (λ (n : ℕ). asksLine (now (g .line)) n (stateOf (g .h) b)) (c .before .before .before .count .ensures)) (c .before .if1 .left) (c .asks-fixes .ensures)
+    or-next (c .before .before .asks-line .ensures b ∙ ap (λ (n : ℕ). asksLine (now (g .line)) n (stateOf (g .h) b))
+    (c .before .before .before .count .ensures)) (c .before .if1 .left) (c .asks-fixes .ensures)
 
 pub asks-course-spec : {M : Type 1} → statement M
 asks-course-spec =

@@ -39,7 +39,8 @@ returns-2 c =
     let k = c .missing in
     record {
       answered = yes e (c .before .if1 .left) refl;
-      called = takes (call.Observe (now (g .line)) place.Missing (g .now-ms)) (g .h) (k .result) b b (sym e ∙ c .before .if1 .left) (k .ensures .same b) refl refl;
+      called = takes (call.Observe (now (g .line)) place.Missing (g .now-ms)) (g .h) (k .result) b b (sym e ∙ c .before .if1 .left)
+          (k .ensures .same b) refl refl;
     }
 
 pub missing-spec : {M : Type 1} → statement M

@@ -26,7 +26,8 @@ unfolding saysReply answer
 returns c =
     subst (λ (r : Changed). MakesNew (now (c .before .before .before .before .before .args .crumbs)) r) (sym (c .taken .ensures))
     (record {
-      answered = sym (ap (λ (b : Bool). answer (unless b 1) (tt {0})) (sym (c .before .before .question1 .ensures) ∙ c .before .if1 .taken));
+      answered =
+          sym (ap (λ (b : Bool). answer (unless b 1) (tt {0})) (sym (c .before .before .question1 .ensures) ∙ c .before .if1 .taken));
       fresh = c .before .before .before .new .ensures .same;
       window = c .before .before .before .new .ensures .window;
     })

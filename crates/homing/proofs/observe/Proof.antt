@@ -23,7 +23,8 @@ same-length c = search needs
 returns : tie.Need-returns
 returns c =
     let g = c .before .before .before .before .before .before .args in
-    subst (λ (x : Place). Observes (now (g .line)) x (g .now-ms) (g .h) (now (g .crumbs)) (c .missing .result) (now (g .crumbs))) (sym (c .before .before .enum-told .given .1)) (c .missing .ensures)
+    subst (λ (x : Place). Observes (now (g .line)) x (g .now-ms) (g .h) (now (g .crumbs)) (c .missing .result) (now (g .crumbs)))
+    (sym (c .before .before .enum-told .given .1)) (c .missing .ensures)
 
 seen-requires : tie.Need-seen-requires
 seen-requires c κs = search needs
@@ -37,7 +38,8 @@ returns-2 c =
     let u = c .before .before .seen in
     let known = c .before .before .before .before .known-told .given in
     let at = c .before .before .before .before .before .place .given in
-    subst (λ (x : Place). Observes (now (g .line)) x (g .now-ms) (g .h) (now (g .crumbs)) (u .result) (u .last .1 .0)) (same-at (at .0 .0) (at .0 .1 .0) (known .0 .1) (known .1 .0 .1) ∙ sym (at .1)) (u .ensures)
+    subst (λ (x : Place). Observes (now (g .line)) x (g .now-ms) (g .h) (now (g .crumbs)) (u .result) (u .last .1 .0))
+    (same-at (at .0 .0) (at .0 .1 .0) (known .0 .1) (known .1 .0 .1) ∙ sym (at .1)) (u .ensures)
 
 pub observe-spec : {M : Type 1} → statement M
 observe-spec =

@@ -36,7 +36,8 @@ returns c =
     let b = now (g .crumbs) in
     let x : Fix = record { lat = g .lat; lon = g .lon } in
     let e = c .before .before .asks-replay .ensures (g .at-ms)
-    ∙ ap (λ (y : Fix). asks (length b) (call.Replay y (g .at-ms)) (stateOf (g .h) b)) (handed-fix (g .lat) (g .lon) (s .fits .lat .sfits) (s .fits .lon .sfits)) in
+    ∙ ap (λ (y : Fix). asks (length b) (call.Replay y (g .at-ms)) (stateOf (g .h) b))
+    (handed-fix (g .lat) (g .lon) (s .fits .lat .sfits) (s .fits .lon .sfits)) in
     subst (λ (r : Changed). Replays x (g .at-ms) (g .h) b r b) (sym (c .refused .ensures))
     (record {
       answered = no e tt (c .before .if1 .taken);
@@ -63,14 +64,16 @@ returns-2 c =
     let b = now (g .crumbs) in
     let x : Fix = record { lat = g .lat; lon = g .lon } in
     let same = handed-fix (g .lat) (g .lon) (s .fits .lat .sfits) (s .fits .lon .sfits) in
-    let e = c .before .before .before .before .before .before .asks-replay .ensures (g .at-ms) ∙ ap (λ (y : Fix). asks (length b) (call.Replay y (g .at-ms)) (stateOf (g .h) b)) same in
+    let e = c .before .before .before .before .before .before .asks-replay .ensures (g .at-ms)
+    ∙ ap (λ (y : Fix). asks (length b) (call.Replay y (g .at-ms)) (stateOf (g .h) b)) same in
     let k = c .before .before .before .replay in
     let C = capacity (length b) in
     subst (λ (r : Changed). Replays x (g .at-ms) (g .h) b r (k .last .1 .0)) (sym (c .taken .ensures))
     (record {
       answered = yes e (c .before .before .before .before .before .if1 .left) refl;
       called =
-          takes-rule (call.Replay x (g .at-ms)) (g .h) (k .result) b (k .last .1 .0) (λ D. replay D _ (g .at-ms)) (sym e ∙ c .before .before .before .before .before .if1 .left)
+          takes-rule (call.Replay x (g .at-ms)) (g .h) (k .result) b (k .last .1 .0) (λ D. replay D _ (g .at-ms))
+          (sym e ∙ c .before .before .before .before .before .if1 .left)
           (ap (λ (y : Fix). replay C y (g .at-ms) (stateOf (g .h) b) .state) same) (k .ensures);
     })
 

@@ -40,7 +40,8 @@ returns-2 c =
     subst (λ (r : Changed). DoesReset h r) (sym (c .taken .ensures))
     (record {
       answered = λ b. yes (c .before .before .before .asks-state .ensures b) (c .before .before .if1 .left) refl;
-      called = λ b. takes call.Reset h (c .before .reset .result) b b (sym (c .before .before .before .asks-state .ensures b) ∙ c .before .before .if1 .left) (c .before .reset .ensures .same b) refl refl;
+      called = λ b. takes call.Reset h (c .before .reset .result) b b (sym (c .before .before .before .asks-state .ensures b)
+          ∙ c .before .before .if1 .left) (c .before .reset .ensures .same b) refl refl;
     })
 
 pub reset-spec : {M : Type 1} → statement M

@@ -33,7 +33,8 @@ returns c =
     let g = s .args in
     let b = now (g .crumbs) in
     let e = c .before .asks-seen .ensures (g .now-ms)
-    ∙ ap (λ (x : Place). asks (length b) (call.Observe (now (g .line)) x (g .now-ms)) (stateOf (g .h) b)) (same-at (g .lat) (g .lon) (s .fits .lat .sfits) (s .fits .lon .sfits)) in
+    ∙ ap (λ (x : Place). asks (length b) (call.Observe (now (g .line)) x (g .now-ms)) (stateOf (g .h) b))
+    (same-at (g .lat) (g .lon) (s .fits .lat .sfits) (s .fits .lon .sfits)) in
     record {
       answered = no e _ (c .if1 .taken);
       called = refuses (call.Observe (now (g .line)) (place.At (g .lat) (g .lon)) (g .now-ms)) (g .h) b e (c .if1 .taken);
@@ -57,11 +58,13 @@ returns-2 c =
     let l = courseIn (now (g .line)) (stateOf (g .h) b) in
     let same = handed-fix (g .lat) (g .lon) (s .fits .lat .sfits) (s .fits .lon .sfits) in
     let e = c .before .before .before .before .before .before .asks-seen .ensures (g .now-ms)
-    ∙ ap (λ (x : Place). asks (length b) (call.Observe (now (g .line)) x (g .now-ms)) (stateOf (g .h) b)) (same-at (g .lat) (g .lon) (s .fits .lat .sfits) (s .fits .lon .sfits)) in
+    ∙ ap (λ (x : Place). asks (length b) (call.Observe (now (g .line)) x (g .now-ms)) (stateOf (g .h) b))
+    (same-at (g .lat) (g .lon) (s .fits .lat .sfits) (s .fits .lon .sfits)) in
     let u = c .before .before .before .seen in
     let C = capacity (length b) in
     record {
-      answered = yes e (c .before .before .before .before .before .if1 .left) (u .ensures .told ∙ ap (λ (x : Fix). seen C l x (g .now-ms) (stateOf (g .h) b) .answer) same);
+      answered = yes e (c .before .before .before .before .before .if1 .left)
+          (u .ensures .told ∙ ap (λ (x : Fix). seen C l x (g .now-ms) (stateOf (g .h) b) .answer) same);
       called =
           takes-rule (call.Observe (now (g .line)) (place.At (g .lat) (g .lon)) (g .now-ms)) (g .h) (u .result .homing) b (u .last .1 .0)
           (λ D. seen D l _ (g .now-ms)) (sym e ∙ c .before .before .before .before .before .if1 .left)

@@ -58,7 +58,8 @@ returns-2 c =
     subst (λ (r : Changed). SetsAuto (g .on) (g .h) b r (k .last .1 .0)) (sym (c .taken .ensures))
     (record {
       answered = yes e (c .before .before .before .before .before .if1 .left) refl;
-      called = takes-rule (call.SetAutoFollow (g .on)) (g .h) (k .result) b (k .last .1 .0) (setAutoFollow (g .on)) (sym e ∙ c .before .before .before .before .before .if1 .left) refl (k .ensures);
+      called = takes-rule (call.SetAutoFollow (g .on)) (g .h) (k .result) b (k .last .1 .0) (setAutoFollow (g .on))
+          (sym e ∙ c .before .before .before .before .before .if1 .left) refl (k .ensures);
     })
 
 pub set-auto-follow-spec : {M : Type 1} → statement M

@@ -64,7 +64,8 @@ returns-2 c =
     subst (λ (r : Changed). SetsCourse xs (g .h) l r (k .last .1 .0)) (sym (c .taken .ensures))
     (record {
       answered = λ b. yes (e b) (c .before .before .before .before .before .if1 .left) refl;
-      called = λ b. takes (call.SetCourse l xs) (g .h) (k .result) b b (sym (e b) ∙ c .before .before .before .before .before .if1 .left) (k .ensures .same b) refl refl;
+      called = λ b. takes (call.SetCourse l xs) (g .h) (k .result) b b (sym (e b) ∙ c .before .before .before .before .before .if1 .left)
+          (k .ensures .same b) refl refl;
       placed = λ b _. places-line xs (g .h) (k .result) l (k .last .1 .0) (k .ensures);
       refused = λ b ne. absurd (ne (sym (e b) ∙ c .before .before .before .before .before .if1 .left));
       size = k .ensures .size;

@@ -30,7 +30,8 @@ returns c =
     }
 
 set-following-requires : tie.Need-set-following-requires
-set-following-requires c κs = let g = c .before .before .before .before .before .before .args in both-given _ (now (g .line)) (g .h) (now (g .crumbs)) (sym (c .before .before .asks-both .ensures) ∙ c .before .if1 .left) .fit
+set-following-requires c κs = let g = c .before .before .before .before .before .before .args in
+    both-given _ (now (g .line)) (g .h) (now (g .crumbs)) (sym (c .before .before .asks-both .ensures) ∙ c .before .if1 .left) .fit
 
 same-length-2 : tie.Need-same-length-2
 same-length-2 c = search needs
@@ -46,7 +47,8 @@ returns-2 c =
       answered = yes e (c .before .before .before .before .before .if1 .left) (k .ensures .answered);
       called =
           takes-rule (call.SetFollowing (now (g .line)) (g .follow) (g .now-ms)) (g .h) (k .result .homing) b (k .last .1 .0)
-          (λ C. setFollowing (g .follow) C (courseIn (now (g .line)) (stateOf (g .h) b)) (g .now-ms)) (sym e ∙ c .before .before .before .before .before .if1 .left) refl (k .ensures .follows);
+          (λ C. setFollowing (g .follow) C (courseIn (now (g .line)) (stateOf (g .h) b)) (g .now-ms))
+          (sym e ∙ c .before .before .before .before .before .if1 .left) refl (k .ensures .follows);
     }
 
 pub set-following-spec : {M : Type 1} → statement M

@@ -13,7 +13,8 @@ enum-told : tie.Need-enum-told
 enum-told c = search needs
 
 returns : tie.Need-returns
-returns c = λ s. let g = c .before .before .before .args in unknown (g .auto-follow) (g .c) (now (g .line)) s (g .p) (g .heading) (c .enum-told .given .1)
+returns c = λ s. let g = c .before .before .before .args in
+    unknown (g .auto-follow) (g .c) (now (g .line)) s (g .p) (g .heading) (c .enum-told .given .1)
 
 may-join-requires : tie.Need-may-join-requires
 may-join-requires c κs = search needs

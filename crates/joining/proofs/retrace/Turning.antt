@@ -34,11 +34,14 @@ module _ (l : List Crumb) (heading : ℕ) (best : Best) where
   nothing-near e = sym (ap (λ (b : Best). againstNear l heading b) e)
 
   module _ (near : Nearest) (e : best ≡ Found near) where
-    tested : (b : Bool) → lt (near .off) retraceM ≡ b → againstNear l heading best ≡ (b && backwards heading (at l (near .end - 1)) (at l (near .end)))
+    tested : (b : Bool) → lt (near .off) retraceM ≡ b
+        → againstNear l heading best ≡ (b && backwards heading (at l (near .end - 1)) (at l (near .end)))
     unfolding againstNear
-    tested b t = ap (λ (x : Best). againstNear l heading x) e ∙ ap (λ (x : Bool). x && backwards heading (at l (near .end - 1)) (at l (near .end))) t
+    tested b t =
+        ap (λ (x : Best). againstNear l heading x) e ∙ ap (λ (x : Bool). x && backwards heading (at l (near .end - 1)) (at l (near .end))) t
 
-    pub near-against : lt (near .off) retraceM ≡ true → backwards heading (at l (near .end - 1)) (at l (near .end)) ≡ againstNear l heading best
+    pub near-against : lt (near .off) retraceM ≡ true
+        → backwards heading (at l (near .end - 1)) (at l (near .end)) ≡ againstNear l heading best
     near-against t = sym (tested true t)
 
     pub far-off : lt (near .off) retraceM ≡ false → false ≡ againstNear l heading best
@@ -49,7 +52,8 @@ pub before-in-line : (l : List Crumb) (p : Point) (n len : ℕ) → n ≤ len �
 unfolding nearestBefore
 before-in-line l p n len few = by (nearestBefore l p n) refl
   where
-    within : (near : Nearest) (b : Bool) → leb 2 n ≡ b → cond b (nearestOnBreadcrumb l p (record { from = 1; to = n - 1 })) Nothing ≡ Found near → (1 ≤ near .end) × (near .end < len)
+    within : (near : Nearest) (b : Bool) → leb 2 n ≡ b
+        → cond b (nearestOnBreadcrumb l p (record { from = 1; to = n - 1 })) Nothing ≡ Found near → (1 ≤ near .end) × (near .end < len)
     within near true t f =
         let m = breadcrumb-met l p (record { from = 1; to = n - 1 }) near f in
         let two : 2 ≤ n = leb-true 2 n t in
@@ -71,14 +75,16 @@ module _ (len : ℕ) (b : List Float) (p : Point) (heading : Heading) where
     limit = at (crumbs len b) (len - 1) .along ⊖ retraceSkipM
 
     chosen : (t : Bool) → leb 2 len ≡ t
-        → ridesBack heading (crumbs len b) p ≡ cond t (againstNear (crumbs len b) known (nearestBefore (crumbs len b) p (ends (crumbs len b) limit))) false
+        → ridesBack heading (crumbs len b) p
+        ≡ cond t (againstNear (crumbs len b) known (nearestBefore (crumbs len b) p (ends (crumbs len b) limit))) false
     unfolding ridesBack
     chosen t h = ap (λ (x : Heading). ridesBack x (crumbs len b) p) e ∙ simp (length-crumbs, h)
 
     pub too-short : len < 2 → false ≡ ridesBack heading (crumbs len b) p
     too-short h = sym (chosen false (lt-leb _ _ h))
 
-    pub long-enough : 2 ≤ len → againstNear (crumbs len b) known (nearestBefore (crumbs len b) p (ends (crumbs len b) limit)) ≡ ridesBack heading (crumbs len b) p
+    pub long-enough : 2 ≤ len
+        → againstNear (crumbs len b) known (nearestBefore (crumbs len b) p (ends (crumbs len b) limit)) ≡ ridesBack heading (crumbs len b) p
     long-enough h = sym (chosen true (le-leb _ _ h))
 
 pub ends-few : (len : ℕ) (b : List Float) (limit : Float) → ends (crumbs len b) limit ≤ len

@@ -24,13 +24,15 @@ returns-2 : tie.Need-returns-2
 unfolding lapStart
 returns-2 c =
     let g = c .before .before .before .args in
-    sym (ap (λ (s : Spot). lapStart (g .moving) s (g .p)) (c .before .enum-told .given .1) ∙ ap (λ (m : Bool). lapStart m Nowhere (g .p)) (c .if1 .taken))
+    sym (ap (λ (s : Spot). lapStart (g .moving) s (g .p)) (c .before .enum-told .given .1)
+    ∙ ap (λ (m : Bool). lapStart m Nowhere (g .p)) (c .if1 .taken))
 
 returns-3 : tie.Need-returns-3
 unfolding lapStart
 returns-3 c =
     let g = c .before .before .before .args in
-    sym (ap (λ (s : Spot). lapStart (g .moving) s (g .p)) (c .before .enum-told .given .1) ∙ ap (λ (m : Bool). lapStart m Nowhere (g .p)) (c .if1 .left))
+    sym (ap (λ (s : Spot). lapStart (g .moving) s (g .p)) (c .before .enum-told .given .1)
+    ∙ ap (λ (m : Bool). lapStart m Nowhere (g .p)) (c .if1 .left))
 
 pub lap-start-spec : {M : Type 1} → statement M
 lap-start-spec = tie.close (tie.spec enum-known-start returns enum-told returns-2 returns-3)

@@ -20,7 +20,8 @@ returns : tie.Need-returns
 returns c =
     let s = c .before .before .before in
     let g = s .before .before .args in
-    unmoved (g .l) (g .p) (g .heading) (s .before .moving .result) (s .lap-start .result) (s .before .moving .ensures) (s .lap-start .ensures) (c .enum-told .given .1)
+    unmoved (g .l) (g .p) (g .heading) (s .before .moving .result) (s .lap-start .result) (s .before .moving .ensures)
+    (s .lap-start .ensures) (c .enum-told .given .1)
 
 distance-requires : tie.Need-distance-requires
 distance-requires c κs = search needs
@@ -33,7 +34,8 @@ returns-2 c =
     let k = c .before .before .before in
     let s = k .before .before .before .before .before .before in
     let g = s .before .before .args in
-    completed (g .l) (g .p) (k .before .before .before .start .given .0 .0) (g .heading) (s .before .moving .result) (s .lap-start .result) (s .before .moving .ensures) (s .lap-start .ensures) (k .before .before .before .start .given .1)
+    completed (g .l) (g .p) (k .before .before .before .start .given .0 .0) (g .heading) (s .before .moving .result) (s .lap-start .result)
+    (s .before .moving .ensures) (s .lap-start .ensures) (k .before .before .before .start .given .1)
     (k .step-by .result) (k .before .distance .result) (k .before .distance .ensures) (k .step-by .ensures) (c .before .if1 .taken)
 
 returns-3 : tie.Need-returns-3
@@ -41,7 +43,8 @@ returns-3 c =
     let k = c .before .before in
     let s = k .before .before .before .before .before .before in
     let g = s .before .before .args in
-    went-on (g .l) (g .p) (k .before .before .before .start .given .0 .0) (g .heading) (s .before .moving .result) (s .lap-start .result) (s .before .moving .ensures) (s .lap-start .ensures) (k .before .before .before .start .given .1)
+    went-on (g .l) (g .p) (k .before .before .before .start .given .0 .0) (g .heading) (s .before .moving .result) (s .lap-start .result)
+    (s .before .moving .ensures) (s .lap-start .ensures) (k .before .before .before .start .given .1)
     (k .step-by .result) (k .before .distance .result) (k .before .distance .ensures) (k .step-by .ensures) (c .if1 .left)
 
 pub step-pass-spec : {M : Type 1} → statement M

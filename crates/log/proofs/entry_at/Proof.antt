@@ -21,7 +21,13 @@ samples-of-requires c κs = search needs
 
 returns : tie.Need-returns
 unfolding entryAt
-returns c = simp (← c .samples-of .ensures, ← c .before .count-of .ensures, ← c .before .before .before .before .ride-of .ensures, ← c .before .before .before .kind-number .ensures, ← c .before .before .kind-of .ensures)
+returns c = simp (
+  ← c .samples-of .ensures,
+  ← c .before .count-of .ensures,
+  ← c .before .before .before .before .ride-of .ensures,
+  ← c .before .before .before .kind-number .ensures,
+  ← c .before .before .kind-of .ensures,
+)
 
 pub entry-at-spec : {M : Type 1} → statement M
 entry-at-spec =

@@ -19,7 +19,8 @@ use mir.ValLaws.{toZ-ofZ}
 use Rattle.state.specs.declared.Place.{Place}
 use Rattle.state.specs.declared.Place.the-variants as place
 use Rattle.calls.specs.Questions.{asksFix, _orElse_}
-use Rattle.log.specs.Entry.{nextOf, recordCount, recordsFrom, chain, countOf, sampleStart, sampleAt, noSample, sampleIf, sampleOf, samplesOf, used, kindNumber, entryAt}
+use Rattle.log.specs.Entry.{nextOf, recordCount, recordsFrom, chain, countOf, sampleStart, sampleAt, noSample, sampleIf, sampleOf}
+use Rattle.log.specs.Entry.{samplesOf, used, kindNumber, entryAt}
 use Rattle.calls.specs.Calls.{asksPlace}
 use Rattle.log.specs.Questions.{question6, question7, question8, asksSamples, asksEntry, asksRecord, asksRecords, asksChain, asksFile}
 use Rattle.log.proofs.file_questions.Chain.{ends, steps-are}
@@ -100,11 +101,13 @@ walking-start f count {index} e = record { rest = ap (λ r. asksRecords f (recor
 
 module _ {f : List ℕ} {count index left : ℕ} (before : Walking f count index left) where
   split : 0 < left → index ≢ 0
-      → (asksRecord f index orElse asksRecords f (recordsFrom (left - 1) f (nextOf f index))) ≡ asksRecords f (recordsFrom count f (nextOf f 0))
+      → (asksRecord f index orElse asksRecords f (recordsFrom (left - 1) f (nextOf f index)))
+      ≡ asksRecords f (recordsFrom count f (nextOf f 0))
   unfolding asksRecords
   split p h = sym (ap (asksRecords f) (walk-on left f index p h)) ∙ before .rest
 
-  pub walking-next : {n next : ℕ} → 0 < left → index ≢ 0 → n ≡ asksRecord f index → n ≡ 0 → next ≡ nextOf f index → Walking f count next (left - 1)
+  pub walking-next : {n next : ℕ} → 0 < left → index ≢ 0 → n ≡ asksRecord f index → n ≡ 0 → next ≡ nextOf f index
+      → Walking f count next (left - 1)
   walking-next p h e z to = record { rest = rw to (sym (rw (← e, z)) ∙ split p h) }
 
   module _ (counted : count ≡ recordCount f) where

@@ -1,5 +1,5 @@
--- A chain that ends reaches no record twice, and one that reaches as many records as there are has reached one of them twice: what the count of
--- steps tells is what question 7 asks. Assumes nothing.
+-- A chain that ends reaches no record twice, and one that reaches as many records as there are has reached one of them twice: what the
+-- count of steps tells is what question 7 asks. Assumes nothing.
 use Prim.Native.Nat.{ℕ, zero, suc, _+_, _≤_, _<_}
 use mathlib.Core.Path.{_≡_, refl, sym, ap, _∙_}
 use mathlib.Core.Bool.{Bool, true, false, not, _&&_, _||_, cond, true≢false, false≢true, and-eq-true-iff}
@@ -159,7 +159,8 @@ ended (suc n) count f (suc r) h =
     record { whole = on (later .whole); inside = rw (and-eq-true-iff b next .0 h .0) (later .inside) }
 
 -- a walk that does not end takes every step
-long : (n count : ℕ) (f : List ℕ) (r : ℕ) → ends n count f r ≡ false → below count (recordsFrom n f r) ≡ true → length (recordsFrom n f r) ≡ n
+long : (n count : ℕ) (f : List ℕ) (r : ℕ) → ends n count f r ≡ false → below count (recordsFrom n f r) ≡ true
+    → length (recordsFrom n f r) ≡ n
 unfolding ends recordsFrom below
 long zero count f r h b = refl
 long (suc n) count f zero h b = absurd (true≢false h)
@@ -191,7 +192,8 @@ not-ended count f r some h =
     absurd (omega arith)))
     (λ b. rw b)
 
-pub steps-tell : (count : ℕ) (f : List ℕ) (r : ℕ) → 1 ≤ count → ends count count f r ≡ (below count (recordsFrom count f r) && not (twice (recordsFrom count f r)))
+pub steps-tell : (count : ℕ) (f : List ℕ) (r : ℕ) → 1 ≤ count
+    → ends count count f r ≡ (below count (recordsFrom count f r) && not (twice (recordsFrom count f r)))
 steps-tell count f r some =
     by (ends count count f r)
     (λ t. let e = ended count count f r t in t ∙ sym (rw (e .inside, ends-once (e .whole))))

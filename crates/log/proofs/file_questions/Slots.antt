@@ -66,7 +66,8 @@ module _ {f : List ℕ} {k r : ℕ} (b : Before f k r) where
     slot-none = elem-none (entryAt f) k (chain f) none-left
 
     pub slot-past : Before f (k + 1) r
-    slot-past = record { rest = []; here = rw (add-one k) (drop-past k (chain f) none-left); ends = rw (ends-over (b .ends) h) at (b .ends) }
+    slot-past =
+        record { rest = []; here = rw (add-one k) (drop-past k (chain f) none-left); ends = rw (ends-over (b .ends) h) at (b .ends) }
 
   module _ (h : r ≢ 0) where
     there : drop k (chain f) ≡ r ∷ ends-on (b .ends) h .rest

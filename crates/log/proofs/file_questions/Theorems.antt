@@ -9,9 +9,12 @@ use borrow.Author.Tests.{eqb-true, eq-eqb, ltb-true, not-true}
 use lib.Dec.{leb, ltb, eqb}
 use lib.ListN.{length}
 use Rattle.calls.specs.Questions.{latitudeFits, longitudeFits, asksFix, _orElse_, unless}
-use Rattle.log.specs.Entry.{byteAt, u32At, u64At, i32At, signed, recordCount, nextOf, rideOf, kindNumber, countOf, sampleStart, kindOf, hasPlace, hasUtc, placeAt, utcAt, sampleAt, sampleIf, sampleOf, samplesOf, entryAt, recovered, recordsFrom, chain, entries, used}
+use Rattle.log.specs.Entry.{byteAt, u32At, u64At, i32At, signed, recordCount, nextOf, rideOf, kindNumber, countOf, sampleStart}
+use Rattle.log.specs.Entry.{kindOf, hasPlace, hasUtc, placeAt, utcAt, sampleAt, sampleIf, sampleOf, samplesOf, entryAt, recovered}
+use Rattle.log.specs.Entry.{recordsFrom, chain, entries, used}
 use Rattle.calls.specs.Calls.{asksPlace}
-use Rattle.log.specs.Questions.{question6, question7, question8, below, stands, twice, asksSamples, asksEntry, asksRecord, asksRecords, asksChain, asksFile}
+use Rattle.log.specs.Questions.{question6, question7, question8, below, stands, twice, asksSamples, asksEntry, asksRecord}
+use Rattle.log.specs.Questions.{asksRecords, asksChain, asksFile}
 use Rattle.log.specs.Theorems.{Accepted, EveryAccepted, Same, SameSample, SameRecord, SameRead, Alike, OnlyRead, example, Example}
 use Rattle.log.proofs.file_questions.Chain.{by, ended, steps-are}
 use Rattle.log.proofs.file_questions.Asking.{Counted, counted}
@@ -93,7 +96,8 @@ module _ (f g : List ℕ) where
     place-same true same =
         let there = same refl in
         let lat = u32-same (at + 4) (λ i h. there i (omega arith)) in
-        let lon : u32At f (at + 8) ≡ u32At g (at + 8) = rw (add-assoc at 4 4) at (u32-same (at + 4 + 4) (part (at + 4) 8 there 4 4 (omega arith))) in
+        let lon : u32At f (at + 8) ≡ u32At g (at + 8) =
+        rw (add-assoc at 4 4) at (u32-same (at + 4 + 4) (part (at + 4) 8 there 4 4 (omega arith))) in
         rw (lat, lon)
     place-same false same = refl
 
@@ -208,5 +212,7 @@ only-read = alike
 
 -- ---- the worked file
 pub worked : Example
-unfolding example asksFile asksChain question6 question7 question8 below stands twice asksRecords asksRecord asksEntry chain recordsFrom recordCount nextOf rideOf kindNumber countOf kindOf hasPlace hasUtc placeAt utcAt sampleAt sampleIf sampleOf samplesOf entryAt recovered entries u32At u64At i32At byteAt signed asksSamples used asksPlace asksFix latitudeFits longitudeFits
+unfolding example asksFile asksChain question6 question7 question8 below stands twice asksRecords asksRecord asksEntry chain recordsFrom
+    recordCount nextOf rideOf kindNumber countOf kindOf hasPlace hasUtc placeAt utcAt sampleAt sampleIf sampleOf samplesOf entryAt recovered
+    entries u32At u64At i32At byteAt signed asksSamples used asksPlace asksFix latitudeFits longitudeFits
 worked = record { accepted = refl; ride = refl; only = refl }

@@ -18,7 +18,12 @@ sample-of-requires-4 c κs = search needs
 
 returns : tie.Need-returns
 unfolding samplesOf
-returns c = simp (← c .sample-of4 .ensures, ← c .before .sample-of3 .ensures, ← c .before .before .sample-of2 .ensures, ← c .before .before .before .sample-of .ensures)
+returns c = simp (
+  ← c .sample-of4 .ensures,
+  ← c .before .sample-of3 .ensures,
+  ← c .before .before .sample-of2 .ensures,
+  ← c .before .before .before .sample-of .ensures,
+)
 
 pub samples-of-spec : {M : Type 1} → statement M
 samples-of-spec =

@@ -17,7 +17,8 @@ returns-2 : tie.Need-returns-2
 returns-2 c = nearer-other _ _ _ (c .before .before .before .before .best .given .1) (c .if1 .taken)
 
 returns-3 : tie.Need-returns-3
-returns-3 c = nearer-own _ _ (c .before .before .before .before .best .given .0 .0) (c .before .before .before .before .best .given .1) (c .if1 .left)
+returns-3 c =
+    nearer-own _ _ (c .before .before .before .before .best .given .0 .0) (c .before .before .before .before .best .given .1) (c .if1 .left)
 
 pub nearer-spec : {M : Type 1} → statement M
 nearer-spec = tie.close (tie.spec enum-known-best enum-told returns returns-2 returns-3)

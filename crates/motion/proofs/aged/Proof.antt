@@ -14,13 +14,15 @@ returns : tie.Need-returns
 unfolding aged
 returns c =
     let s = c .before .before in
-    simp (lt-ltb 15000 (elapsed (s .args .now-ms) (s .args .m .«heading_ms»)) (subst (λ (n : ℕ). 15000 < n) (c .before .elapsed .ensures) (c .if1 .taken)))
+    simp (lt-ltb 15000 (elapsed (s .args .now-ms) (s .args .m .«heading_ms»))
+    (subst (λ (n : ℕ). 15000 < n) (c .before .elapsed .ensures) (c .if1 .taken)))
 
 returns-2 : tie.Need-returns-2
 unfolding aged
 returns-2 c =
     let s = c .before .before in
-    simp (le-ltb 15000 (elapsed (s .args .now-ms) (s .args .m .«heading_ms»)) (subst (λ (n : ℕ). n ≤ 15000) (c .before .elapsed .ensures) (c .if1 .left)))
+    simp (le-ltb 15000 (elapsed (s .args .now-ms) (s .args .m .«heading_ms»))
+    (subst (λ (n : ℕ). n ≤ 15000) (c .before .elapsed .ensures) (c .if1 .left)))
 
 pub aged-spec : {M : Type 1} → statement M
 aged-spec = tie.close (tie.spec elapsed-requires returns returns-2)

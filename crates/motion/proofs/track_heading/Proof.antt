@@ -16,14 +16,16 @@ renewed-requires c κs = search needs
 
 returns : tie.Need-returns
 unfolding trackHeading headingStepM ofBits
-returns c = simp (← c .before .before .before .spot-or .ensures, ← c .before .before .distance .ensures, c .before .if1 .taken, c .renewed .ensures)
+returns c =
+    simp (← c .before .before .before .spot-or .ensures, ← c .before .before .distance .ensures, c .before .if1 .taken, c .renewed .ensures)
 
 aged-requires : tie.Need-aged-requires
 aged-requires c κs = search needs
 
 returns-2 : tie.Need-returns-2
 unfolding trackHeading headingStepM ofBits
-returns-2 c = simp (← c .before .before .before .spot-or .ensures, ← c .before .before .distance .ensures, c .before .if1 .left, c .aged .ensures)
+returns-2 c =
+    simp (← c .before .before .before .spot-or .ensures, ← c .before .before .distance .ensures, c .before .if1 .left, c .aged .ensures)
 
 pub track-heading-spec : {M : Type 1} → statement M
 track-heading-spec =

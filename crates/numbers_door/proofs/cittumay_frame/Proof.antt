@@ -15,7 +15,8 @@ abbrev back : ℤ → ℤ
 back z = toZ w32 (ofZ w32 z)
 
 -- coordinates are handed on by their bits
-handed : (a b lat lon : ℤ) (f : Float) → SFits w32 a → SFits w32 b → SFits w32 lat → SFits w32 lon → frame (back a) (back b) f (back lat) (back lon) ≡ frame a b f lat lon
+handed : (a b lat lon : ℤ) (f : Float) → SFits w32 a → SFits w32 b → SFits w32 lat → SFits w32 lon
+    → frame (back a) (back b) f (back lat) (back lon) ≡ frame a b f lat lon
 handed a b lat lon f A B C D =
     ap (λ (z : ℤ). frame z (back b) f (back lat) (back lon)) (toZ-ofZ w32 a A)
     ∙ ap (λ (z : ℤ). frame a z f (back lat) (back lon)) (toZ-ofZ w32 b B)

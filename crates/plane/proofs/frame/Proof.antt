@@ -42,20 +42,25 @@ rounded d z x e h r = r ∙ ap (λ (y : ℤ). asF32 (toZ w64 (ofZ w64 y))) e ∙
 passed : (d a b : ℤ) → SFits w32 a → SFits w32 b → d ≡ toZ w32 (ofZ w32 a) -ℤ toZ w32 (ofZ w32 b) → d ≡ a -ℤ b
 passed d a b A B e = e ∙ ap (λ (y : ℤ). y -ℤ toZ w32 (ofZ w32 b)) (at32 a A) ∙ ap (λ (y : ℤ). a -ℤ y) (at32 b B)
 
-east : (c : tie.After-as-f32) → c .as-f32 .result ≡ ofInt binary32 (wrapped (c .before .before .before .args .lon -ℤ c .before .before .before .args .lon0))
+east : (c : tie.After-as-f32)
+    → c .as-f32 .result ≡ ofInt binary32 (wrapped (c .before .before .before .args .lon -ℤ c .before .before .before .args .lon0))
 east c =
     let s = c .before .before .before in
     let d = s .args .lon -ℤ s .args .lon0 in
     let h = minus-size (s .args .lon) (s .args .lon0) (s .fits .lon) (s .fits .lon0) in
-    let e = passed (c .before .before .difference .result) (s .args .lon) (s .args .lon0) (s .fits .lon) (s .fits .lon0) (c .before .before .difference .ensures) in
+    let e = passed (c .before .before .difference .result) (s .args .lon) (s .args .lon0) (s .fits .lon) (s .fits .lon0)
+    (c .before .before .difference .ensures) in
     rounded (c .before .wrapped .result) (wrapped d) (c .as-f32 .result)
-    (c .before .wrapped .ensures ∙ ap (λ (y : ℤ). wrapped (toZ w64 (ofZ w64 y))) e ∙ ap wrapped (at64 d h)) (wrapped-size d h) (c .as-f32 .ensures)
+    (c .before .wrapped .ensures ∙ ap (λ (y : ℤ). wrapped (toZ w64 (ofZ w64 y))) e ∙ ap wrapped (at64 d h)) (wrapped-size d h)
+    (c .as-f32 .ensures)
 
-north : (c : tie.After-as-f322) → c .as-f322 .result ≡ ofInt binary32 (c .before .before .before .before .before .args .lat -ℤ c .before .before .before .before .before .args .lat0)
+north : (c : tie.After-as-f322) → c .as-f322 .result
+    ≡ ofInt binary32 (c .before .before .before .before .before .args .lat -ℤ c .before .before .before .before .before .args .lat0)
 north c =
     let s = c .before .before .before .before .before in
     rounded (c .before .difference2 .result) (s .args .lat -ℤ s .args .lat0) (c .as-f322 .result)
-    (passed (c .before .difference2 .result) (s .args .lat) (s .args .lat0) (s .fits .lat) (s .fits .lat0) (c .before .difference2 .ensures))
+    (passed (c .before .difference2 .result) (s .args .lat) (s .args .lat0) (s .fits .lat) (s .fits .lat0)
+    (c .before .difference2 .ensures))
     (minus-size (s .args .lat) (s .args .lat0) (s .fits .lat) (s .fits .lat0)) (c .as-f322 .ensures)
 
 returns : tie.Need-returns

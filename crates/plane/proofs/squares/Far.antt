@@ -1,5 +1,5 @@
--- A square has the distance as its root, is a value of the format and not below zero. Where it is not less than a bar whose root is above `most`, the distance
--- is not at most `most`. Assumes nothing.
+-- A square has the distance as its root, is a value of the format and not below zero. Where it is not less than a bar whose root is above
+-- `most`, the distance is not at most `most`. Assumes nothing.
 use mathlib.Core.Path.{_≡_, refl, sym, ap, _∙_, subst}
 use mathlib.Core.Bool.{Bool, true, false, true≢false}
 use lib.Dec.{T}
@@ -40,13 +40,15 @@ pub off-is : (p a b : Point) → offSegment p a b ≡ root binary32 (offSquare p
 unfolding offSegment offSquare
 off-is p a b = distance-is p (project p a b .point)
 
-pub far : (s bar most : Float) → T (fits binary32 s) → T (fits binary32 bar) → lt most (root binary32 bar) ≡ true → lt s bar ≡ false → le (root binary32 s) most ≡ false
+pub far : (s bar most : Float) → T (fits binary32 s) → T (fits binary32 bar) → lt most (root binary32 bar) ≡ true → lt s bar ≡ false
+    → le (root binary32 s) most ≡ false
 far s bar most t u above h = go (le (root binary32 s) most) refl
   where
     go : (b : Bool) → le (root binary32 s) most ≡ b → b ≡ false
     go true e = absurd (true≢false (sym (root-less binary32 s bar t u (le-lt (root binary32 s) most (root binary32 bar) e above)) ∙ h))
     go false e = refl
 
-pub far-off : (bar most : Float) → T (fits binary32 bar) → lt most (root binary32 bar) ≡ true → (p a b : Point) → lt (offSquare p a b) bar ≡ false → le (offSegment p a b) most ≡ false
+pub far-off : (bar most : Float) → T (fits binary32 bar) → lt most (root binary32 bar) ≡ true → (p a b : Point)
+    → lt (offSquare p a b) bar ≡ false → le (offSegment p a b) most ≡ false
 far-off bar most u above p a b h =
     subst (λ (z : Float). le z most ≡ false) (sym (off-is p a b)) (far (offSquare p a b) bar most (off-fits p a b) u above h)

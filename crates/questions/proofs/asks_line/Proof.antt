@@ -18,7 +18,12 @@ ten-then-four-requires c κs = search needs
 
 returns : tie.Need-returns
 unfolding asksLine lineFits
-returns c = λ b. simp (← c .before .before .before .state-fits .ensures b, ← c .before .before .held-fits .ensures, ← c .before .question4 .ensures, ← c .ten-then-four .ensures)
+returns c = λ b. simp (
+  ← c .before .before .before .state-fits .ensures b,
+  ← c .before .before .held-fits .ensures,
+  ← c .before .question4 .ensures,
+  ← c .ten-then-four .ensures,
+)
 
 pub asks-line-spec : {M : Type 1} → statement M
 asks-line-spec =

@@ -33,7 +33,8 @@ unfolding placesFit
 placesFit-on [] p = and-true (placeFits p)
 placesFit-on (q ∷ l) p = ap (λ x. placeFits q && x) (placesFit-on l p) ∙ sym (and-assoc (placeFits q) (placesFit l) (placeFits p))
 
-pub waiting-next : {n : ℕ} {w : List Float} {ok : Bool} {i : ℕ} {x : Bool} {p : Point} → Waiting n w ok i → i < n → p ≡ waitingAt w i → x ≡ placeFits p
+pub waiting-next : {n : ℕ} {w : List Float} {ok : Bool} {i : ℕ} {x : Bool} {p : Point} → Waiting n w ok i → i < n → p ≡ waitingAt w i
+    → x ≡ placeFits p
     → Waiting n w (ok && x) (i + 1)
 waiting-next {n} {w} {ok} {i} {x} {p} before h at fits =
     record {
@@ -58,7 +59,8 @@ pub record Passing (n : ℕ) (b : List Float) (ok : Bool) (i : ℕ) : Type 0 whe
 pub passing-start : (n : ℕ) (b : List Float) → Passing n b true 0
 passing-start n b = record { within = omega arith; whole = refl }
 
-pub passing-next : {n : ℕ} {b : List Float} {ok : Bool} {i : ℕ} {x : Bool} {c : Crumb} → Passing n b ok i → i < n → c ≡ crumbAt b i → x ≡ crumbFits c
+pub passing-next : {n : ℕ} {b : List Float} {ok : Bool} {i : ℕ} {x : Bool} {c : Crumb} → Passing n b ok i → i < n → c ≡ crumbAt b i
+    → x ≡ crumbFits c
     → Passing n b (ok && x) (i + 1)
 unfolding crumbsFit
 passing-next {n} {b} {ok} {i} {x} {c} before h at fits =
@@ -67,7 +69,8 @@ passing-next {n} {b} {ok} {i} {x} {c} before h at fits =
       whole =
           and-assoc ok x (crumbsFit (drop (i + 1) (crumbs n b)))
           ∙ ap (λ y. ok && y)
-          (ap₂ (λ y k. y && crumbsFit (drop k (crumbs n b))) (fits ∙ ap crumbFits at) (add-one i) ∙ sym (ap crumbsFit (drop-crumbs n b i h)))
+          (ap₂ (λ y k. y && crumbsFit (drop k (crumbs n b))) (fits ∙ ap crumbFits at) (add-one i)
+          ∙ sym (ap crumbsFit (drop-crumbs n b i h)))
           ∙ before .whole;
     }
 
@@ -82,7 +85,8 @@ between-passed : {n : ℕ} {b : List Float} {i : ℕ} → Leading leastSure most
 between-passed {n} {b} l zero h = passing-start n b
 between-passed {n} {b} l (suc k) h =
     subst (Passing n b true) (add-one k)
-    (passing-next (between-passed l k (omega arith)) (omega (arith, l .within)) refl (sym (sure-fits (crumbAt b k) (l .each k (omega arith)))))
+    (passing-next (between-passed l k (omega arith)) (omega (arith, l .within)) refl
+    (sym (sure-fits (crumbAt b k) (l .each k (omega arith)))))
 
 pub passing-from : {n : ℕ} {b : List Float} {i : ℕ} {least most : Crumb} → Leading least most n b i
     → least ≡ leastSure → most ≡ mostSure → Passing n b true i

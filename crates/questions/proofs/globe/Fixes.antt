@@ -43,7 +43,8 @@ module _ {lats lons : List ℤ} {i : ℕ} (before : Asking lats lons i) where
   abbrev fix : Fix
   fix = record { lat = getD lats i (pos 0); lon = getD lons i (pos 0) }
 
-  split : i < length lats → i < length lons → asksFixes (fixes lats lons) ≡ (asksFix fix orElse asksFixes (fixes (drop (i + 1) lats) (drop (i + 1) lons)))
+  split : i < length lats → i < length lons
+      → asksFixes (fixes lats lons) ≡ (asksFix fix orElse asksFixes (fixes (drop (i + 1) lats) (drop (i + 1) lons)))
   unfolding asksFixes fixes
   split h k = sym (before .rest) ∙ rw (drop-cons lats i (pos 0) h, drop-cons lons i (pos 0) k, add-one i)
 
@@ -66,4 +67,5 @@ module _ {lats lons : List ℤ} {i : ℕ} (before : Asking lats lons i) where
 
   pub lons-end : length lons ≤ i → 0 ≡ asksFixes (fixes lats lons)
   unfolding asksFixes
-  lons-end h = sym (ap (λ l. asksFixes (fixes (drop i lats) l)) (drop-of-length-le lons h) ∙ ap asksFixes (none (drop i lats))) ∙ before .rest
+  lons-end h = sym (ap (λ l. asksFixes (fixes (drop i lats) l)) (drop-of-length-le lons h) ∙ ap asksFixes (none (drop i lats)))
+      ∙ before .rest

@@ -18,7 +18,8 @@ same-length : tie.Need-same-length
 same-length c = search needs
 
 returns-2 : tie.Need-returns-2
-returns-2 c = let g = c .before .before .before .before .before .before .before .before .args in looked (g .e) (g .r) (c .before .before .before .before .if1 .left) (c .before .before .visit .ensures)
+returns-2 c = let g = c .before .before .before .before .before .before .before .before .args in
+    looked (g .e) (g .r) (c .before .before .before .before .if1 .left) (c .before .before .visit .ensures)
 
 pub look-spec : {M : Type 1} → statement M
 look-spec = tie.close (tie.spec returns visit-requires same-length returns-2)

@@ -30,7 +30,8 @@ loop-less : tie.Need-loop-less Inv-loop μ-loop
 loop-less c = omega (arith, c .before .before .loop-test .taken)
 
 loop-again : tie.Need-loop-again Inv-loop μ-loop
-loop-again c = seeking-on (c .before .before .before .loop .inv) (c .before .before .loop-test .taken) (c .before .if1 .left) (c .next-of2 .ensures)
+loop-again c =
+    seeking-on (c .before .before .before .loop .inv) (c .before .before .loop-test .taken) (c .before .if1 .left) (c .next-of2 .ensures)
 
 returns-2 : tie.Need-returns-2 Inv-loop μ-loop
 returns-2 c = seeking-there (c .before .loop .inv) (c .loop-test .left)

@@ -18,7 +18,8 @@ settle-requires c κs = search needs
 returns-2 : tie.Need-returns-2
 returns-2 c =
     let g = c .before .before .before .before .before .args in
-    settle-taken (g .utc) (g .r) (g .h) (c .before .before .before .before .asks-state .ensures) (c .before .before .before .if1 .left) (c .before .before .settle .ensures)
+    settle-taken (g .utc) (g .r) (g .h) (c .before .before .before .before .asks-state .ensures) (c .before .before .before .if1 .left)
+    (c .before .before .settle .ensures)
 
 pub settle-spec : {M : Type 1} → statement M
 settle-spec = tie.close (tie.spec asks-state-requires returns settle-requires returns-2)

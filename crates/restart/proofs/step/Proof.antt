@@ -23,8 +23,10 @@ walk-slots-requires c κs =
     let g = c .before .before .before .before .before .before .args in
     let b = now (g .crumbs) in
     let asked = c .before .before .asks-step .ensures in
-    let passed = c .before .if1 .left in
-    (crumbs-given (length b) (g .h) b (step-crumbs (now (g .file)) (g .h) b asked passed) .trail, step-file (now (g .file)) (g .h) b asked passed)
+    let passed = c .before .if1 .left in (
+      crumbs-given (length b) (g .h) b (step-crumbs (now (g .file)) (g .h) b asked passed) .trail,
+      step-file (now (g .file)) (g .h) b asked passed,
+    )
 
 finished-requires : tie.Need-finished-requires
 finished-requires c κs = search needs
@@ -35,7 +37,10 @@ same-length-2 c = search needs
 returns-2 : tie.Need-returns-2
 returns-2 c =
     let g = c .before .before .before .before .before .before .before .before .before .before .before .before .args in
-    step-taken (g .budget) (g .upper) (now (g .file)) (g .r) (g .h) (now (g .crumbs)) (c .before .before .before .before .before .before .before .before .asks-step .ensures) (c .before .before .before .before .before .before .before .if1 .left) (c .before .before .before .before .before .walk-slots .ensures) (c .finished .ensures)
+    step-taken (g .budget) (g .upper) (now (g .file)) (g .r) (g .h) (now (g .crumbs))
+    (c .before .before .before .before .before .before .before .before .asks-step .ensures)
+    (c .before .before .before .before .before .before .before .if1 .left)
+    (c .before .before .before .before .before .walk-slots .ensures) (c .finished .ensures)
 
 pub step-spec : {M : Type 1} → statement M
 step-spec =

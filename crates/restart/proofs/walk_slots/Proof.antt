@@ -1,4 +1,5 @@
--- `restart::walk_slots` meets its contract: each slot with a record is looked at, and those behind the chain's end are passed at once. Assumes nothing.
+-- `restart::walk_slots` meets its contract: each slot with a record is looked at, and those behind the chain's end are passed at once.
+-- Assumes nothing.
 use Prim.Native.Nat.{_-_}
 use native.Mathlib.Omega.{arith}
 use Rattle.rebuild.proofs.Making.{visited}
@@ -20,7 +21,8 @@ record-at-requires : tie.Need-record-at-requires Inv-loop μ-loop
 record-at-requires c κs = c .before .before .before .pre .1
 
 loop-holds : tie.Need-loop-holds Inv-loop μ-loop
-loop-holds c = let pre = c .before .before .before .before .pre in going-start (c .before .stop-at .ensures) (pre .0) (pre .1) (c .record-at .ensures)
+loop-holds c = let pre = c .before .before .before .before .pre in
+    going-start (c .before .stop-at .ensures) (pre .0) (pre .1) (c .record-at .ensures)
 
 with-slot-requires : tie.Need-with-slot-requires Inv-loop μ-loop
 with-slot-requires c κs = tt
@@ -29,15 +31,19 @@ same-length : tie.Need-same-length Inv-loop μ-loop
 same-length c = c .before .before .before .loop .inv .made .size
 
 returns : tie.Need-returns Inv-loop μ-loop
-returns c = going-past (c .before .before .before .loop .inv) (c .before .before .loop-test .taken) (c .before .if1 .taken) (c .with-slot .ensures)
+returns c =
+    going-past (c .before .before .before .loop .inv) (c .before .before .loop-test .taken) (c .before .if1 .taken) (c .with-slot .ensures)
 
 entry-at-requires : tie.Need-entry-at-requires Inv-loop μ-loop
 entry-at-requires c κs = tt
 
 look-requires : tie.Need-look-requires Inv-loop μ-loop
 look-requires c κs =
-    let g = c .before .before .before .before .loop .inv in
-    (g .made .fit, going-count g (c .before .before .before .loop-test .taken) (c .before .before .if1 .left) (c .before .entry-at .ensures) (c .before .before .before .before .before .before .before .before .before .pre .1))
+    let g = c .before .before .before .before .loop .inv in (
+      g .made .fit,
+      going-count g (c .before .before .before .loop-test .taken) (c .before .before .if1 .left) (c .before .entry-at .ensures)
+          (c .before .before .before .before .before .before .before .before .before .pre .1),
+    )
 
 next-of-requires : tie.Need-next-of-requires Inv-loop μ-loop
 next-of-requires c κs = tt
@@ -53,7 +59,11 @@ loop-less c = omega (arith, c .before .before .before .before .before .before .b
 
 loop-again : tie.Need-loop-again Inv-loop μ-loop
 loop-again c =
-    going-on (c .before .before .before .before .before .before .before .before .before .before .loop .inv) (c .before .before .before .before .before .before .before .before .before .loop-test .taken) (c .before .before .before .before .before .before .before .before .if1 .left) (c .before .before .before .before .before .before .before .entry-at .ensures) (c .before .before .before .before .before .look .ensures) (c .before .with-slot2 .ensures) (c .before .before .next-of .ensures)
+    going-on (c .before .before .before .before .before .before .before .before .before .before .loop .inv)
+    (c .before .before .before .before .before .before .before .before .before .loop-test .taken)
+    (c .before .before .before .before .before .before .before .before .if1 .left)
+    (c .before .before .before .before .before .before .before .entry-at .ensures)
+    (c .before .before .before .before .before .look .ensures) (c .before .with-slot2 .ensures) (c .before .before .next-of .ensures)
 
 same-length-2 : tie.Need-same-length-2 Inv-loop μ-loop
 same-length-2 c = c .before .loop .inv .made .size

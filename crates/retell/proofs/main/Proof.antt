@@ -37,7 +37,8 @@ array-share-prefix-text : tie.Need-array-share-prefix-text
 array-share-prefix-text c = search needs
 
 slice-aggregate-write-all-2 : tie.Need-slice-aggregate-write-all-2
-slice-aggregate-write-all-2 c = sym (length-take-le _ _ (omega (arith, c .before .before .retell .ensures .inside, c .before .before .retell .ensures .size)))
+slice-aggregate-write-all-2 c =
+    sym (length-take-le _ _ (omega (arith, c .before .before .retell .ensures .inside, c .before .before .retell .ensures .size)))
 
 write-all-requires-2 : tie.Need-write-all-requires-2
 write-all-requires-2 c κs = search needs

@@ -12,7 +12,8 @@ use lib.Ieee.{Float}
 use Rattle.crumbs.specs.declared.Crumb.{Crumb}
 use Rattle.crumbs.specs.Crumb.{crumbs}
 use Rattle.crumbs.proofs.Crumbs.{length-crumbs}
-use Rattle.retelling.specs.Text.{numeral, capital, decimal, capitals, pattern, space, end, crumbLine, crumbLines, crumbsWord, clockWord, stageWord, stageText, firstLine, rebuiltText, refusedText}
+use Rattle.retelling.specs.Text.{numeral, capital, decimal, capitals, pattern, space, end, crumbLine, crumbLines, crumbsWord}
+use Rattle.retelling.specs.Text.{clockWord, stageWord, stageText, firstLine, rebuiltText, refusedText}
 use Rattle.retelling.specs.Writing.{Writes, textMost, WritesWhole}
 use Rattle.retelling.proofs.lines.Numbers.{decimal-one, decimal-more, writes-rebuilt}
 
@@ -72,7 +73,8 @@ first-length len clock decided a b =
     simp length-append (omega arith)
 
 -- ---- all that is printed
-rebuilt-length : (l : List Crumb) (clock : ℕ) (decided : Bool) → length l ≤ 512 → clock < 2 ^ 64 → length (rebuiltText l clock decided) ≤ textMost
+rebuilt-length : (l : List Crumb) (clock : ℕ) (decided : Bool) → length l ≤ 512 → clock < 2 ^ 64
+    → length (rebuiltText l clock decided) ≤ textMost
 unfolding rebuiltText
 rebuilt-length l clock decided a b =
     let x : length (firstLine (length l) clock decided) ≤ 69 = first-length (length l) clock decided (omega arith) b in
@@ -85,12 +87,14 @@ refused-length number h = let x : length (decimal number) ≤ 20 = decimal-lengt
 
 -- ---- written
 pub tells-first : (n : ℕ) (b : List Float) (clock : ℕ) (decided : Bool) {e m f : List ℕ} {x r : ℕ} → n ≤ 512 → clock < 2 ^ 64
-    → Writes (firstLine n clock decided) e 0 m x → Writes (crumbLines (crumbs n b)) m x f r → WritesWhole (rebuiltText (crumbs n b) clock decided) e f r
+    → Writes (firstLine n clock decided) e 0 m x → Writes (crumbLines (crumbs n b)) m x f r
+    → WritesWhole (rebuiltText (crumbs n b) clock decided) e f r
 tells-first n b clock decided most fits w v =
     record {
       writes = writes-rebuilt n b clock decided w v;
       short = rebuilt-length (crumbs n b) clock decided (omega (arith, length-crumbs n b)) fits;
     }
 
-pub tells-number : (number : ℕ) {e f : List ℕ} {r : ℕ} → number < 2 ^ 64 → Writes (refusedText number) e 0 f r → WritesWhole (refusedText number) e f r
+pub tells-number : (number : ℕ) {e f : List ℕ} {r : ℕ} → number < 2 ^ 64 → Writes (refusedText number) e 0 f r
+    → WritesWhole (refusedText number) e f r
 tells-number number fits w = record { writes = w; short = refused-length number fits }

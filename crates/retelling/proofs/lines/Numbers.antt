@@ -47,7 +47,8 @@ digits-same zero g n a b = digits-one zero n (omega arith) ∙ sym (digits-one g
 digits-same (suc f) zero n a b = digits-one (suc f) n (omega arith) ∙ sym (digits-one zero n (omega arith))
 digits-same (suc f) (suc g) n a b = by (digits-same f g (n / 10)) (ltb n 10) refl
   where
-    by : (n / 10 ≤ f → n / 10 ≤ g → numerals f (n / 10) ≡ numerals g (n / 10)) → (t : Bool) → ltb n 10 ≡ t → numerals (suc f) n ≡ numerals (suc g) n
+    by : (n / 10 ≤ f → n / 10 ≤ g → numerals f (n / 10) ≡ numerals g (n / 10)) → (t : Bool) → ltb n 10 ≡ t
+        → numerals (suc f) n ≡ numerals (suc g) n
     by again true e = digits-one (suc f) n (ltb-true n 10 e) ∙ sym (digits-one (suc g) n (ltb-true n 10 e))
     by again false e =
         let h : 10 ≤ n = ltb-false n 10 e in
@@ -65,7 +66,8 @@ unfolding decimal
 decimal-more zero h = absurd (omega arith)
 decimal-more (suc n) h =
     let less : suc n / 10 < suc n = tenth (suc n) h in
-    digits-more n (suc n) h ∙ ap (λ (l : List ℕ). l ++ numeral (suc n % 10) ∷ []) (digits-same n (suc n / 10) (suc n / 10) (omega arith) (omega arith))
+    digits-more n (suc n) h
+    ∙ ap (λ (l : List ℕ). l ++ numeral (suc n % 10) ∷ []) (digits-same n (suc n / 10) (suc n / 10) (omega arith) (omega arith))
 
 -- ---- "hexadecimal capitals"
 pub capitals-none : (k n : ℕ) → k ≡ 0 → capitals k n ≡ []
@@ -92,7 +94,8 @@ crumbs-on i b =
 lines-append : (l : List Crumb) (c : Crumb) → crumbLines (l ++ c ∷ []) ≡ crumbLines l ++ crumbLine c
 unfolding crumbLines
 lines-append [] c = append-nil (crumbLine c)
-lines-append (a ∷ l) c = ap (λ (t : List ℕ). crumbLine a ++ t) (lines-append l c) ∙ sym (append-assoc (crumbLine a) (crumbLines l) (crumbLine c))
+lines-append (a ∷ l) c =
+    ap (λ (t : List ℕ). crumbLine a ++ t) (lines-append l c) ∙ sym (append-assoc (crumbLine a) (crumbLines l) (crumbLine c))
 
 pub lines-on : (i : ℕ) (b : List Float) → crumbLines (crumbs (i + 1) b) ≡ crumbLines (crumbs i b) ++ crumbLine (crumbAt b i)
 lines-on i b = ap crumbLines (crumbs-on i b) ∙ lines-append (crumbs i b) (crumbAt b i)
@@ -105,14 +108,17 @@ pub writes-no-capital : (k n : ℕ) {e f : List ℕ} {at r : ℕ} → k ≡ 0 �
 writes-no-capital k n h w = rw (capitals-none k n h) w
 
 module _ {e m f : List ℕ} {at x r : ℕ} where
-  pub writes-tenth : (n : ℕ) → 10 ≤ n → Writes (decimal (n / 10)) e at m x → Writes (numeral (n % 10) ∷ []) m x f r → Writes (decimal n) e at f r
+  pub writes-tenth : (n : ℕ) → 10 ≤ n → Writes (decimal (n / 10)) e at m x → Writes (numeral (n % 10) ∷ []) m x f r
+      → Writes (decimal n) e at f r
   writes-tenth n h w v = rw (decimal-more n h) (writes-then w v)
 
-  pub writes-capital : (k n : ℕ) {d : ℕ} → k ≢ 0 → d ≡ capital (n % 16) → Writes (capitals (k - 1) (n / 16)) e at m x → Writes (d ∷ []) m x f r
+  pub writes-capital : (k n : ℕ) {d : ℕ} → k ≢ 0 → d ≡ capital (n % 16) → Writes (capitals (k - 1) (n / 16)) e at m x
+      → Writes (d ∷ []) m x f r
       → Writes (capitals k n) e at f r
   writes-capital k n h d w v = rw (capitals-more k n h, ← d) (writes-then w v)
 
-  pub writes-crumb : (i : ℕ) (b : List Float) {c : Crumb} → c ≡ crumbAt b i → Writes (crumbLines (crumbs i b)) e at m x → Writes (crumbLine c) m x f r
+  pub writes-crumb : (i : ℕ) (b : List Float) {c : Crumb} → c ≡ crumbAt b i → Writes (crumbLines (crumbs i b)) e at m x
+      → Writes (crumbLine c) m x f r
       → Writes (crumbLines (crumbs (i + 1) b)) e at f r
   writes-crumb i b c w v = rw (lines-on i b, ← c) (writes-then w v)
 
@@ -125,7 +131,8 @@ pub writes-crumbs : (b : List Float) {i n : ℕ} {e f : List ℕ} {at r : ℕ} �
     → Writes (crumbLines (crumbs n b)) e at f r
 writes-crumbs b {i} {n} x y w = let same : i ≡ n = omega arith in rw same at w
 
-pub writes-rebuilt : (n : ℕ) (b : List Float) (clock : ℕ) (decided : Bool) {e m f : List ℕ} {at x r : ℕ} → Writes (firstLine n clock decided) e at m x
+pub writes-rebuilt : (n : ℕ) (b : List Float) (clock : ℕ) (decided : Bool) {e m f : List ℕ} {at x r : ℕ}
+    → Writes (firstLine n clock decided) e at m x
     → Writes (crumbLines (crumbs n b)) m x f r → Writes (rebuiltText (crumbs n b) clock decided) e at f r
 unfolding rebuiltText
 writes-rebuilt n b clock decided w v = rw (length-crumbs n b) (writes-then w v)

@@ -21,7 +21,8 @@ take-front at e = take-all (length e) (take at e) (simp length-take (omega arith
 drop-more : (x r : ℕ) (a b : List ℕ) → x ≤ r → drop x a ≡ drop x b → drop r a ≡ drop r b
 drop-more x r a b h e =
     let d : x + (r - x) ≡ r = omega arith in
-    ap (λ (k : ℕ). drop k a) (sym d) ∙ sym (drop-drop (r - x) x a) ∙ ap (λ (l : List ℕ). drop (r - x) l) e ∙ drop-drop (r - x) x b ∙ ap (λ (k : ℕ). drop k b) d
+    ap (λ (k : ℕ). drop k a) (sym d) ∙ sym (drop-drop (r - x) x a) ∙ ap (λ (l : List ℕ). drop (r - x) l) e ∙ drop-drop (r - x) x b
+    ∙ ap (λ (k : ℕ). drop k b) d
 
 pub writes-none : (e : List ℕ) (at : ℕ) → Writes [] e at e at
 writes-none e at =
@@ -37,7 +38,8 @@ pub writes-byte : (e : List ℕ) (at b : ℕ) → at < length e → Writes (b �
 writes-byte e at b h =
     let fits : length (take at e ++ b ∷ []) ≤ length e = simp (length-append, length-take) (omega arith) in
     record {
-      text = ap (λ (k : ℕ). take k (set e at b)) (add-one at) ∙ take-suc-set e at b h ∙ sym (take-all (length e) (take at e ++ b ∷ []) fits);
+      text = ap (λ (k : ℕ). take k (set e at b)) (add-one at) ∙ take-suc-set e at b h
+          ∙ sym (take-all (length e) (take at e ++ b ∷ []) fits);
       size = length-set e at b;
       on = omega arith;
       inside = λ _. omega arith;
@@ -72,10 +74,12 @@ module _ {a b e m f : List ℕ} {at x r : ℕ} (w : Writes a e at m x) (v : Writ
       }
 
 -- a word's next byte behind those before it
-pub writes-next : (word : List ℕ) (i : ℕ) {e m f : List ℕ} {at x r b : ℕ} → Writes (take i word) e at m x → i < length word → b ≡ getD word i 0 → Writes (b ∷ []) m x f r
+pub writes-next : (word : List ℕ) (i : ℕ) {e m f : List ℕ} {at x r b : ℕ} → Writes (take i word) e at m x → i < length word
+    → b ≡ getD word i 0 → Writes (b ∷ []) m x f r
     → Writes (take (i + 1) word) e at f r
 writes-next word i w h e v = rw (add-one i, take-suc word i 0 h, ← e) (writes-then w v)
 
 -- the whole word, once its last byte is passed
-pub writes-whole : (word : List ℕ) (i : ℕ) {e f : List ℕ} {at r : ℕ} → length word ≤ i → Writes (take i word) e at f r → Writes word e at f r
+pub writes-whole : (word : List ℕ) (i : ℕ) {e f : List ℕ} {at r : ℕ} → length word ≤ i → Writes (take i word) e at f r
+    → Writes word e at f r
 writes-whole word i h w = rw (take-all i word h) at w

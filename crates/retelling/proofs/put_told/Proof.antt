@@ -23,7 +23,8 @@ same-length : tie.Need-same-length
 same-length c = search needs
 
 returns : tie.Need-returns
-returns c = tells-rebuilt _ _ (c .before .before .before .before .before .enum-told .given .1) (c .before .before .before .is-decided .ensures) (c .before .before .put-rebuilt .ensures)
+returns c = tells-rebuilt _ _ (c .before .before .before .before .before .enum-told .given .1)
+    (c .before .before .before .is-decided .ensures) (c .before .before .put-rebuilt .ensures)
 
 same-length-2 : tie.Need-same-length-2
 same-length-2 c = search needs

@@ -23,7 +23,9 @@ same-length : tie.Need-same-length
 same-length c = search needs
 
 returns : tie.Need-returns
-returns c = rebuilds _ (c .before .before .before .before .before .before .before .before .before .before .before .pre) (c .before .before .before .before .before .before .before .new .ensures .fresh _) (c .before .before .before .before .new2 .ensures ∙ ap newRebuild (c .before .before .before .before .before .recovered .ensures)) (c .before .before .step .ensures)
+returns c = rebuilds _ (c .before .before .before .before .before .before .before .before .before .before .before .pre)
+    (c .before .before .before .before .before .before .before .new .ensures .fresh _) (c .before .before .before .before .new2 .ensures
+    ∙ ap newRebuild (c .before .before .before .before .before .recovered .ensures)) (c .before .before .step .ensures)
 
 pub rebuild-chain-spec : {M : Type 1} → statement M
 rebuild-chain-spec =

@@ -20,7 +20,8 @@ same-length : tie.Need-same-length
 same-length c = search needs
 
 returns : tie.Need-returns
-returns c = retells (c .before .before .before .before .before .before .before .rebuild-chain .ensures) (c .before .before .put-told .ensures)
+returns c =
+    retells (c .before .before .before .before .before .before .before .rebuild-chain .ensures) (c .before .before .put-told .ensures)
 
 pub retell-spec : {M : Type 1} → statement M
 retell-spec =

@@ -18,7 +18,8 @@ returns : tie.Need-returns
 unfolding callOf numbered
 returns c =
     let s = c .before .before .before .before .before .before .before .before .args in
-    by-number (s .clock) (s .line .now) (fixes (s .lats .now) (s .lons .now)) (c .before .before .before .before .before .if1 .taken) (c .before .before .before .set-auto-follow .ensures .called)
+    by-number (s .clock) (s .line .now) (fixes (s .lats .now) (s .lons .now)) (c .before .before .before .before .before .if1 .taken)
+    (c .before .before .before .set-auto-follow .ensures .called)
 
 set-auto-follow-requires-2 : tie.Need-set-auto-follow-requires-2
 set-auto-follow-requires-2 c κs = search needs
@@ -30,7 +31,8 @@ returns-2 : tie.Need-returns-2
 unfolding callOf numbered
 returns-2 c =
     let s = c .before .before .before .before .before .before .before .before .before .args in
-    by-number (s .clock) (s .line .now) (fixes (s .lats .now) (s .lons .now)) (c .before .before .before .before .before .if2 .taken) (c .before .before .before .set-auto-follow2 .ensures .called)
+    by-number (s .clock) (s .line .now) (fixes (s .lats .now) (s .lons .now)) (c .before .before .before .before .before .if2 .taken)
+    (c .before .before .before .set-auto-follow2 .ensures .called)
 
 place-in-requires : tie.Need-place-in-requires
 place-in-requires c κs = search needs
@@ -45,7 +47,8 @@ returns-3 : tie.Need-returns-3
 unfolding callOf numbered
 returns-3 c =
     let s = c .before .before .before .before .before .before .before .before .before .before .before .args in
-    by-number (s .clock) (s .line .now) (fixes (s .lats .now) (s .lons .now)) (c .before .before .before .before .before .before .if3 .taken)
+    by-number (s .clock) (s .line .now) (fixes (s .lats .now) (s .lons .now))
+    (c .before .before .before .before .before .before .if3 .taken)
     (at-place (c .before .before .before .before .place-in .ensures) (c .before .before .before .observe .ensures .called))
 
 replay-requires : tie.Need-replay-requires
@@ -58,7 +61,8 @@ returns-4 : tie.Need-returns-4
 unfolding callOf numbered
 returns-4 c =
     let s = c .before .before .before .before .before .before .before .before .before .before .args in
-    by-number (s .clock) (s .line .now) (fixes (s .lats .now) (s .lons .now)) (c .before .before .before .before .if4 .taken) (c .before .before .replay .ensures)
+    by-number (s .clock) (s .line .now) (fixes (s .lats .now) (s .lons .now)) (c .before .before .before .before .if4 .taken)
+    (c .before .before .replay .ensures)
 
 set-following-requires : tie.Need-set-following-requires
 set-following-requires c κs = search needs
@@ -70,7 +74,8 @@ returns-5 : tie.Need-returns-5
 unfolding callOf numbered
 returns-5 c =
     let s = c .before .before .before .before .before .before .before .before .before .before .before .before .args in
-    by-number (s .clock) (s .line .now) (fixes (s .lats .now) (s .lons .now)) (c .before .before .before .before .before .if5 .taken) (c .before .before .before .set-following .ensures .called)
+    by-number (s .clock) (s .line .now) (fixes (s .lats .now) (s .lons .now)) (c .before .before .before .before .before .if5 .taken)
+    (c .before .before .before .set-following .ensures .called)
 
 set-following-requires-2 : tie.Need-set-following-requires-2
 set-following-requires-2 c κs = search needs
@@ -82,7 +87,8 @@ returns-6 : tie.Need-returns-6
 unfolding callOf numbered
 returns-6 c =
     let s = c .before .before .before .before .before .before .before .before .before .before .before .before .before .args in
-    by-number (s .clock) (s .line .now) (fixes (s .lats .now) (s .lons .now)) (c .before .before .before .before .before .if6 .taken) (c .before .before .before .set-following2 .ensures .called)
+    by-number (s .clock) (s .line .now) (fixes (s .lats .now) (s .lons .now)) (c .before .before .before .before .before .if6 .taken)
+    (c .before .before .before .set-following2 .ensures .called)
 
 ask-lent-requires : tie.Need-ask-lent-requires
 ask-lent-requires c κs = search needs
@@ -97,7 +103,9 @@ returns-7 c =
     not-least
     (not-least
     (not-least
-    (not-least (not-least (not-least (c .before .before .before .before .before .before .before .before .before .before .pre) (c .before .before .before .before .before .before .before .if1 .left)) (c .before .before .before .before .before .before .if2 .left)) (c .before .before .before .before .before .if3 .left))
+    (not-least (not-least (not-least (c .before .before .before .before .before .before .before .before .before .before .pre)
+    (c .before .before .before .before .before .before .before .if1 .left))
+    (c .before .before .before .before .before .before .if2 .left)) (c .before .before .before .before .before .if3 .left))
     (c .before .before .before .before .if4 .left))
     (c .before .before .before .if5 .left))
     (c .before .before .if6 .left) in

@@ -42,8 +42,16 @@ loop-again : tie.Need-loop-again Inv-loop μ-loop
 loop-again c =
     let s = c .before .before .before in
     let v = c .before .before .loop .inv in
-    let j = c .before .before .loop .j in
-    (search needs, simp length-set (v .1), rw (add-one j, take-suc-set (c .before .before .loop .line) j _ (omega arith), take-suc (s .args .from .now) j nan (omega arith), v .2))
+    let j = c .before .before .loop .j in (
+      search needs,
+      simp length-set (v .1),
+      rw (
+        add-one j,
+        take-suc-set (c .before .before .loop .line) j _ (omega arith),
+        take-suc (s .args .from .now) j nan (omega arith),
+        v .2,
+      ),
+    )
 
 same-length : tie.Need-same-length Inv-loop μ-loop
 same-length c = search needs
@@ -52,7 +60,8 @@ returns : tie.Need-returns Inv-loop μ-loop
 returns c =
     let s = c .before .before in
     let v = c .before .loop .inv in
-    sym (take-all (c .before .loop .j) (c .before .loop .line) (omega arith)) ∙ v .2 ∙ take-all (c .before .loop .j) (s .args .from .now) (omega arith)
+    sym (take-all (c .before .loop .j) (c .before .loop .line) (omega arith)) ∙ v .2
+    ∙ take-all (c .before .loop .j) (s .args .from .now) (omega arith)
 
 pub fill-spec : {M : Type 1} → statement M
 fill-spec =

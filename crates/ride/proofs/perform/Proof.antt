@@ -76,89 +76,148 @@ same-length-2 c = c .before .before .before .before .before .loop .inv .room
 
 returns : tie.Need-returns Inv-loop μ-loop
 returns c =
-    breaks-off (c .before .before .before .before .before .loop .inv) (c .before .before .before .before .loop-test .taken) (c .before .readable .ensures) (c .if1 .taken)
+    breaks-off (c .before .before .before .before .before .loop .inv) (c .before .before .before .before .loop-test .taken)
+    (c .before .readable .ensures) (c .if1 .taken)
 
 add-end : tie.Need-add-end Inv-loop μ-loop
 add-end c =
-    let t = there (c .before .before .before .before .before .loop .inv) (c .before .before .before .before .loop-test .taken) (c .before .readable .ensures) (c .if1 .left) .line in omega (arith, c .before .before .before .before .before .before .before .before .before .before .before .before .before .before .before .good .1 .1 .1 .1 .1 .1 .1 .0 .0)
+    let t = there (c .before .before .before .before .before .loop .inv) (c .before .before .before .before .loop-test .taken)
+    (c .before .readable .ensures) (c .if1 .left) .line in omega (
+      arith,
+      c .before .before .before .before .before .before .before .before .before .before .before .before .before .before .before .good .1 .1 .1 .1 .1 .1 .1 .0 .0,
+    )
 
 add-last : tie.Need-add-last Inv-loop μ-loop
 add-last c =
-    let t = there (c .before .before .before .before .before .loop .inv) (c .before .before .before .before .loop-test .taken) (c .before .readable .ensures) (c .if1 .left) in omega arith
+    let t = there (c .before .before .before .before .before .loop .inv)
+    (c .before .before .before .before .loop-test .taken) (c .before .readable .ensures) (c .if1 .left) in
+    omega arith
 
 slice-relend-prefix-step : tie.Need-slice-relend-prefix-step Inv-loop μ-loop
 slice-relend-prefix-step c =
-    let t = there (c .before .before .before .before .before .before .loop .inv) (c .before .before .before .before .before .loop-test .taken) (c .before .before .readable .ensures) (c .before .if1 .left) in
+    let t = there (c .before .before .before .before .before .before .loop .inv)
+    (c .before .before .before .before .before .loop-test .taken) (c .before .before .readable .ensures) (c .before .if1 .left) in
     let r = c .before .before .before .before .before .before .loop .inv .room in
     omega arith
 
 slice-aggregate-step : tie.Need-slice-aggregate-step Inv-loop μ-loop
 slice-aggregate-step c =
-    let t = there (c .before .before .before .before .before .before .before .loop .inv) (c .before .before .before .before .before .before .loop-test .taken) (c .before .before .before .readable .ensures) (c .before .before .if1 .left) in
+    let t = there (c .before .before .before .before .before .before .before .loop .inv)
+    (c .before .before .before .before .before .before .loop-test .taken) (c .before .before .before .readable .ensures)
+    (c .before .before .if1 .left) in
     let r = c .before .before .before .before .before .before .before .loop .inv .room in
     front-counted _ _ (omega arith)
 
 mul-step : tie.Need-mul-step Inv-loop μ-loop
 mul-step c =
-    let t = there (c .before .before .before .before .before .before .before .loop .inv) (c .before .before .before .before .before .before .loop-test .taken) (c .before .before .before .readable .ensures) (c .before .before .if1 .left) .line in omega (arith, c .before .before .before .before .before .before .before .before .before .before .before .before .before .before .before .before .before .good .1 .1 .1 .1 .1 .1 .1 .0 .1)
+    let t = there (c .before .before .before .before .before .before .before .loop .inv)
+    (c .before .before .before .before .before .before .loop-test .taken)
+    (c .before .before .before .readable .ensures) (c .before .before .if1 .left) .line in omega (
+      arith,
+      c .before .before .before .before .before .before .before .before .before .before .before .before .before .before .before .before .before .good .1 .1 .1 .1 .1 .1 .1 .0 .1,
+    )
 
 sub-step : tie.Need-sub-step Inv-loop μ-loop
 sub-step c =
-    let t = there (c .before .before .before .before .before .before .before .loop .inv) (c .before .before .before .before .before .before .loop-test .taken) (c .before .before .before .readable .ensures) (c .before .before .if1 .left) in omega arith
+    let t = there (c .before .before .before .before .before .before .before .loop .inv)
+    (c .before .before .before .before .before .before .loop-test .taken) (c .before .before .before .readable .ensures)
+    (c .before .before .if1 .left) in omega arith
 
 part-step-start : tie.Need-part-step-start Inv-loop μ-loop
 part-step-start c =
-    let t = there (c .before .before .before .before .before .before .before .loop .inv) (c .before .before .before .before .before .before .loop-test .taken) (c .before .before .before .readable .ensures) (c .before .before .if1 .left) in omega arith
+    let t = there (c .before .before .before .before .before .before .before .loop .inv)
+    (c .before .before .before .before .before .before .loop-test .taken) (c .before .before .before .readable .ensures)
+    (c .before .before .if1 .left) in omega arith
 
 part-step-end : tie.Need-part-step-end Inv-loop μ-loop
 part-step-end c =
-    let t = there (c .before .before .before .before .before .before .before .loop .inv) (c .before .before .before .before .before .before .loop-test .taken) (c .before .before .before .readable .ensures) (c .before .before .if1 .left) in omega arith
+    let t = there (c .before .before .before .before .before .before .before .loop .inv)
+    (c .before .before .before .before .before .before .loop-test .taken) (c .before .before .before .readable .ensures)
+    (c .before .before .if1 .left) in omega arith
 
 mul-step-2 : tie.Need-mul-step-2 Inv-loop μ-loop
 mul-step-2 c =
-    let t = there (c .before .before .before .before .before .before .before .before .loop .inv) (c .before .before .before .before .before .before .before .loop-test .taken) (c .before .before .before .before .readable .ensures) (c .before .before .before .if1 .left) .lats in omega (arith, c .before .before .before .before .before .before .before .before .before .before .before .before .before .before .before .before .before .before .good .1 .1 .1 .1 .1 .1 .1 .1 .0 .1)
+    let t = there (c .before .before .before .before .before .before .before .before .loop .inv)
+    (c .before .before .before .before .before .before .before .loop-test .taken)
+    (c .before .before .before .before .readable .ensures) (c .before .before .before .if1 .left) .lats in omega (
+      arith,
+      c .before .before .before .before .before .before .before .before .before .before .before .before .before .before .before .before .before .before .good .1 .1 .1 .1 .1 .1 .1 .1 .0 .1,
+    )
 
 sub-step-2 : tie.Need-sub-step-2 Inv-loop μ-loop
 sub-step-2 c =
-    let t = there (c .before .before .before .before .before .before .before .before .loop .inv) (c .before .before .before .before .before .before .before .loop-test .taken) (c .before .before .before .before .readable .ensures) (c .before .before .before .if1 .left) in omega arith
+    let t = there (c .before .before .before .before .before .before .before .before .loop .inv)
+    (c .before .before .before .before .before .before .before .loop-test .taken)
+    (c .before .before .before .before .readable .ensures) (c .before .before .before .if1 .left) in
+    omega arith
 
 part-step-start-2 : tie.Need-part-step-start-2 Inv-loop μ-loop
 part-step-start-2 c =
-    let t = there (c .before .before .before .before .before .before .before .before .loop .inv) (c .before .before .before .before .before .before .before .loop-test .taken) (c .before .before .before .before .readable .ensures) (c .before .before .before .if1 .left) in omega arith
+    let t = there (c .before .before .before .before .before .before .before .before .loop .inv)
+    (c .before .before .before .before .before .before .before .loop-test .taken)
+    (c .before .before .before .before .readable .ensures) (c .before .before .before .if1 .left) in
+    omega arith
 
 part-step-end-2 : tie.Need-part-step-end-2 Inv-loop μ-loop
 part-step-end-2 c =
-    let t = there (c .before .before .before .before .before .before .before .before .loop .inv) (c .before .before .before .before .before .before .before .loop-test .taken) (c .before .before .before .before .readable .ensures) (c .before .before .before .if1 .left) in omega arith
+    let t = there (c .before .before .before .before .before .before .before .before .loop .inv)
+    (c .before .before .before .before .before .before .before .loop-test .taken)
+    (c .before .before .before .before .readable .ensures) (c .before .before .before .if1 .left) in
+    omega arith
 
 mul-step-3 : tie.Need-mul-step-3 Inv-loop μ-loop
 mul-step-3 c =
-    let t = there (c .before .before .before .before .before .before .before .before .before .loop .inv) (c .before .before .before .before .before .before .before .before .loop-test .taken) (c .before .before .before .before .before .readable .ensures) (c .before .before .before .before .if1 .left) .lons in omega (arith, c .before .before .before .before .before .before .before .before .before .before .before .before .before .before .before .before .before .before .before .good .1 .1 .1 .1 .1 .1 .1 .1 .1 .0 .1)
+    let t = there (c .before .before .before .before .before .before .before .before .before .loop .inv)
+    (c .before .before .before .before .before .before .before .before .loop-test .taken)
+    (c .before .before .before .before .before .readable .ensures) (c .before .before .before .before .if1 .left) .lons in omega (
+      arith,
+      c .before .before .before .before .before .before .before .before .before .before .before .before .before .before .before .before .before .before .before .good .1 .1 .1 .1 .1 .1 .1 .1 .1 .0 .1,
+    )
 
 sub-step-3 : tie.Need-sub-step-3 Inv-loop μ-loop
 sub-step-3 c =
-    let t = there (c .before .before .before .before .before .before .before .before .before .loop .inv) (c .before .before .before .before .before .before .before .before .loop-test .taken) (c .before .before .before .before .before .readable .ensures) (c .before .before .before .before .if1 .left) in omega arith
+    let t = there (c .before .before .before .before .before .before .before .before .before .loop .inv)
+    (c .before .before .before .before .before .before .before .before .loop-test .taken)
+    (c .before .before .before .before .before .readable .ensures) (c .before .before .before .before .if1 .left) in
+    omega arith
 
 part-step-start-3 : tie.Need-part-step-start-3 Inv-loop μ-loop
 part-step-start-3 c =
-    let t = there (c .before .before .before .before .before .before .before .before .before .loop .inv) (c .before .before .before .before .before .before .before .before .loop-test .taken) (c .before .before .before .before .before .readable .ensures) (c .before .before .before .before .if1 .left) in omega arith
+    let t = there (c .before .before .before .before .before .before .before .before .before .loop .inv)
+    (c .before .before .before .before .before .before .before .before .loop-test .taken)
+    (c .before .before .before .before .before .readable .ensures) (c .before .before .before .before .if1 .left) in
+    omega arith
 
 part-step-end-3 : tie.Need-part-step-end-3 Inv-loop μ-loop
 part-step-end-3 c =
-    let t = there (c .before .before .before .before .before .before .before .before .before .loop .inv) (c .before .before .before .before .before .before .before .before .loop-test .taken) (c .before .before .before .before .before .readable .ensures) (c .before .before .before .before .if1 .left) in omega arith
+    let t = there (c .before .before .before .before .before .before .before .before .before .loop .inv)
+    (c .before .before .before .before .before .before .before .before .loop-test .taken)
+    (c .before .before .before .before .before .readable .ensures) (c .before .before .before .before .if1 .left) in
+    omega arith
 
 shared-slice-read-step : tie.Need-shared-slice-read-step Inv-loop μ-loop
-shared-slice-read-step c = written (c .before .before .before .before .before .before .before .before .before .before .before .loop .inv) (c .before .before .before .before .before .before .before .before .before .before .loop-test .taken) .op
+shared-slice-read-step c = written (c .before .before .before .before .before .before .before .before .before .before .before .loop .inv)
+    (c .before .before .before .before .before .before .before .before .before .before .loop-test .taken) .op
 
 mul-step-4 : tie.Need-mul-step-4 Inv-loop μ-loop
 mul-step-4 c =
-    let w = written (c .before .before .before .before .before .before .before .before .before .before .before .loop .inv) (c .before .before .before .before .before .before .before .before .before .before .loop-test .taken) .clock in omega (arith, c .before .before .before .before .before .before .before .before .before .before .before .before .before .before .before .before .before .before .before .before .before .good .1 .1 .1 .1 .0 .1)
+    let w = written (c .before .before .before .before .before .before .before .before .before .before .before .loop .inv)
+    (c .before .before .before .before .before .before .before .before .before .before .loop-test .taken) .clock in omega (
+      arith,
+      c .before .before .before .before .before .before .before .before .before .before .before .before .before .before .before .before .before .before .before .before .before .good .1 .1 .1 .1 .0 .1,
+    )
 
 shared-slice-read-step-2 : tie.Need-shared-slice-read-step-2 Inv-loop μ-loop
-shared-slice-read-step-2 c = written (c .before .before .before .before .before .before .before .before .before .before .before .before .loop .inv) (c .before .before .before .before .before .before .before .before .before .before .before .loop-test .taken) .clock
+shared-slice-read-step-2 c =
+    written (c .before .before .before .before .before .before .before .before .before .before .before .before .loop .inv)
+    (c .before .before .before .before .before .before .before .before .before .before .before .loop-test .taken) .clock
 
 step-requires : tie.Need-step-requires Inv-loop μ-loop
 step-requires c κs =
-    let t = there (c .before .before .before .before .before .before .before .before .before .before .before .before .loop .inv) (c .before .before .before .before .before .before .before .before .before .before .before .loop-test .taken) (c .before .before .before .before .before .before .before .before .readable .ensures) (c .before .before .before .before .before .before .before .if1 .left) in
+    let t = there (c .before .before .before .before .before .before .before .before .before .before .before .before .loop .inv)
+    (c .before .before .before .before .before .before .before .before .before .before .before .loop-test .taken)
+    (c .before .before .before .before .before .before .before .before .readable .ensures)
+    (c .before .before .before .before .before .before .before .if1 .left) in
     let r = c .before .before .before .before .before .before .before .before .before .before .before .before .loop .inv .room in
     as-long _ _ _ _ (omega arith) (t .line)
 
@@ -168,14 +227,19 @@ add-k c =
 
 loop-less : tie.Need-loop-less Inv-loop μ-loop
 loop-less c =
-    let more = c .before .before .before .before .before .before .before .before .before .before .before .before .before .before .before .before .loop-test .taken in omega arith
+    let more = c .before .before .before .before .before .before .before .before .before .before .before .before .before .before .before .before .loop-test .taken in
+    omega arith
 
 loop-again : tie.Need-loop-again Inv-loop μ-loop
 loop-again c =
     let k = c .before .before .before .before .before .before .before .before .before .before .before .before .before .before .before .before .before .loop .k in
     let line = c .before .before .before .before .before .before .before .before .before .before .before .before .before .before .before .before .before .loop .line in
-    goes-on (c .before .before .before .before .before .before .before .before .before .before .before .before .before .before .before .before .before .loop .inv) (c .before .before .before .before .before .before .before .before .before .before .before .before .before .before .before .before .loop-test .taken) (c .before .before .before .before .before .before .before .before .before .before .before .before .before .readable .ensures) (c .before .before .before .before .before .before .before .before .before .before .before .before .if1 .left)
-    (length-front line (c .before .before .before .before .step .last .1 .1 .0) (getD (c .before .before .before .before .before .before .before .before .before .before .before .before .before .before .before .before .before .before .before .before .before .before .before .before .before .before .before .args .sizes .now) k 0) (c .before .before .before .before .step .kept .1 .1 .0)) (c .before .before .before .before .step .ensures)
+    goes-on (c .before .before .before .before .before .before .before .before .before .before .before .before .before .before .before .before .before .loop .inv) (c .before .before .before .before .before .before .before .before .before .before .before .before .before .before .before .before .loop-test .taken)
+    (c .before .before .before .before .before .before .before .before .before .before .before .before .before .readable .ensures)
+    (c .before .before .before .before .before .before .before .before .before .before .before .before .if1 .left)
+    (length-front line (c .before .before .before .before .step .last .1 .1 .0) (getD
+    (c .before .before .before .before .before .before .before .before .before .before .before .before .before .before .before .before .before .before .before .before .before .before .before .before .before .before .before .args .sizes .now) k 0)
+    (c .before .before .before .before .step .kept .1 .1 .0)) (c .before .before .before .before .step .ensures)
 
 same-length-3 : tie.Need-same-length-3 Inv-loop μ-loop
 same-length-3 c = c .before .loop .inv .long

@@ -20,13 +20,16 @@ same-length c = search needs
 returns : tie.Need-returns
 returns c =
     let s = c .before .before .before .before .before .before .before .before .args in
-    at-fix (sym (no-fix (s .lats .now) (s .lons .now) (sym (c .before .before .before .before .before .before .count .ensures) ∙ c .before .before .before .before .before .if1 .taken))) (c .before .before .before .replay .ensures .called)
+    at-fix (sym (no-fix (s .lats .now) (s .lons .now) (sym (c .before .before .before .before .before .before .count .ensures)
+    ∙ c .before .before .before .before .before .if1 .taken))) (c .before .before .before .replay .ensures .called)
 
 shared-slice-copy-out-replay : tie.Need-shared-slice-copy-out-replay
-shared-slice-copy-out-replay c = let s = c .before .before .before .before .args in omega (arith, length-fixes (s .lats .now) (s .lons .now))
+shared-slice-copy-out-replay c = let s = c .before .before .before .before .args in
+    omega (arith, length-fixes (s .lats .now) (s .lons .now))
 
 shared-slice-copy-out-replay-2 : tie.Need-shared-slice-copy-out-replay-2
-shared-slice-copy-out-replay-2 c = let s = c .before .before .before .before .before .args in omega (arith, length-fixes (s .lats .now) (s .lons .now))
+shared-slice-copy-out-replay-2 c = let s = c .before .before .before .before .before .args in
+    omega (arith, length-fixes (s .lats .now) (s .lons .now))
 
 replay-requires-2 : tie.Need-replay-requires-2
 replay-requires-2 c κs = search needs
@@ -38,7 +41,9 @@ returns-2 : tie.Need-returns-2
 returns-2 c =
     let s = c .before .before .before .before .before .before .before .before .before .before .args in
     at-fix
-    (first-fix (s .lats .now) (s .lons .now) (λ none. c .before .before .before .before .before .before .before .if1 .left (c .before .before .before .before .before .before .before .before .count .ensures ∙ none)) (c .before .before .before .before .before .replay-arg3 .given) (c .before .before .before .before .replay-arg4 .given))
+    (first-fix (s .lats .now) (s .lons .now) (λ none. c .before .before .before .before .before .before .before .if1 .left
+    (c .before .before .before .before .before .before .before .before .count .ensures ∙ none))
+    (c .before .before .before .before .before .replay-arg3 .given) (c .before .before .before .before .replay-arg4 .given))
     (c .before .before .before .replay2 .ensures .called)
 
 pub replay-spec : {M : Type 1} → statement M

@@ -20,7 +20,9 @@ same-length-2 : tie.Need-same-length-2
 same-length-2 c = search needs
 
 returns : tie.Need-returns
-returns c = rides (c .before .before .before .before .before .before .before .before .before .new .ensures) (c .before .before .before .before .before .before .before .enum-told .given .1) (c .before .before .before .before .perform .ensures) (c .before .before .before .before .perform .kept .1 .1 .0)
+returns c = rides (c .before .before .before .before .before .before .before .before .before .new .ensures)
+    (c .before .before .before .before .before .before .before .enum-told .given .1) (c .before .before .before .before .perform .ensures)
+    (c .before .before .before .before .perform .kept .1 .1 .0)
 
 enum-told-2 : tie.Need-enum-told-2
 enum-told-2 c = search needs

@@ -15,7 +15,8 @@ returns : tie.Need-returns
 unfolding callOf numbered
 returns c =
     let s = c .before .before .before .before .before .before .args in
-    by-number (s .clock) (s .from .now) (fixes (s .lats .now) (s .lons .now)) (c .before .before .if1 .taken) (c .before .reset .ensures .called (s .crumbs .now))
+    by-number (s .clock) (s .from .now) (fixes (s .lats .now) (s .lons .now)) (c .before .before .if1 .taken)
+    (c .before .reset .ensures .called (s .crumbs .now))
 
 end-replay-requires : tie.Need-end-replay-requires
 end-replay-requires c κs = search needs
@@ -24,7 +25,8 @@ returns-2 : tie.Need-returns-2
 unfolding callOf numbered
 returns-2 c =
     let s = c .before .before .before .before .before .before .before .args in
-    by-number (s .clock) (s .from .now) (fixes (s .lats .now) (s .lons .now)) (c .before .before .if2 .taken) (c .before .end-replay .ensures .called (s .crumbs .now))
+    by-number (s .clock) (s .from .now) (fixes (s .lats .now) (s .lons .now)) (c .before .before .if2 .taken)
+    (c .before .end-replay .ensures .called (s .crumbs .now))
 
 fill-requires : tie.Need-fill-requires
 fill-requires c κs = search needs
@@ -38,9 +40,12 @@ same-length c = search needs
 returns-3 : tie.Need-returns-3
 unfolding callOf numbered
 returns-3 c =
-    let s = c .before .before .before .before .before .before .before .before .before .before .before .before .before .before .before .args in
-    by-number (s .clock) (s .from .now) (fixes (s .lats .now) (s .lons .now)) (c .before .before .before .before .before .before .before .before .before .if3 .taken)
-    (on-copy (c .before .before .before .before .before .before .before .fill .ensures) (c .before .before .before .set-course .ensures .called (s .crumbs .now)))
+    let s =
+    c .before .before .before .before .before .before .before .before .before .before .before .before .before .before .before .args in
+    by-number (s .clock) (s .from .now) (fixes (s .lats .now) (s .lons .now))
+    (c .before .before .before .before .before .before .before .before .before .if3 .taken)
+    (on-copy (c .before .before .before .before .before .before .before .fill .ensures)
+    (c .before .before .before .set-course .ensures .called (s .crumbs .now)))
 
 call-requires : tie.Need-call-requires
 call-requires c κs =

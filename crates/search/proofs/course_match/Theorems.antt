@@ -33,7 +33,8 @@ module _ (line : List Crumb) (p : Point) (ends : Range) (first : 1 ≤ ends .fro
   unfolding settled
   settled-met near kept = by-test (slidesBack line was near)
     where
-      by-test : (b : Bool) → OnlyMet line p ends (elim b [ true ↦ firstFound (inReach line p ends (was .along) (Ahead (was .heading))) (Found near) | false ↦ Found near ])
+      by-test : (b : Bool) → OnlyMet line p ends
+          (elim b [ true ↦ firstFound (inReach line p ends (was .along) (Ahead (was .heading))) (Found near) | false ↦ Found near ])
       by-test true = either-met _ (Found near) (reach-met (Ahead (was .heading))) kept
       by-test false = kept
 
@@ -46,6 +47,7 @@ module _ (line : List Crumb) (p : Point) (ends : Range) (first : 1 ≤ ends .fro
   unfolding nearestOnCourse
   course-met = by-test (afterGap (was .fix) p)
     where
-      by-test : (b : Bool) → OnlyMet line p ends (elim b [ true ↦ inReach line p ends (was .along) Plain | false ↦ matched line p ends was (onNear line p ends was) ])
+      by-test : (b : Bool) → OnlyMet line p ends
+          (elim b [ true ↦ inReach line p ends (was .along) Plain | false ↦ matched line p ends was (onNear line p ends was) ])
       by-test true = reach-met Plain
       by-test false = matched-met (onNear line p ends was) near-met

@@ -37,7 +37,8 @@ loop-again c = (
 
 returns : tie.Need-returns Inv-loop μ-loop
 returns c =
-    sym (ends-here _ _ _ (simp length-crumbs (c .before .before .before .loop-test .taken)) (c .before .before .crumb .ensures) (c .if1 .left))
+    sym (ends-here _ _ _ (simp length-crumbs (c .before .before .before .loop-test .taken)) (c .before .before .crumb .ensures)
+    (c .if1 .left))
     ∙ c .before .before .before .before .loop .inv .1
 
 returns-2 : tie.Need-returns-2 Inv-loop μ-loop

@@ -1,4 +1,5 @@
--- `search::joins` meets its contract: the tests are the rule's, and what its square says is further off than 25 m is not joined. Assumes nothing.
+-- `search::joins` meets its contract: the tests are the rule's, and what its square says is further off than 25 m is not joined. Assumes
+-- nothing.
 use borrow.Author.Needs.{needs}
 use lib.Ieee.{ofBits}
 use Rattle.binary32.specs.Arithmetic.{constant}
@@ -24,7 +25,8 @@ returns c =
     let d = c .before in
     let g = d .before .before .before .args in
     let e = d .off-square .ensures in
-    let k = not-joined (g .p) (point (g .a)) (point (g .b)) (simp (← d .before .before .point .ensures, ← d .before .point2 .ensures, ← e) (flip _ (c .if1 .taken))) in
+    let k = not-joined (g .p) (point (g .a)) (point (g .b))
+    (simp (← d .before .before .point .ensures, ← d .before .point2 .ensures, ← e) (flip _ (c .if1 .taken))) in
     simp k
 
 off-segment-requires : tie.Need-off-segment-requires
@@ -37,7 +39,13 @@ returns-2 : tie.Need-returns-2
 unfolding joins joinM constant ofBits
 returns-2 c =
     let d = c .before .before .before .before .before in
-    simp (← d .before .point .ensures, ← d .point2 .ensures, ← c .before .before .off-segment .ensures, c .before .if2 .taken, c .same-way .ensures)
+    simp (
+      ← d .before .point .ensures,
+      ← d .point2 .ensures,
+      ← c .before .before .off-segment .ensures,
+      c .before .if2 .taken,
+      c .same-way .ensures,
+    )
 
 returns-3 : tie.Need-returns-3
 unfolding joins joinM constant ofBits

@@ -34,7 +34,8 @@ returns-2 c =
 returns-3 : tie.Need-returns-3
 returns-3 c =
     let d = c .before .before in
-    far-ahead _ _ _ _ (d .off-square .ensures ∙ simp (d .before .before .point .ensures, d .before .point2 .ensures)) (c .enum-told3 .given .1)
+    far-ahead _ _ _ _ (d .off-square .ensures ∙ simp (d .before .before .point .ensures, d .before .point2 .ensures))
+    (c .enum-told3 .given .1)
 
 pub too-far-spec : {M : Type 1} → statement M
 too-far-spec =

@@ -19,7 +19,11 @@ unfolding reset unheaded
 returns c =
     let s = c .before .before .before .before .before .before .before in
     record {
-      same = λ b. simp (s .reset .ensures (s .before .before .args .h .window) .same b, c .before .before .awaiting .ensures, c .before .no-lap .ensures);
+      same = λ b. simp (
+        s .reset .ensures (s .before .before .args .h .window) .same b,
+        c .before .before .awaiting .ensures,
+        c .before .no-lap .ensures,
+      );
       trail = s .reset .ensures;
     }
 

@@ -27,7 +27,8 @@ returns c =
     let g = c .before .before .before .before .before .before .before .before .before .before .args in
     let k = c .before .before .before .before .before .before .place in
     let off = c .before .before .off-course in
-    course-set (fixes (now (g .lats)) (now (g .lons))) (g .h) (off .result) _ (k .result) (c .before .before .before .waits .result) (now (g .line)) (k .last .1 .1 .1 .0)
+    course-set (fixes (now (g .lats)) (now (g .lons))) (g .h) (off .result) _ (k .result) (c .before .before .before .waits .result)
+    (now (g .line)) (k .last .1 .1 .1 .0)
     (off .ensures) (k .ensures) (c .before .before .before .waits .ensures) (c .lined .ensures) (λ b. refl) refl
 
 pub set-course-spec : {M : Type 1} → statement M

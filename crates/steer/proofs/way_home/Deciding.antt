@@ -34,7 +34,8 @@ use Rattle.steer.proofs.way_home.Fitting.{line-flushed, line-stopped, i
 
 -- ---- one rule for another
 -- a rule that is another at this state
-pub follows-as : {A B : Type 0} (rule : ℕ → State → Done A) (other : ℕ → State → Done B) (h : Homing) (entry : List Float) (r : Homing) (exit : List Float)
+pub follows-as : {A B : Type 0} (rule : ℕ → State → Done A) (other : ℕ → State → Done B) (h : Homing) (entry : List Float) (r : Homing)
+    (exit : List Float)
     → rule (capacity (length entry)) (stateOf h entry) .state ≡ other (capacity (length entry)) (stateOf h entry) .state
     → Follows other h entry r exit → Follows rule h entry r exit
 follows-as rule other h entry r exit is f = record { same = f .same ∙ sym is; fit = f .fit; size = f .size; beyond = f .beyond }
@@ -49,12 +50,14 @@ decides-as rule other h entry r exit is d =
     }
 
 -- one that changes nothing
-pub decides-still : (answer : Bool) (h : Homing) (b : List Float) → trail.TrailFit (h .trail) (length b) → Decides (λ C s. done answer s) h b (record { homing = h; yes = answer }) b
+pub decides-still : (answer : Bool) (h : Homing) (b : List Float) → trail.TrailFit (h .trail) (length b)
+    → Decides (λ C s. done answer s) h b (record { homing = h; yes = answer }) b
 decides-still answer h b f = record { answered = refl; follows = record { same = refl; fit = f; size = refl; beyond = refl } }
 
 -- ---- one rule after another
 -- what came before left the trail alone
-pub decides-from : (before : State → State) (rule : ℕ → State → Done Bool) (h g : Homing) (entry : List Float) (r : Answered) (exit : List Float) → Changes before h g
+pub decides-from : (before : State → State) (rule : ℕ → State → Done Bool) (h g : Homing) (entry : List Float) (r : Answered)
+    (exit : List Float) → Changes before h g
     → Decides rule g entry r exit → Decides (λ C s. rule C (before s)) h entry r exit
 decides-from before rule h g entry r exit c d =
     let C = capacity (length entry) in
@@ -65,12 +68,14 @@ decides-from before rule h g entry r exit c d =
             same = d .follows .same ∙ ap (λ (s : State). rule C s .state) (c .same entry);
             fit = d .follows .fit;
             size = d .follows .size;
-            beyond = subst (λ (x : Trail). behind (max (x .len) (r .homing .trail .len)) exit ≡ behind (max (x .len) (r .homing .trail .len)) entry) (c .trail) (d .follows .beyond);
+            beyond = subst (λ (x : Trail). behind (max (x .len) (r .homing .trail .len)) exit
+                ≡ behind (max (x .len) (r .homing .trail .len)) entry) (c .trail) (d .follows .beyond);
           };
     }
 
 -- what came before asked, and kept no crumb
-pub decides-asked : (ask : State → Done Bool) (rule : Bool → ℕ → State → Done Bool) (h : Homing) (a : Answered) (entry : List Float) (r : Answered) (exit : List Float) → Asks ask h entry a
+pub decides-asked : (ask : State → Done Bool) (rule : Bool → ℕ → State → Done Bool) (h : Homing) (a : Answered) (entry : List Float)
+    (r : Answered) (exit : List Float) → Asks ask h entry a
     → Decides (rule (a .yes)) (a .homing) entry r exit → Decides (λ C s. andThen (ask s) λ b after. rule b C after) h entry r exit
 decides-asked ask rule h a entry r exit k d =
     let C = capacity (length entry) in
@@ -88,12 +93,14 @@ decides-asked ask rule h a entry r exit k d =
                 ∙ ap (λ (t : State). rule (ask s .answer) C t .state) (k .same);
             fit = d .follows .fit;
             size = d .follows .size;
-            beyond = subst (λ (n : ℕ). behind (max n (r .homing .trail .len)) exit ≡ behind (max n (r .homing .trail .len)) entry) (k .held .len) (d .follows .beyond);
+            beyond = subst (λ (n : ℕ). behind (max n (r .homing .trail .len)) exit ≡ behind (max n (r .homing .trail .len)) entry)
+                (k .held .len) (d .follows .beyond);
           };
     }
 
 -- what comes after keeps no crumb
-module _ {A : Type 0} (first : ℕ → State → Done A) (rule : ℕ → State → Done Bool) (h m : Homing) (entry mid : List Float) (r : Answered) (exit : List Float) where
+module _ {A : Type 0} (first : ℕ → State → Done A) (rule : ℕ → State → Done Bool) (h m : Homing) (entry mid : List Float) (r : Answered)
+    (exit : List Float) where
   abbrev C : ℕ
   C = capacity (length entry)
 
@@ -108,7 +115,8 @@ module _ {A : Type 0} (first : ℕ → State → Done A) (rule : ℕ → State �
   beyond-both : Follows first h entry m mid → Follows rule m mid (r .homing) exit → r .homing .trail .len ≡ m .trail .len
       → behind (max (h .trail .len) (r .homing .trail .len)) exit ≡ behind (max (h .trail .len) (r .homing .trail .len)) entry
   beyond-both f d len =
-      behind-more (max (m .trail .len) (r .homing .trail .len)) (max (h .trail .len) (r .homing .trail .len)) exit mid (omega (arith, len)) (d .beyond)
+      behind-more (max (m .trail .len) (r .homing .trail .len)) (max (h .trail .len) (r .homing .trail .len)) exit mid (omega (arith, len))
+      (d .beyond)
       ∙ subst (λ (n : ℕ). behind (max (h .trail .len) n) mid ≡ behind (max (h .trail .len) n) entry) (sym len) (f .beyond)
 
   pub decides-then : Follows first h entry m mid → Decides rule m mid r exit
@@ -122,7 +130,8 @@ module _ {A : Type 0} (first : ℕ → State → Done A) (rule : ℕ → State �
               same = d .follows .same ∙ ap (λ (x : Done Bool). x .state) (goes-on f);
               fit = d .follows .fit;
               size = d .follows .size ∙ f .size;
-              beyond = beyond-both f (d .follows) (same-len (ap (λ (s : State). s .track .crumbs) (d .follows .same) ∙ keeps (capacity (length mid))));
+              beyond = beyond-both f (d .follows)
+                  (same-len (ap (λ (s : State). s .track .crumbs) (d .follows .same) ∙ keeps (capacity (length mid))));
             };
       }
 
@@ -136,13 +145,19 @@ module _ (h : Homing) (entry lent : List Float) (now : ℕ) where
       (ap (λ (x : Spot). updateHere x (capacity (length entry)) (courseOf h lent) now (stateOf h entry)) n)
       (decides-still true h entry f)
 
-  pub brought-at : (p : Point) (t : Told) (exit : List Float) → h .here ≡ At p → Updates (λ C. update C (courseOf h lent) p now) h entry t exit
+  pub brought-at : (p : Point) (t : Told) (exit : List Float) → h .here ≡ At p
+      → Updates (λ C. update C (courseOf h lent) p now) h entry t exit
       → Decides (λ C. brought C (courseOf h lent) now) h entry (record { homing = t .homing; yes = true }) exit
   unfolding brought updateHere
   brought-at p t exit n u =
-      decides-as (λ C. brought C (courseOf h lent) now) (λ C s. andThen (update C (courseOf h lent) p now s) λ _ after. done true after) h entry _ exit
+      decides-as (λ C. brought C (courseOf h lent) now)
+      (λ C s. andThen (update C (courseOf h lent) p now s) λ _ after. done true after) h entry _ exit
       (ap (λ (x : Spot). updateHere x (capacity (length entry)) (courseOf h lent) now (stateOf h entry)) n)
-      (record { answered = refl; follows = record { same = u .follows .same; fit = u .follows .fit; size = u .follows .size; beyond = u .follows .beyond } })
+      (record {
+        answered = refl;
+        follows =
+            record { same = u .follows .same; fit = u .follows .fit; size = u .follows .size; beyond = u .follows .beyond };
+      })
 
 -- ---- the way home
 module _ (h f : Homing) (e r : Answered) (entry mid exit lent : List Float) (now : ℕ) where
@@ -154,7 +169,8 @@ module _ (h f : Homing) (e r : Answered) (entry mid exit lent : List Float) (now
       let course = courseOf h lent in
       let placed : courseOf f lent ≡ course = ap (λ (n : ℕ). crumbs n lent) (line-flushed h f entry mid d) in
       let asked : Asks (engage course now) f mid e = subst (λ (l : List Crumb). Asks (engage l now) f mid e) placed a in
-      let still : courseOf (e .homing) lent ≡ course = ap (λ (n : ℕ). crumbs n lent) (line-home f e course now mid asked ∙ line-flushed h f entry mid d) in
+      let still : courseOf (e .homing) lent ≡ course =
+      ap (λ (n : ℕ). crumbs n lent) (line-home f e course now mid asked ∙ line-flushed h f entry mid d) in
       let decided : Decides (λ C. engagedOr (e .yes) C course now) (e .homing) mid r exit
       = subst (λ (l : List Crumb). Decides (λ C. engagedOr (e .yes) C l now) (e .homing) mid r exit) still k
       in
@@ -164,7 +180,8 @@ module _ (h f : Homing) (e r : Answered) (entry mid exit lent : List Float) (now
 
 -- ---- the course
 module _ (h g : Homing) (near : Nearest) (r : Answered) (entry exit lent : List Float) (now : ℕ) where
-  pub goes-on-course : Changes (engageAt (courseOf h lent) line.Course (near .end) now) h g → Decides (λ C. brought C (courseOf g lent) now) g entry r exit
+  pub goes-on-course : Changes (engageAt (courseOf h lent) line.Course (near .end) now) h g
+      → Decides (λ C. brought C (courseOf g lent) now) g entry r exit
       → Decides (λ C. follow (Found near) C (courseOf h lent) now) h entry r exit
   unfolding follow
   goes-on-course c d =
@@ -175,22 +192,26 @@ module _ (h g : Homing) (near : Nearest) (r : Answered) (entry exit lent : List 
 
 -- ---- following ended
 module _ (h t : Homing) (r : Answered) (entry mid exit lent : List Float) (now : ℕ) where
-  pub ends : Follows stop h entry t mid → Decides (λ C. brought C (courseOf t lent) now) t mid r exit → Decides (λ C. setFollowing false C (courseOf h lent) now) h entry r exit
+  pub ends : Follows stop h entry t mid → Decides (λ C. brought C (courseOf t lent) now) t mid r exit
+      → Decides (λ C. setFollowing false C (courseOf h lent) now) h entry r exit
   unfolding setFollowing
   ends d k =
       let course = courseOf h lent in
       let still : courseOf t lent ≡ course = ap (λ (n : ℕ). crumbs n lent) (line-stopped h t entry mid d) in
-      decides-then stop (λ C. brought C course now) h t entry mid r exit d (subst (λ (l : List Crumb). Decides (λ C. brought C l now) t mid r exit) still k)
+      decides-then stop (λ C. brought C course now) h t entry mid r exit d
+      (subst (λ (l : List Crumb). Decides (λ C. brought C l now) t mid r exit) still k)
       (λ C. idle-keeps C course now (stateOf t mid) (idle-stopped h t entry mid d))
 
 -- ---- following by itself
 -- following may no longer begin by itself, or may again
-pub auto-set : {A : Type 0} (rule : ℕ → State → Done A) (on : Bool) (h m r : Homing) (entry exit : List Float) → Follows rule h entry m exit → Changes (withAutoFollow on) m r
+pub auto-set : {A : Type 0} (rule : ℕ → State → Done A) (on : Bool) (h m r : Homing) (entry exit : List Float) → Follows rule h entry m exit
+    → Changes (withAutoFollow on) m r
     → Follows (λ C s. andThen (rule C s) λ _ after. done (tt {0}) (withAutoFollow on after)) h entry r exit
 auto-set rule on h m r entry exit f c =
     record {
       same = c .same exit ∙ ap (withAutoFollow on) (f .same);
       fit = subst (λ (t : Trail). trail.TrailFit t (length exit)) (sym (c .trail)) (f .fit);
       size = f .size;
-      beyond = subst (λ (t : Trail). behind (max (h .trail .len) (t .len)) exit ≡ behind (max (h .trail .len) (t .len)) entry) (sym (c .trail)) (f .beyond);
+      beyond = subst (λ (t : Trail). behind (max (h .trail .len) (t .len)) exit ≡ behind (max (h .trail .len) (t .len)) entry)
+          (sym (c .trail)) (f .beyond);
     }

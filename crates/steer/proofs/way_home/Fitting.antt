@@ -57,7 +57,8 @@ module _ (r : Homing) (room lineRoom : ℕ) (t : trail.TrailFit (r .trail) room)
   unfolding onCourse
   fit-trail n a b = record { trail = t; course = c; onTrail = λ e. (a, b); onCourse = λ e. absurd (false≢true (ap onCourse (sym n ∙ e))) }
 
-  fit-course : r .follow .line ≡ line.Course → 1 ≤ r .follow .segment → r .follow .segment < r .course .«line_len» → HomingFit r room lineRoom
+  fit-course : r .follow .line ≡ line.Course → 1 ≤ r .follow .segment → r .follow .segment < r .course .«line_len»
+      → HomingFit r room lineRoom
   unfolding onCourse
   fit-course n a b = record { trail = t; course = c; onTrail = λ e. absurd (true≢false (ap onCourse (sym n ∙ e))); onCourse = λ e. (a, b) }
 
@@ -83,11 +84,13 @@ module _ (h f : Homing) (entry mid : List Float) (d : Follows flushIn h entry f 
   pub idle-flushed : h .follow .line ≡ line.Nothing → f .follow .line ≡ line.Nothing
   idle-flushed n = ap (λ (s : State). s .follow .line) (d .same) ∙ flush-line _ (stateOf h entry) n
 
-  pub flushed-fits : (lineRoom : ℕ) → h .course .«line_len» ≤ capacity lineRoom → (f .trail .len ≤ capacity (length mid)) × (f .course .«line_len» ≤ capacity lineRoom)
+  pub flushed-fits : (lineRoom : ℕ) → h .course .«line_len» ≤ capacity lineRoom
+      → (f .trail .len ≤ capacity (length mid)) × (f .course .«line_len» ≤ capacity lineRoom)
   flushed-fits lineRoom l = (d .fit .held, subst (λ (n : ℕ). n ≤ capacity lineRoom) (sym line-flushed) l)
 
 -- ---- following ended
-left-idle : (C : ℕ) (matched : Spot) (segment : ℕ) (s : State) → s .follow .line ≡ line.Nothing → leaveAt C matched segment s .state .follow .line ≡ line.Nothing
+left-idle : (C : ℕ) (matched : Spot) (segment : ℕ) (s : State) → s .follow .line ≡ line.Nothing
+    → leaveAt C matched segment s .state .follow .line ≡ line.Nothing
 unfolding leaveAt keepIn recorded recordedIn cutTo
 left-idle C Nowhere segment s n = n
 left-idle C (At p) segment s n = thinned-line _ (s .follow) n
@@ -110,14 +113,17 @@ module _ (h t : Homing) (entry mid : List Float) (d : Follows stop h entry t mid
   idle-stopped = ap (λ (s : State). s .follow .line) (d .same) ∙ stop-idle _ (stateOf h entry)
 
   pub stopped-fits : (lineRoom : ℕ) → h .course .«line_len» ≤ capacity lineRoom → HomingFit t (length mid) lineRoom
-  stopped-fits lineRoom l = fit-idle t (length mid) lineRoom (d .fit) (subst (λ (n : ℕ). n ≤ capacity lineRoom) (sym line-stopped) l) idle-stopped
+  stopped-fits lineRoom l =
+      fit-idle t (length mid) lineRoom (d .fit) (subst (λ (n : ℕ). n ≤ capacity lineRoom) (sym line-stopped) l) idle-stopped
 
 -- ---- a following of the course begun
-engage-len : (course : List Crumb) (on : Line) (end now : ℕ) (s : State) → engageAt course on end now s .course .«line_len» ≡ s .course .«line_len»
+engage-len : (course : List Crumb) (on : Line) (end now : ℕ) (s : State)
+    → engageAt course on end now s .course .«line_len» ≡ s .course .«line_len»
 unfolding engageAt courseFrom
 engage-len course on end now s = refl
 
-engage-line : (course : List Crumb) (on : Line) (end now : ℕ) (s : State) → (engageAt course on end now s .follow .line ≡ on) × (engageAt course on end now s .follow .segment ≡ end)
+engage-line : (course : List Crumb) (on : Line) (end now : ℕ) (s : State)
+    → (engageAt course on end now s .follow .line ≡ on) × (engageAt course on end now s .follow .segment ≡ end)
 unfolding engageAt
 engage-line course on end now s = (refl, refl)
 
@@ -130,7 +136,8 @@ module _ (h r : Homing) (course : List Crumb) (end now : ℕ) (c : Changes (enga
 
   pub engaged-fits : (room lineRoom : ℕ) → HomingFit h room lineRoom → (1 ≤ end) × (end < h .course .«line_len») → HomingFit r room lineRoom
   engaged-fits room lineRoom f on =
-      fit-course r room lineRoom (subst (λ (t : Trail). trail.TrailFit t room) (sym (c .trail)) (f .trail)) (subst (λ (n : ℕ). n ≤ capacity lineRoom) (sym line-engaged) (f .course))
+      fit-course r room lineRoom (subst (λ (t : Trail). trail.TrailFit t room) (sym (c .trail)) (f .trail))
+      (subst (λ (n : ℕ). n ≤ capacity lineRoom) (sym line-engaged) (f .course))
       (ap (λ (s : State). s .follow .line) (c .same []) ∙ engage-line course line.Course end now (stateOf h []) .0)
       (subst (λ (n : ℕ). 1 ≤ n) (sym segment-engaged) (on .0))
       (subst (λ (n : ℕ). n < r .course .«line_len») (sym segment-engaged) (subst (λ (n : ℕ). end < n) (sym line-engaged) (on .1)))
@@ -156,14 +163,16 @@ module _ (course : List Crumb) (now : ℕ) (s : State) where
   home-len = by-answer (leads (s .track .crumbs)) refl
     where
       by-answer : (b : Bool) → leads (s .track .crumbs) ≡ b → engage course now s .state .course .«line_len» ≡ s .course .«line_len»
-      by-answer true e = ap (λ (d : Done Bool). d .state .course .«line_len») (engage-gives true e) ∙ engage-len course line.Breadcrumb _ now s
+      by-answer true e =
+          ap (λ (d : Done Bool). d .state .course .«line_len») (engage-gives true e) ∙ engage-len course line.Breadcrumb _ now s
       by-answer false e = ap (λ (d : Done Bool). d .state .course .«line_len») (engage-gives false e)
 
 module _ (f : Homing) (e : Answered) (course : List Crumb) (now : ℕ) (b : List Float) (a : Asks (engage course now) f b e) where
   pub line-home : e .homing .course .«line_len» ≡ f .course .«line_len»
   line-home = ap (λ (s : State). s .course .«line_len») (a .same) ∙ home-len course now (stateOf f b)
 
-  pub home-fits : (lineRoom : ℕ) → trail.TrailFit (f .trail) (length b) → f .course .«line_len» ≤ capacity lineRoom → f .follow .line ≡ line.Nothing → HomingFit (e .homing) (length b) lineRoom
+  pub home-fits : (lineRoom : ℕ) → trail.TrailFit (f .trail) (length b) → f .course .«line_len» ≤ capacity lineRoom
+      → f .follow .line ≡ line.Nothing → HomingFit (e .homing) (length b) lineRoom
   unfolding trail.track
   home-fits lineRoom t l n = by-answer (leads (crumbs (f .trail .len) b)) refl
     where

@@ -50,7 +50,8 @@ arrival-keeps : (was long : Bool) (far : Float) (e : Event) (s : State) → trac
 unfolding arrivalFrom
 arrival-keeps true long far e s = either track (s .track) (done e (withArrived false s)) (done e s) (lt leaveM far) refl refl
 arrival-keeps false long far e s =
-    either track (s .track) (done event.Arrived (withArrived true (withFollow (offCleared (s .follow)) s))) (done e s) (long && lt far arriveM) refl refl
+    either track (s .track) (done event.Arrived (withArrived true (withFollow (offCleared (s .follow)) s))) (done e s)
+    (long && lt far arriveM) refl refl
 
 module _ (course : List Crumb) (p : Point) where
   finished-keeps : (w : Way) (e : Event) (s : State) → track (finished course p w e s) ≡ s .track
@@ -96,7 +97,8 @@ module _ (C : ℕ) (course : List Crumb) (now : ℕ) where
     ended-keeps : (e : Event) (s : State) → s .follow .matched ≡ Nowhere → held (endedWith e C course p now s) ≡ s .track .crumbs
     unfolding endedWith
     ended-keeps e s n =
-        ap (λ (t : Track). t .crumbs) (direct-keeps course p (begun p now (stop C s .state)) ∙ begun-keeps course p now (stop C s .state)) ∙ stop-keeps C s n
+        ap (λ (t : Track). t .crumbs) (direct-keeps course p (begun p now (stop C s .state)) ∙ begun-keeps course p now (stop C s .state))
+        ∙ stop-keeps C s n
 
     module _ (s : State) (n : s .follow .matched ≡ Nowhere) where
       matched-to-keeps : (near : Nearest) → held (matchedTo C course p now near s) ≡ s .track .crumbs
@@ -113,14 +115,16 @@ module _ (C : ℕ) (course : List Crumb) (now : ℕ) where
 
       follow-on-keeps : held (followOn C course p now s) ≡ s .track .crumbs
       unfolding followOn
-      follow-on-keeps = match-from-keeps (nearest (s .follow .line) course p (aroundSegment (s .follow .segment) (length (followed course s))) s)
+      follow-on-keeps =
+          match-from-keeps (nearest (s .follow .line) course p (aroundSegment (s .follow .segment) (length (followed course s))) s)
 
     -- a following that was not matched yet keeps no matched point when it ends
     unmatched-keeps : (s : State) → s .follow .matched ≡ Nowhere → held (update C course p now s) ≡ s .track .crumbs
     unfolding update
     unmatched-keeps s n =
         let t = begun p now s in
-        either held (t .track .crumbs) (followOn C course p now t) (direct course p t) (onLine (t .follow .line) && leb 2 (length (followed course t)))
+        either held (t .track .crumbs) (followOn C course p now t) (direct course p t)
+        (onLine (t .follow .line) && leb 2 (length (followed course t)))
         (follow-on-keeps t (begun-matched course p now s n)) (ap (λ (x : Track). x .crumbs) (direct-keeps course p t))
         ∙ ap (λ (x : Track). x .crumbs) (begun-keeps course p now s)
 
@@ -129,11 +133,13 @@ module _ (C : ℕ) (course : List Crumb) (now : ℕ) where
     resting-keeps s n =
         let t = begun p now s in
         let long = leb 2 (length (followed course t)) in
-        ap held (passed-by (followOn C course p now t) (direct course p t) (onLine (s .follow .line) && long) (ap (λ (l : Line). onLine l && long) n))
+        ap held (passed-by (followOn C course p now t) (direct course p t) (onLine (s .follow .line) && long)
+        (ap (λ (l : Line). onLine l && long) n))
         ∙ ap (λ (x : Track). x .crumbs) (direct-keeps course p t)
 
   -- ---- brought up to date
-  here-keeps : (here : Spot) (s : State) → ((p : Point) → held (update C course p now s) ≡ s .track .crumbs) → held (updateHere here C course now s) ≡ s .track .crumbs
+  here-keeps : (here : Spot) (s : State) → ((p : Point) → held (update C course p now s) ≡ s .track .crumbs)
+      → held (updateHere here C course now s) ≡ s .track .crumbs
   unfolding updateHere
   here-keeps Nowhere s k = refl
   here-keeps (At p) s k = k p
@@ -148,7 +154,8 @@ module _ (C : ℕ) (course : List Crumb) (now : ℕ) where
   begins-keeps on end s = here-keeps (s .here) (engageAt course on end now s) (λ p. unmatched-keeps p (engageAt course on end now s) refl)
 
   -- a following of the breadcrumb has just begun, or none has
-  given-keeps : (s : State) (b : Bool) → held (engagedOr (gives course now s b .answer) C course now (gives course now s b .state)) ≡ s .track .crumbs
+  given-keeps : (s : State) (b : Bool)
+      → held (engagedOr (gives course now s b .answer) C course now (gives course now s b .state)) ≡ s .track .crumbs
   unfolding engagedOr
   given-keeps s true = begins-keeps line.Breadcrumb (length (s .track .crumbs) - 1) s
   given-keeps s false = refl

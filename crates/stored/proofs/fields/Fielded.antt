@@ -12,9 +12,11 @@ use Rattle.lap.specs.declared.Stage.the-variants as stage
 use Rattle.state.specs.declared.Place.the-variants as place
 use Rattle.state.specs.declared.Line.the-variants as line
 use Rattle.state.specs.declared.Mode.the-variants as mode
-use Rattle.stored.specs.Fields.{most16, narrowAt, flagAt, signedAt, pointAt, spotAt, headingOf, headingAt, placeRead, lineOfTag, stageOfTag, modeOfTag}
+use Rattle.stored.specs.Fields.{most16, narrowAt, flagAt, signedAt, pointAt, spotAt, headingOf, headingAt, placeRead, lineOfTag}
+use Rattle.stored.specs.Fields.{stageOfTag, modeOfTag}
 
-pub spot-there : (w : List ℕ) (i : ℕ) (n : List Float) (j : ℕ) {p : Point} → flagAt w i ≡ true → p ≡ pointAt n j → spot.At p ≡ spotAt w i n j
+pub spot-there : (w : List ℕ) (i : ℕ) (n : List Float) (j : ℕ) {p : Point} → flagAt w i ≡ true → p ≡ pointAt n j
+    → spot.At p ≡ spotAt w i n j
 unfolding spotAt
 spot-there w i n j t e = ap spot.At e ∙ sym (ap (λ b. cond b (spot.At (pointAt n j)) spot.Nowhere) t)
 
@@ -30,10 +32,12 @@ pub heading-missing : (w : List ℕ) (i : ℕ) → flagAt w i ≡ false → head
 unfolding headingAt
 heading-missing w i t = sym (ap (λ b. headingOf b (narrowAt most16 w (i + 1))) t)
 
-pub place-there : (w : List ℕ) (i : ℕ) {a b : ℤ} → flagAt w i ≡ true → a ≡ signedAt w (i + 1) → b ≡ signedAt w (i + 2) → place.At a b ≡ placeRead w i
+pub place-there : (w : List ℕ) (i : ℕ) {a b : ℤ} → flagAt w i ≡ true → a ≡ signedAt w (i + 1) → b ≡ signedAt w (i + 2)
+    → place.At a b ≡ placeRead w i
 unfolding placeRead
 place-there w i {a} {b} t x y =
-    ap (λ u. place.At u b) x ∙ ap (λ u. place.At (signedAt w (i + 1)) u) y ∙ sym (ap (λ f. cond f (place.At (signedAt w (i + 1)) (signedAt w (i + 2))) place.Missing) t)
+    ap (λ u. place.At u b) x ∙ ap (λ u. place.At (signedAt w (i + 1)) u) y
+    ∙ sym (ap (λ f. cond f (place.At (signedAt w (i + 1)) (signedAt w (i + 2))) place.Missing) t)
 
 pub place-missing : (w : List ℕ) (i : ℕ) → flagAt w i ≡ false → place.Missing ≡ placeRead w i
 unfolding placeRead

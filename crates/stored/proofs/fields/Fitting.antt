@@ -38,7 +38,8 @@ unfolding within
 append-in [] [] ns v e a b = b
 append-in [] (x ∷ w) ns v e a b = absurd (omega arith)
 append-in (m ∷ ms) [] ns v e a b = absurd (omega arith)
-append-in (m ∷ ms) (x ∷ w) ns v e a b = both (leb x m) (within ms w) (within (ms ++ ns) (w ++ v)) a (λ t. append-in ms w ns v (omega arith) t b)
+append-in (m ∷ ms) (x ∷ w) ns v e a b =
+    both (leb x m) (within ms w) (within (ms ++ ns) (w ++ v)) a (λ t. append-in ms w ns v (omega arith) t b)
   where
     both : (a b d : Bool) → (a && b) ≡ true → (b ≡ true → d ≡ true) → (a && d) ≡ true
     both true b d h f = f h

@@ -20,7 +20,8 @@ use Rattle.state.specs.declared.Mode.{Mode}
 use Rattle.state.specs.declared.Mode.the-variants as mode
 use Rattle.state.specs.declared.Course.{Course}
 use Rattle.log.specs.Entry.{signed}
-use Rattle.stored.specs.Fields.{most32, most16, headingOf, lineOfTag, stageOfTag, modeOfTag, flagOf, unsigned, spotFlag, pointIn, headingFlag, headingIn, placeFlag, latIn, lonIn, lineTag, stageTag, modeTag}
+use Rattle.stored.specs.Fields.{most32, most16, headingOf, lineOfTag, stageOfTag, modeOfTag, flagOf, unsigned, spotFlag, pointIn}
+use Rattle.stored.specs.Fields.{headingFlag, headingIn, placeFlag, latIn, lonIn, lineTag, stageTag, modeTag}
 use Rattle.stored.proofs.fields.Signs.{signed-unsigned}
 
 pub narrow-same : (most x : ℕ) → leb x most ≡ true → cond (leb x most) x 0 ≡ x
@@ -58,7 +59,8 @@ pub place-same : (p : Place) → cond (eqb (placeFlag p) 1) (place.At (latIn p) 
 place-same (place.At a b) = refl
 place-same place.Missing = refl
 
-pub heading-back : (h : Heading) → leb (headingIn h) most16 ≡ true → headingOf (eqb (headingFlag h) 1) (cond (leb (headingIn h) most16) (headingIn h) 0) ≡ h
+pub heading-back : (h : Heading) → leb (headingIn h) most16 ≡ true
+    → headingOf (eqb (headingFlag h) 1) (cond (leb (headingIn h) most16) (headingIn h) 0) ≡ h
 heading-back h l = ap (headingOf (eqb (headingFlag h) 1)) (narrow-same most16 (headingIn h) l) ∙ heading-same h
 
 pub signed-back : (z : ℤ) → SFits w32 z → leb (unsigned z) most32 ≡ true → signed (cond (leb (unsigned z) most32) (unsigned z) 0) ≡ z

@@ -29,7 +29,8 @@ pub record From (z y : ℤ) : Type 0 where
 at-below : (n : ℕ) → n < 2 ^ 31 → Below (negsuc n) (pos n)
 at-below n h =
     let f : SFits w32 (pos n) = record { sfits = h } in
-    subst (λ (y : ℤ). (T (nonNeg y) × Fits w64 (natAbs y)) × (natAbs y ≤ 4294967295) × (4294967295 - natAbs y ≡ unsigned (negsuc n)) → Below (negsuc n) (pos n)) (toZ-ofZ w32 (pos n) f)
+    subst (λ (y : ℤ). (T (nonNeg y) × Fits w64 (natAbs y)) × (natAbs y ≤ 4294967295) × (4294967295 - natAbs y ≡ unsigned (negsuc n))
+    → Below (negsuc n) (pos n)) (toZ-ofZ w32 (pos n) f)
     (λ p. record { fits = f; cast = p .0; most = p .1; result = p .2 })
     ((tt, record { fits = omega arith }), omega arith, omega arith)
 

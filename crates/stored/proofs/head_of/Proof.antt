@@ -21,7 +21,13 @@ point-in-requires-5 c κs = search needs
 
 returns : tie.Need-returns
 unfolding headOf
-returns c = simp (← c .before .before .before .before .before .before .before .before .point-in .ensures, ← c .before .before .before .before .before .before .point-in2 .ensures, ← c .before .before .before .before .point-in3 .ensures, ← c .before .before .point-in4 .ensures, ← c .point-in5 .ensures)
+returns c = simp (
+  ← c .before .before .before .before .before .before .before .before .point-in .ensures,
+  ← c .before .before .before .before .before .before .point-in2 .ensures,
+  ← c .before .before .before .before .point-in3 .ensures,
+  ← c .before .before .point-in4 .ensures,
+  ← c .point-in5 .ensures,
+)
 
 pub head-of-spec : {M : Type 1} → statement M
 head-of-spec =

@@ -18,7 +18,10 @@ place-at-requires : tie.Need-place-at-requires
 place-at-requires c κs = omega (arith, c .before .before .before .before .before .pre .0)
 
 spot-at-requires : tie.Need-spot-at-requires
-spot-at-requires c κs = (omega (arith, c .before .before .before .before .before .before .pre .0), omega (arith, c .before .before .before .before .before .before .pre .1))
+spot-at-requires c κs = (
+  omega (arith, c .before .before .before .before .before .before .pre .0),
+  omega (arith, c .before .before .before .before .before .before .pre .1),
+)
 
 shared-slice-read-t9 : tie.Need-shared-slice-read-t9
 shared-slice-read-t9 c = omega (arith, c .before .before .before .before .before .before .before .before .pre .0)
@@ -36,16 +39,21 @@ flag-at-requires : tie.Need-flag-at-requires
 flag-at-requires c κs = omega (arith, c .before .before .before .before .before .before .before .before .before .before .before .pre .0)
 
 flag-at-requires-2 : tie.Need-flag-at-requires-2
-flag-at-requires-2 c κs = omega (arith, c .before .before .before .before .before .before .before .before .before .before .before .before .pre .0)
+flag-at-requires-2 c κs =
+    omega (arith, c .before .before .before .before .before .before .before .before .before .before .before .before .pre .0)
 
 lap-at-requires : tie.Need-lap-at-requires
 lap-at-requires c κs = c .before .before .before .before .before .before .before .before .before .before .before .before .before .pre
 
 shared-slice-read-t17 : tie.Need-shared-slice-read-t17
-shared-slice-read-t17 c = omega (arith, c .before .before .before .before .before .before .before .before .before .before .before .before .before .before .before .pre .0)
+shared-slice-read-t17 c = omega (
+  arith,
+  c .before .before .before .before .before .before .before .before .before .before .before .before .before .before .before .pre .0,
+)
 
 shown-at-requires : tie.Need-shown-at-requires
-shown-at-requires c κs = c .before .before .before .before .before .before .before .before .before .before .before .before .before .before .before .pre .0
+shown-at-requires c κs =
+    c .before .before .before .before .before .before .before .before .before .before .before .before .before .before .before .pre .0
 
 returns : tie.Need-returns
 unfolding homingAt

@@ -40,14 +40,17 @@ abbrev pub placed : Place → ℤ → ℤ → Place
 placed p lat lon = cond (eqb (placeFlag p) 1) (place.At lat lon) place.Missing
 
 pub place-back : (p : Place) → PlaceFits p → leb (unsigned (latIn p)) most32 ≡ true → leb (unsigned (lonIn p)) most32 ≡ true
-    → placed p (signed (cond (leb (unsigned (latIn p)) most32) (unsigned (latIn p)) 0)) (signed (cond (leb (unsigned (lonIn p)) most32) (unsigned (lonIn p)) 0)) ≡ p
+    → placed p (signed (cond (leb (unsigned (latIn p)) most32) (unsigned (latIn p)) 0))
+    (signed (cond (leb (unsigned (lonIn p)) most32) (unsigned (lonIn p)) 0)) ≡ p
 place-back p f a b =
     ap (λ z. placed p z (signed (cond (leb (unsigned (lonIn p)) most32) (unsigned (lonIn p)) 0))) (signed-back (latIn p) (f .lat) a)
     ∙ ap (placed p (latIn p)) (signed-back (lonIn p) (f .lon) b) ∙ place-same p
 
-pub words-there : (p : Place) {a b d : ℕ} {x y : ℤ} → a ≡ placeFlag p → b ≡ unsigned x → x ≡ latIn p → d ≡ unsigned y → y ≡ lonIn p → _≡_ {A = List ℕ} (a ∷ b ∷ d ∷ []) (placeWords p)
+pub words-there : (p : Place) {a b d : ℕ} {x y : ℤ} → a ≡ placeFlag p → b ≡ unsigned x → x ≡ latIn p → d ≡ unsigned y → y ≡ lonIn p
+    → _≡_ {A = List ℕ} (a ∷ b ∷ d ∷ []) (placeWords p)
 words-there p {a} {b} {d} e f g h k =
-    ap (λ u. u ∷ b ∷ d ∷ []) e ∙ ap (λ u. placeFlag p ∷ u ∷ d ∷ []) (f ∙ ap unsigned g) ∙ ap (λ u. placeFlag p ∷ unsigned (latIn p) ∷ u ∷ []) (h ∙ ap unsigned k)
+    ap (λ u. u ∷ b ∷ d ∷ []) e ∙ ap (λ u. placeFlag p ∷ u ∷ d ∷ []) (f ∙ ap unsigned g)
+    ∙ ap (λ u. placeFlag p ∷ unsigned (latIn p) ∷ u ∷ []) (h ∙ ap unsigned k)
 
 pub place-words-there : (p : Place) {a b d : ℕ} {x y : ℤ} → a ≡ placeFlag p → b ≡ unsigned (toZ w32 (ofZ w32 x)) → x ≡ latIn p → SFits w32 x
     → d ≡ unsigned (toZ w32 (ofZ w32 y)) → y ≡ lonIn p → SFits w32 y

@@ -7,7 +7,8 @@ use lib.ListN.{take, drop}
 use Rattle.state.specs.declared.Homing.{Homing}
 use Rattle.stored.specs.Fields.{most64, most8, within}
 use Rattle.stored.specs.Words.{mark, mosts, wordsOf}
-use Rattle.stored.specs.Parts.{placeMosts, motionMosts, followMosts, courseMosts, lapMosts, guideMosts, placeWords, motionWords, followWords, courseWords, lapWords, guideWords, guideIn}
+use Rattle.stored.specs.Parts.{placeMosts, motionMosts, followMosts, courseMosts, lapMosts, guideMosts, placeWords, motionWords}
+use Rattle.stored.specs.Parts.{followWords, courseWords, lapWords, guideWords, guideIn}
 use Rattle.stored.proofs.parts.Parts.{shown-most}
 use Rattle.stored.proofs.fields.Fitting.{none-left, and-in, and-part, flag-most, spot-most}
 
@@ -15,7 +16,8 @@ pub mark-most : mark ≤ mark
 mark-most = omega arith
 
 -- the words before the course's
-pub front-fits : (h : Homing) → h .trail .len ≤ most64 → h .trail .«window_len» ≤ most64 → h .trail .retrace ≤ most8 → h .trail .«retrace_len» ≤ most64
+pub front-fits : (h : Homing) → h .trail .len ≤ most64 → h .trail .«window_len» ≤ most64 → h .trail .retrace ≤ most8
+    → h .trail .«retrace_len» ≤ most64
     → within placeMosts (placeWords (h .frame .origin)) ≡ true → within placeMosts (placeWords (h .fed)) ≡ true → h .«here_ms» ≤ most64
     → within motionMosts (motionWords (h .motion)) ≡ true → within followMosts (followWords (h .follow)) ≡ true
     → within (take 22 mosts) (take 22 (wordsOf h)) ≡ true
@@ -29,7 +31,8 @@ front-fits h a b d e f g k m n =
     (and-part followMosts (followWords (h .follow)) refl n none-left)))))))))) .ok
 
 -- the words from the course's on
-pub back-fits : (h : Homing) → within courseMosts (courseWords (h .course)) ≡ true → within lapMosts (lapWords (h .lap)) ≡ true → h .«updated_ms» ≤ most64
+pub back-fits : (h : Homing) → within courseMosts (courseWords (h .course)) ≡ true → within lapMosts (lapWords (h .lap)) ≡ true
+    → h .«updated_ms» ≤ most64
     → within guideMosts (guideWords (guideIn (h .guide))) ≡ true → within (drop 22 mosts) (drop 22 (wordsOf h)) ≡ true
 unfolding mosts wordsOf
 back-fits h o p q r =

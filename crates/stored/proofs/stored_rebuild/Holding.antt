@@ -34,7 +34,8 @@ loads-room-rebuild w h = within-room rebuildMosts w (and-eq-true-iff (eqb (wordA
 
 pub loads-there-rebuild : (w : List ℕ) {r : Rebuild} → holdsRebuild w ≡ true → r ≡ rebuildAt w → LoadsRebuild w r true
 unfolding storedRebuild
-loads-there-rebuild w {r} t e = record { there = λ _. ap (λ b. cond b (some (rebuildAt w)) none) t ∙ ap some (sym e); nothing = λ f. absurd (true≢false f) }
+loads-there-rebuild w {r} t e =
+    record { there = λ _. ap (λ b. cond b (some (rebuildAt w)) none) t ∙ ap some (sym e); nothing = λ f. absurd (true≢false f) }
 
 pub loads-nothing-rebuild : (w : List ℕ) (r : Rebuild) → holdsRebuild w ≡ false → LoadsRebuild w r false
 unfolding storedRebuild

@@ -12,7 +12,8 @@ use Rattle.rebuild.specs.declared.Stage.{Stage}
 use Rattle.rebuild.specs.declared.Stage.the-variants as stage
 use Rattle.rebuild.specs.declared.Rebuild.{Rebuild}
 use Rattle.stored.specs.Fields.{most32, within}
-use Rattle.stored.specs.Rebuilt.{rebuildMosts, utcOf, utcRead, stageRead, rebuildAt, holdsRebuild, storedRebuild, pendingFlag, pendingIn, utcFlag, utcIn, rebuildWords, RebuildReadBack}
+use Rattle.stored.specs.Rebuilt.{rebuildMosts, utcOf, utcRead, stageRead, rebuildAt, holdsRebuild, storedRebuild, pendingFlag}
+use Rattle.stored.specs.Rebuilt.{pendingIn, utcFlag, utcIn, rebuildWords, RebuildReadBack}
 use Rattle.stored.proofs.fields.Limits.{within-more, within-at}
 use Rattle.stored.proofs.fields.Same.{narrow-same}
 
@@ -34,7 +35,8 @@ module _ (r : Rebuild) (fits : within rebuildMosts (rebuildWords r) ≡ true) (w
   rebuild-back = λ i. record {
     recovered = narrow-same most32 (r .recovered) recovered-fits i;
     walk = r .walk;
-    stage = (ap (λ t. cond (eqb (pendingFlag (r .stage)) 1) (stage.Pending t) stage.Decided) (utc-same (pendingIn (r .stage))) ∙ pending-same (r .stage)) i;
+    stage = (ap (λ t. cond (eqb (pendingFlag (r .stage)) 1) (stage.Pending t) stage.Decided) (utc-same (pendingIn (r .stage)))
+        ∙ pending-same (r .stage)) i;
     «clock_ms» = r .«clock_ms»;
   }
 

@@ -11,11 +11,13 @@ use Rattle.stored.specs.Rebuilt.{rebuildCount, rebuildMosts, rebuildWord
 use Rattle.stored.proofs.stored_rebuild.RebuildBack.{rebuild-read-back}
 use Rattle.stored.proofs.fields.Copying.{in-front}
 
-pub rebuild-front : (r : Rebuild) (w s : List ℕ) {w′ : List ℕ} → s ≡ rebuildWords r → w′ ≡ paste w 0 s (length s) → w′ ≡ rebuildWords r ++ drop rebuildCount w
+pub rebuild-front : (r : Rebuild) (w s : List ℕ) {w′ : List ℕ} → s ≡ rebuildWords r → w′ ≡ paste w 0 s (length s)
+    → w′ ≡ rebuildWords r ++ drop rebuildCount w
 unfolding rebuildWords
 rebuild-front r w s e p = p ∙ in-front w s (rebuildWords r) e
 
-pub stores-rebuild : {r : Rebuild} {w w′ : List ℕ} → within rebuildMosts (rebuildWords r) ≡ true → w′ ≡ rebuildWords r ++ drop rebuildCount w
+pub stores-rebuild : {r : Rebuild} {w w′ : List ℕ} → within rebuildMosts (rebuildWords r) ≡ true
+    → w′ ≡ rebuildWords r ++ drop rebuildCount w
     → StoresRebuild r w w′
 stores-rebuild fits e = record { words = e; fits = fits }
 

@@ -39,7 +39,9 @@ shared-slice-read-if2 c = search needs
 
 returns-2 : tie.Need-returns-2 Inv-loop μ-loop
 unfolding mosts
-returns-2 c = let l = c .before .before .before .loop in sym (within-over mosts (now (c .before .before .before .before .before .args .words)) (l .i) (c .before .before .loop-test .taken) (omega (arith, l .inv .2, c .before .before .loop-test .taken)) (c .if2 .taken)) ∙ l .inv .0
+returns-2 c = let l = c .before .before .before .loop in
+    sym (within-over mosts (now (c .before .before .before .before .before .args .words)) (l .i) (c .before .before .loop-test .taken)
+    (omega (arith, l .inv .2, c .before .before .loop-test .taken)) (c .if2 .taken)) ∙ l .inv .0
 
 add-i : tie.Need-add-i Inv-loop μ-loop
 add-i c = search needs
@@ -49,11 +51,17 @@ loop-less c = search needs
 
 loop-again : tie.Need-loop-again Inv-loop μ-loop
 unfolding mosts
-loop-again c = let l = c .before .before .before .loop in (sym (within-on mosts (now (c .before .before .before .before .before .args .words)) (l .i) (c .before .before .loop-test .taken) (omega (arith, l .inv .2, c .before .before .loop-test .taken)) (c .if2 .left)) ∙ l .inv .0, omega (arith, c .before .before .loop-test .taken), l .inv .2)
+loop-again c = let l = c .before .before .before .loop in (
+  sym (within-on mosts (now (c .before .before .before .before .before .args .words)) (l .i) (c .before .before .loop-test .taken)
+      (omega (arith, l .inv .2, c .before .before .loop-test .taken)) (c .if2 .left)) ∙ l .inv .0,
+  omega (arith, c .before .before .loop-test .taken),
+  l .inv .2,
+)
 
 returns-3 : tie.Need-returns-3 Inv-loop μ-loop
 unfolding mosts
-returns-3 c = sym (within-end mosts (now (c .before .before .before .args .words)) (c .before .loop .i) (c .loop-test .left)) ∙ c .before .loop .inv .0
+returns-3 c = sym (within-end mosts (now (c .before .before .before .args .words)) (c .before .loop .i) (c .loop-test .left))
+    ∙ c .before .loop .inv .0
 
 pub within-spec : {M : Type 1} → statement M
 within-spec =

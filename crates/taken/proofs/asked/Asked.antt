@@ -1,4 +1,5 @@
--- A state that passes questions 1 and 10 passes them after `replay` of a fix in range and after `reset`, whatever lines were lent before. Assumes nothing.
+-- A state that passes questions 1 and 10 passes them after `replay` of a fix in range and after `reset`, whatever lines were lent before.
+-- Assumes nothing.
 use Prim.Native.Nat.{ℕ, _*_, _≤_}
 use native.Mathlib.Omega.{arith}
 use mathlib.Core.Path.{_≡_, subst, sym}
@@ -58,7 +59,8 @@ module _ (size : ℕ) where
       → asksCrumbs size (replay (capacity size) x now s .state) ≡ 0
   replay-asked x now s m g e =
       let k = given s e in
-      passes _ (k .one) (replay-passing (capacity size) (room-of size (k .one) .least) x now s (m .0) g (parts-given s (k .state) (capacity size) (m .1) (k .held)))
+      passes _ (k .one) (replay-passing (capacity size) (room-of size (k .one) .least) x now s (m .0) g
+      (parts-given s (k .state) (capacity size) (m .1) (k .held)))
 
   pub reset-asked : (s : State) → asksCrumbs size s ≡ 0 → asksCrumbs size (reset s .state) ≡ 0
   reset-asked s e = let k = given s e in passes _ (k .one) (reset-passing (capacity size) s (k .state))
@@ -73,11 +75,13 @@ module _ (size : ℕ) where
       → asksCrumbs size (afterCall size (Replay x now) s .state) ≡ 0
   unfolding afterCall performs
   replay-turn x now s m g e =
-      either (λ (d : Done (Unit {0})). asksCrumbs size (d .state) ≡ 0) (eqb (asks size (Replay x now) s) 0) (λ _. replay-asked x now s m g e) (λ _. e)
+      either (λ (d : Done (Unit {0})). asksCrumbs size (d .state) ≡ 0) (eqb (asks size (Replay x now) s) 0)
+      (λ _. replay-asked x now s m g e) (λ _. e)
 
   pub reset-turn : (s : State) → asksCrumbs size s ≡ 0 → asksCrumbs size (afterCall size Reset s .state) ≡ 0
   unfolding afterCall performs
-  reset-turn s e = either (λ (d : Done (Unit {0})). asksCrumbs size (d .state) ≡ 0) (eqb (asks size Reset s) 0) (λ _. reset-asked s e) (λ _. e)
+  reset-turn s e =
+      either (λ (d : Done (Unit {0})). asksCrumbs size (d .state) ≡ 0) (eqb (asks size Reset s) 0) (λ _. reset-asked s e) (λ _. e)
 
 -- ---- every list of calls
 run-measured : (size : ℕ) → 3 ≤ capacity size → (calls : List Call) (s : State) → Measured s → Measured (run size calls s .state)

@@ -1,4 +1,5 @@
--- Places and metres along a line that pass question 10: a step from one such place to another adds too little to leave the range. Assumes nothing.
+-- Places and metres along a line that pass question 10: a step from one such place to another adds too little to leave the range. Assumes
+-- nothing.
 use Prim.Native.Nat.{ℕ, suc, _+_, _-_, _*_, _^_, _≤_, _<_}
 use native.Mathlib.Omega.{arith}
 use mathlib.Core.Path.{_≡_, sym, _∙_}
@@ -68,10 +69,12 @@ distance-apart a b A B =
     let s = e ⊗ e ⊕ n ⊗ n in
     let S : Within (pow 57) s = add-within binary32 (pow 56) (pow 56) (pow 57) (e ⊗ e) (n ⊗ n) tt E N in
     let P : NonNeg s =
-    add-nonneg binary32 (e ⊗ e) (n ⊗ n) (square-nonneg binary32 e (within-finite (pow 56) (e ⊗ e) E)) (square-nonneg binary32 n (within-finite (pow 56) (n ⊗ n) N))
+    add-nonneg binary32 (e ⊗ e) (n ⊗ n) (square-nonneg binary32 e (within-finite (pow 56) (e ⊗ e) E))
+    (square-nonneg binary32 n (within-finite (pow 56) (n ⊗ n) N))
     (within-finite (pow 57) s S) in
     let R : Within apart (root binary32 s) =
-    root-within binary32 390625 10 s (lit< tt, lit≤ tt, lit< tt) P (widen (pow 57) (fin false (390625 * 2 ^ 10 * (390625 * 2 ^ 10)) (pos 0)) s tt S) in
+    root-within binary32 390625 10 s (lit< tt, lit≤ tt, lit< tt) P
+    (widen (pow 57) (fin false (390625 * 2 ^ 10 * (390625 * 2 ^ 10)) (pos 0)) s tt S) in
     (R, root-nonneg binary32 s P (within-finite apart (root binary32 s) R))
 
 -- ---- metres along that pass it
@@ -88,7 +91,8 @@ below-end : (x : Float) → T (fits binary32 x) → NonNeg x → T (lt x (fin fa
 unfolding lt
 below-end nan f h t = absurd t
 below-end (inf s) f h t = absurd h
-below-end (fin false m (pos k)) f h t = whole-part m k (held binary32 false m (pos k) f .0) (ltb→lt (m * 2 ^ k * 1) (4656613 * 2 ^ 31 * 1) t)
+below-end (fin false m (pos k)) f h t =
+    whole-part m k (held binary32 false m (pos k) f .0) (ltb→lt (m * 2 ^ k * 1) (4656613 * 2 ^ 31 * 1) t)
 below-end (fin false m (negsuc k)) f h t = small-part m (2 ^ suc k) (held binary32 false m (negsuc k) f .0) (pow-pos (suc k))
 below-end (fin true m (pos k)) f h t = by m k h
   where
@@ -127,7 +131,8 @@ before-end (fin true m e) w = lt→ltb 0 (m * up e * 1 + 4656613 * 2 ^ 31 * down
 
 pub along-passes : (x : Float) → Reaches x → alongFits x ≡ true
 unfolding alongEnd constant
-along-passes x a = sym (along-tested x (a .fits)) ∙ both (is-true (le plusZero x) (nonneg→le x (a .least))) (is-true _ (before-end x (a .most)))
+along-passes x a =
+    sym (along-tested x (a .fits)) ∙ both (is-true (le plusZero x) (nonneg→le x (a .least))) (is-true _ (before-end x (a .most)))
 
 -- ---- the start of a line, and a step on it
 pub along-start : Reaches plusZero
@@ -138,4 +143,9 @@ unfolding add
 along-step x a b r A B =
     let d = distance-apart a b A B in
     let w : Within farthest (x ⊕ distance a b) = add-within binary32 farthest apart farthest x (distance a b) tt (r .most) (d .0) in
-    record { fits = add-fits binary32 x (distance a b); least = add-nonneg binary32 x (distance a b) (r .least) (d .1) (within-finite farthest (x ⊕ distance a b) w); most = w }
+    record {
+      fits = add-fits binary32 x (distance a b);
+      least =
+          add-nonneg binary32 x (distance a b) (r .least) (d .1) (within-finite farthest (x ⊕ distance a b) w);
+      most = w;
+    }

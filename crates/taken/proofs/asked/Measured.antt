@@ -1,5 +1,5 @@
--- Whatever lines the calls are lent, the origin is a fix in range, the east factor that of a latitude, and metres along the breadcrumb are values of
--- binary32. Assumes nothing.
+-- Whatever lines the calls are lent, the origin is a fix in range, the east factor that of a latitude, and metres along the breadcrumb are
+-- values of binary32. Assumes nothing.
 use Prim.Native.Nat.{ℕ, zero, suc, _≤_}
 use native.Mathlib.Omega.{arith}
 use native.Mathlib.Decide.{ℕ-discrete}
@@ -33,7 +33,8 @@ use Rattle.matching.specs.Distances.{dropM}
 use Rattle.crumbs.specs.Along.{alongTo, alongBehind, recordedM, realongBehind, realong}
 use Rattle.trail.specs.Trail.{Track, fresh, thin, put, wait}
 use Rattle.trail.specs.Trail as trail
-use Rattle.trail.proofs.Rules.{keep-full, keep-room, flush-none, flush-some, bends, simplify-bends, simplify-straight, add-first, near, add-near, add-far}
+use Rattle.trail.proofs.Rules.{keep-full, keep-room, flush-none, flush-some, bends, simplify-bends, simplify-straight, add-first, near}
+use Rattle.trail.proofs.Rules.{add-near, add-far}
 use Rattle.state.specs.declared.Place.{Place}
 use Rattle.state.specs.declared.Place.the-variants as place
 use Rattle.state.specs.declared.Line.{Line}
@@ -53,11 +54,14 @@ use Rattle.matching.specs.Followed.{followed, widened}
 use Rattle.guide.specs.Guide.{arrivalFrom, finished, direct, leaveM, arriveM}
 use Rattle.update.specs.Update.{begun, matchedAt, endedWith, atCourseEnd, matchedTo, matchFrom, followOn, update}
 use Rattle.course.specs.Fix.{Fix}
-use Rattle.calls.specs.Fix.{fixLostMs, stillMs, isAt, cleared, missing, sameFix, headed, stillAt, addUpdate, tellFollowing, joinedCourse, turnedBack, engagedBack, retraced, mayRetrace, joinedOrNot, fixOn, arrivedAt, newFix, seen, observe, passOnly, replay, endReplay}
+use Rattle.calls.specs.Fix.{fixLostMs, stillMs, isAt, cleared, missing, sameFix, headed, stillAt, addUpdate, tellFollowing, joinedCourse}
+use Rattle.calls.specs.Fix.{turnedBack, engagedBack, retraced, mayRetrace, joinedOrNot, fixOn, arrivedAt, newFix, seen, observe, passOnly}
+use Rattle.calls.specs.Fix.{replay, endReplay}
 use Rattle.calls.specs.Follow.{updateHere, brought, engagedOr, wayHome, follow, nearHere, followFrom, setFollowing, autoOff, setAutoFollow}
 use Rattle.calls.specs.Line.{new, reset, offCourse, setCourse}
 use Rattle.calls.specs.Questions.{asksCrumbs, asksBoth, _orElse_}
-use Rattle.calls.specs.Calls.{Call, Ask, Reset, EndReplay, SetCourse, SetAutoFollow, Observe, Replay, SetFollowing, pointOf, asksPlace, asks, courseIn, performs, afterCall}
+use Rattle.calls.specs.Calls.{Call, Ask, Reset, EndReplay, SetCourse, SetAutoFollow, Observe, Replay, SetFollowing, pointOf, asksPlace}
+use Rattle.calls.specs.Calls.{asks, courseIn, performs, afterCall}
 use Rattle.questions.proofs.Given.{fix-given, neither}
 use Rattle.taken.specs.Taken.{FixOnGlobe, FixesOnGlobe}
 use Rattle.taken.proofs.Tests.{either, one-of}
@@ -237,7 +241,8 @@ module _ (C : ℕ) (least : 3 ≤ C) where
       matched-to : (n : Nearest) → Keeps (matchedTo C course p now n)
       unfolding matchedTo
       matched-to n s h =
-          either M (lt dropM (n .off)) (λ _. ended-with event.Dropped s h) (λ _. either M (atCourseEnd s n) (λ _. ended-with event.CourseEnd s h) (λ _. matched-at n s h))
+          either M (lt dropM (n .off)) (λ _. ended-with event.Dropped s h)
+          (λ _. either M (atCourseEnd s n) (λ _. ended-with event.CourseEnd s h) (λ _. matched-at n s h))
 
       match-from : (found : Best) → Keeps (matchFrom found C course p now)
       unfolding matchFrom
@@ -297,7 +302,8 @@ module _ (C : ℕ) (least : 3 ≤ C) where
       still-at : (here : Spot) → Keeps (stillAt here C course now)
       unfolding stillAt headed
       still-at spot.Nowhere s h = h
-      still-at (spot.At p) s h = either M (ltb (elapsed now (s .updatedMs)) stillMs) (λ _. h) (λ _. update-measured p now (headed p now s) h)
+      still-at (spot.At p) s h =
+          either M (ltb (elapsed now (s .updatedMs)) stillMs) (λ _. h) (λ _. update-measured p now (headed p now s) h)
 
       new-fix : (x : Fix) → FixOnGlobe x → Keeps (newFix C course x now)
       unfolding newFix arrivedAt headed
@@ -305,7 +311,8 @@ module _ (C : ℕ) (least : 3 ≤ C) where
 
       seen-measured : (x : Fix) → FixOnGlobe x → Keeps (seen C course x now)
       unfolding seen
-      seen-measured x g s h = either M (sameFix (s .fed) x) (λ _. still-at (s .here) (withHereMs now s) h) (λ _. new-fix x g (withHereMs now s) h)
+      seen-measured x g s h =
+          either M (sameFix (s .fed) x) (λ _. still-at (s .here) (withHereMs now s) h) (λ _. new-fix x g (withHereMs now s) h)
 
       missing-measured : Keeps (missing now)
       unfolding missing cleared
@@ -387,7 +394,8 @@ new-measured = (record { origin = tt; factor = factor-start }, tt)
 -- ---- every call that no question refuses
 place-globe : (x : Place) → asksPlace x ≡ 0 → FixesOnGlobe (pointOf x)
 unfolding asksPlace
-place-globe (place.At lat lon) e = let l = fix-given (record { lat = lat; lon = lon }) e in (record { latitude = l .latitude; longitude = l .longitude }, tt)
+place-globe (place.At lat lon) e = let l = fix-given (record { lat = lat; lon = lon }) e in
+    (record { latitude = l .latitude; longitude = l .longitude }, tt)
 place-globe place.Missing e = tt
 
 fix-globe : (x : Fix) → asksPlace (place.At (x .lat) (x .lon)) ≡ 0 → FixOnGlobe x

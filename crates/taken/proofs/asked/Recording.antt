@@ -16,7 +16,8 @@ use Rattle.crumbs.specs.Choice.{Choice, end, leave, strike, last}
 use Rattle.thin.proofs.Theorems.{thins-any}
 use Rattle.crumbs.specs.Along.{crumbOf, alongTo, alongBehind, recordedM, realongBehind, realong}
 use Rattle.trail.specs.Trail.{Track, thin, put, keep, flush, wait, simplify, add}
-use Rattle.trail.proofs.Rules.{keep-full, keep-room, flush-none, flush-some, bends, simplify-bends, simplify-straight, add-first, near, add-near, add-far}
+use Rattle.trail.proofs.Rules.{keep-full, keep-room, flush-none, flush-some, bends, simplify-bends, simplify-straight, add-first, near}
+use Rattle.trail.proofs.Rules.{add-near, add-far}
 use Rattle.trail.proofs.Theorems.{Sound, thin-sound, flush-sound}
 use Rattle.calls.specs.Questions.{placeFits, placesFit, alongFits, crumbFits, crumbsFit}
 use Rattle.taken.proofs.Tests.{both}

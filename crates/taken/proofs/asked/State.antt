@@ -32,7 +32,8 @@ use Rattle.state.specs.State.{State, withFrame}
 use Rattle.follow.specs.Parts.{endedByThinning}
 use Rattle.follow.specs.Record.{afterThinning, recordedIn, recorded, addIn}
 use Rattle.course.specs.Fix.{Fix, located}
-use Rattle.calls.specs.Questions.{placesFit, spotFits, alongFits, headingFits, shownFits, factorFits, segmentFits, followFits, retraceFits, countsFit, spotsFit, numbersFit, stateFits, crumbsFit, heldFits, placeFits}
+use Rattle.calls.specs.Questions.{placesFit, spotFits, alongFits, headingFits, shownFits, factorFits, segmentFits, followFits, retraceFits}
+use Rattle.calls.specs.Questions.{countsFit, spotsFit, numbersFit, stateFits, crumbsFit, heldFits, placeFits}
 use Rattle.calls.specs.Fix.{headed, passOnly, replay, unheaded}
 use Rattle.calls.specs.Line.{noLap, lined, awaiting, reset}
 use Rattle.taken.specs.Taken.{FixOnGlobe}
@@ -41,7 +42,8 @@ use Rattle.taken.proofs.Bounds.{place-fits, factor-fits}
 use Rattle.taken.proofs.Recording.{Counted, retrace-fits, grows, reset-recorded, reset-counted}
 use Rattle.taken.proofs.Moving.{Framed, located-framed, framed-place, known-fits, unknown-fits}
 use Rattle.taken.proofs.State.{nothing-shown}
-use Rattle.taken.proofs.asked.Recording.{Rounded, crumbs-given, crumbs-pass, window-given, window-passes, Recorded, Onward, add-onward}
+use Rattle.taken.proofs.asked.Recording.{Rounded, crumbs-given, crumbs-pass, window-given, window-passes, Recorded, Onward}
+use Rattle.taken.proofs.asked.Recording.{add-onward}
 
 -- ---- the parts
 pub record Passing (C : ℕ) (s : State) : Type 0 where
@@ -109,7 +111,8 @@ module _ (s : State) (e : stateFits s ≡ true) where
       × (le plusZero (s .track .tolerance) ≡ true)
   unfolding stateFits numbersFit
   numbers-given =
-      yes8 (placesFit (s .track .window)) (spotsFit s) (alongFits (s .course .along)) (alongFits (s .course .reached)) (headingFits (s .motion .heading))
+      yes8 (placesFit (s .track .window)) (spotsFit s) (alongFits (s .course .along)) (alongFits (s .course .reached))
+      (headingFits (s .motion .heading))
       (shownFits (s .guide)) (factorFits (s .frame .«east_per_e7»)) (le plusZero (s .track .tolerance))
       (and-eq-true-iff (countsFit s) (numbersFit s) .0 e .1)
 
@@ -120,7 +123,8 @@ module _ (s : State) (e : stateFits s ≡ true) where
       × (spotFits (s .lap .start) ≡ true)
   unfolding spotsFit
   spots-given =
-      yes5 (spotFits (s .here)) (spotFits (s .motion .from)) (spotFits (s .follow .matched)) (spotFits (s .course .fix)) (spotFits (s .lap .start)) (numbers-given .1)
+      yes5 (spotFits (s .here)) (spotFits (s .motion .from)) (spotFits (s .follow .matched)) (spotFits (s .course .fix))
+      (spotFits (s .lap .start)) (numbers-given .1)
 
   pub parts-given : (C : ℕ) → Rounded (s .track .crumbs) → heldFits C s ≡ true → Passing C s
   unfolding heldFits
@@ -156,14 +160,16 @@ module _ {C : ℕ} (s : State) (k : Passing C s) where
   pub state-passes : stateFits s ≡ true
   unfolding stateFits countsFit spotsFit numbersFit
   state-passes =
-      both (both (both (le-leb (length (s .track .window)) windowPlaces (k .track .sound .waiting)) (k .follow)) (retrace-fits (s .track) (k .counted)))
+      both (both (both (le-leb (length (s .track .window)) windowPlaces (k .track .sound .waiting)) (k .follow))
+      (retrace-fits (s .track) (k .counted)))
       (both
       (both
       (both
       (both
       (both
       (both
-      (both (window-passes (s .track .window) (k .track .waiting)) (both (both (both (both (k .here) (k .from)) (k .matched)) (k .fix)) (k .start)))
+      (both (window-passes (s .track .window) (k .track .waiting))
+      (both (both (both (both (k .here) (k .from)) (k .matched)) (k .fix)) (k .start)))
       (k .along)) (k .reached)) (k .heading)) (k .guide)) (k .factor)) (k .track .sound .tolerance))
 
   pub held-passes : heldFits C s ≡ true
@@ -198,23 +204,28 @@ course-fits segment len len′ n e = e
 left-followed : (on : Line) (len len′ n : ℕ) (f : Follow) → f .line ≡ on → Followed len n f → Followed len′ n (endedByThinning on f)
 unfolding endedByThinning
 left-followed line.Breadcrumb len len′ n f e h = record { on = nothing-fits 0 len′ n; matched = nowhere-fits }
-left-followed line.Nothing len len′ n f e h = record { on = subst (λ l. followFits l (f .segment) len′ n ≡ true) (sym e) (nothing-fits (f .segment) len′ n); matched = h .matched }
+left-followed line.Nothing len len′ n f e h =
+    record { on = subst (λ l. followFits l (f .segment) len′ n ≡ true) (sym e) (nothing-fits (f .segment) len′ n); matched = h .matched }
 left-followed line.Course len len′ n f e h =
     record {
-      on = subst (λ l. followFits l (f .segment) len′ n ≡ true) (sym e) (course-fits (f .segment) len len′ n (subst (λ l. followFits l (f .segment) len n ≡ true) e (h .on)));
+      on = subst (λ l. followFits l (f .segment) len′ n ≡ true) (sym e)
+          (course-fits (f .segment) len len′ n (subst (λ l. followFits l (f .segment) len n ≡ true) e (h .on)));
       matched = h .matched;
     }
 
-after-followed : (thinned : Bool) (len len′ n : ℕ) (f : Follow) → (thinned ≡ false → len ≤ len′) → Followed len n f → Followed len′ n (afterThinning thinned f)
+after-followed : (thinned : Bool) (len len′ n : ℕ) (f : Follow) → (thinned ≡ false → len ≤ len′) → Followed len n f
+    → Followed len′ n (afterThinning thinned f)
 unfolding afterThinning
 after-followed true len len′ n f g h = left-followed (f .line) len len′ n f refl h
-after-followed false len len′ n f g h = record { on = longer-follow (f .line) (f .segment) len len′ n (g refl) (h .on); matched = h .matched }
+after-followed false len len′ n f g h =
+    record { on = longer-follow (f .line) (f .segment) len len′ n (g refl) (h .on); matched = h .matched }
 
 recorded-passing : {C : ℕ} {s : State} (d : trail.TrailDone) → Passing C s → Sound C (d .track) → Onward (s .track) (d .track)
     → (thinnedIn (d .notes) ≡ false → length (s .track .crumbs) ≤ length (d .track .crumbs)) → Passing C (recorded d s .state)
 unfolding recorded recordedIn
 recorded-passing {C} {s} d k sound o g =
-    let f = after-followed (thinnedIn (d .notes)) (length (s .track .crumbs)) (length (d .track .crumbs)) (s .course .«line_len») (s .follow) g (record { on = k .follow; matched = k .matched }) in
+    let f = after-followed (thinnedIn (d .notes)) (length (s .track .crumbs)) (length (d .track .crumbs)) (s .course .«line_len»)
+    (s .follow) g (record { on = k .follow; matched = k .matched }) in
     record {
       track = record { sound = sound; crumbs = o .crumbs; waiting = o .waiting };
       counted = o .counted (k .counted);
@@ -235,7 +246,8 @@ add-passing : (C : ℕ) (least : 3 ≤ C) (p : Point) (s : State) → Passing C 
 unfolding addIn
 add-passing C least p s k P =
     let t = s .track in
-    recorded-passing (trail.add C p t) k (add-sound C least p t (k .track .sound)) (add-onward C least p t (k .track) P) (grows C _ _ _ (add-keeps C least p t (k .track .sound)))
+    recorded-passing (trail.add C p t) k (add-sound C least p t (k .track .sound)) (add-onward C least p t (k .track) P)
+    (grows C _ _ _ (add-keeps C least p t (k .track .sound)))
 
 -- ---- the heading and the start
 record Moves (m : Motion) : Type 0 where
@@ -258,13 +270,18 @@ renewed-moves from p now P = record { from = at-fits p P; heading = known-fits f
 aged-moves : (m : Motion) (from : Point) (now : ℕ) → headingFits (m .heading) ≡ true → placeFits from ≡ true → Moves (aged m from now)
 unfolding aged
 aged-moves m from now h P =
-    record { from = at-fits from P; heading = one-of (λ x. headingFits x ≡ true) (ltb headingStaleMs (elapsed now (m .«heading_ms»))) (λ t. unknown-fits) (λ t. h) }
+    record {
+      from = at-fits from P;
+      heading =
+          one-of (λ x. headingFits x ≡ true) (ltb headingStaleMs (elapsed now (m .«heading_ms»))) (λ t. unknown-fits) (λ t. h);
+    }
 
 heading-moves : (m : Motion) (p : Point) (now : ℕ) → Moves m → placeFits p ≡ true → Moves (trackHeading m p now)
 unfolding trackHeading
 heading-moves m p now h P =
     let from = spotOr (m .from) p in
-    one-of Moves (le headingStepM (distance from p)) (λ t. renewed-moves from p now P) (λ t. aged-moves m from now (h .heading) (spot-or (m .from) p (h .from) P))
+    one-of Moves (le headingStepM (distance from p)) (λ t. renewed-moves from p now P)
+    (λ t. aged-moves m from now (h .heading) (spot-or (m .from) p (h .from) P))
 
 lap-start : (moving : Bool) (x : Spot) (p : Point) → spotFits x ≡ true → placeFits p ≡ true → spotFits (lapStart moving x p) ≡ true
 unfolding lapStart
@@ -278,7 +295,8 @@ unfolding stepFrom
 step-from (At q) l p moving h = h
 step-from Nowhere l p moving h = h
 
-step-start : (l : Lap) (p : Point) (heading : Heading) → spotFits (l .start) ≡ true → placeFits p ≡ true → spotFits (stepPass l p heading .start) ≡ true
+step-start : (l : Lap) (p : Point) (heading : Heading) → spotFits (l .start) ≡ true → placeFits p ≡ true
+    → spotFits (stepPass l p heading .start) ≡ true
 unfolding stepPass
 step-start l p heading h P =
     let moving = movingAt heading in
@@ -343,7 +361,8 @@ module _ {C : ℕ} where
         factor = k .factor;
       }
 
-pub replay-passing : (C : ℕ) (least : 3 ≤ C) (x : Fix) (now : ℕ) (s : State) → Framed (s .frame) → FixOnGlobe x → Passing C s → Passing C (replay C x now s .state)
+pub replay-passing : (C : ℕ) (least : 3 ≤ C) (x : Fix) (now : ℕ) (s : State) → Framed (s .frame) → FixOnGlobe x → Passing C s
+    → Passing C (replay C x now s .state)
 unfolding replay
 replay-passing C least x now s h g k =
     let f = located-framed x (s .frame) g h in

@@ -20,25 +20,50 @@ returns-2 : tie.Need-returns-2
 unfolding question9
 returns-2 c =
     let q = c .before in
-    simp (← q .before .before .whole .ensures, not-false (q .before .before .whole .result) (q .before .if1 .left), ← q .capacity .ensures, lt-leb _ _ (c .if2 .taken))
+    simp (
+      ← q .before .before .whole .ensures,
+      not-false (q .before .before .whole .result) (q .before .if1 .left),
+      ← q .capacity .ensures,
+      lt-leb _ _ (c .if2 .taken),
+    )
 
 returns-3 : tie.Need-returns-3
 unfolding question9
 returns-3 c =
     let q = c .before .before in
-    simp (← q .before .before .whole .ensures, not-false (q .before .before .whole .result) (q .before .if1 .left), ← q .capacity .ensures, le-leb _ _ (c .before .if2 .left), lt-leb _ _ (c .if3 .taken))
+    simp (
+      ← q .before .before .whole .ensures,
+      not-false (q .before .before .whole .result) (q .before .if1 .left),
+      ← q .capacity .ensures,
+      le-leb _ _ (c .before .if2 .left),
+      lt-leb _ _ (c .if3 .taken),
+    )
 
 returns-4 : tie.Need-returns-4
 unfolding question9
 returns-4 c =
     let q = c .before .before .before in
-    simp (← q .before .before .whole .ensures, not-false (q .before .before .whole .result) (q .before .if1 .left), ← q .capacity .ensures, le-leb _ _ (c .before .before .if2 .left), le-leb _ _ (c .before .if3 .left), lt-leb _ _ (c .if4 .taken))
+    simp (
+      ← q .before .before .whole .ensures,
+      not-false (q .before .before .whole .result) (q .before .if1 .left),
+      ← q .capacity .ensures,
+      le-leb _ _ (c .before .before .if2 .left),
+      le-leb _ _ (c .before .if3 .left),
+      lt-leb _ _ (c .if4 .taken),
+    )
 
 returns-5 : tie.Need-returns-5
 unfolding question9 ofBits
 returns-5 c =
     let q = c .before .before .before in
-    simp (← q .before .before .whole .ensures, not-false (q .before .before .whole .result) (q .before .if1 .left), ← q .capacity .ensures, le-leb _ _ (c .before .before .if2 .left), le-leb _ _ (c .before .if3 .left), le-leb _ _ (c .if4 .left))
+    simp (
+      ← q .before .before .whole .ensures,
+      not-false (q .before .before .whole .result) (q .before .if1 .left),
+      ← q .capacity .ensures,
+      le-leb _ _ (c .before .before .if2 .left),
+      le-leb _ _ (c .before .if3 .left),
+      le-leb _ _ (c .if4 .left),
+    )
 
 pub may-thin-spec : {M : Type 1} → statement M
 may-thin-spec =

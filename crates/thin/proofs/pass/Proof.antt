@@ -50,7 +50,8 @@ loop-less c =
 loop-again : tie.Need-loop-again Inv-loop μ-loop
 loop-again c =
     let l = c .before .before .before .before .before .before .before .before .before in
-    kept-put (l .loop .inv) (omega arith) (c .before .before .before .before .before .before .next .ensures) (c .before .before .put .ensures)
+    kept-put (l .loop .inv) (omega arith) (c .before .before .before .before .before .before .next .ensures)
+    (c .before .before .put .ensures)
     (c .before .before .before .before .crumb-at .ensures)
 
 sub-if2 : tie.Need-sub-if2 Inv-loop μ-loop
@@ -80,7 +81,8 @@ same-length-2 c = c .before .before .put2 .kept .0 ∙ c .before .before .before
 returns-3 : tie.Need-returns-3 Inv-loop μ-loop
 returns-3 c =
     let l = c .before .before .before .before .before .before .before .before in
-    let no : l .loop .anchor ≡ l .before .before .before .before .args .len - 1 → ⊥ = c .before .before .before .before .before .before .if2 .left in
+    let no : l .loop .anchor ≡ l .before .before .before .before .args .len - 1 → ⊥ =
+    c .before .before .before .before .before .before .if2 .left in
     kept-end
     (kept-put (l .loop .inv) (omega arith) (next-last (l .loop .inv) (omega arith)) (c .before .before .put2 .ensures)
     (c .before .before .before .before .crumb-at2 .ensures))

@@ -41,7 +41,8 @@ add-j : tie.Need-add-j Inv-loop μ-loop Inv-ends μ-ends
 add-j c = omega arith
 
 loop-holds : tie.Need-loop-holds Inv-loop μ-loop Inv-ends μ-ends
-loop-holds c = between-start (c .before .before .before .ends .inv) (c .before .before .ends-test .taken) (leb-true _ _ (c .before .if1 .taken))
+loop-holds c =
+    between-start (c .before .before .before .ends .inv) (c .before .before .ends-test .taken) (leb-true _ _ (c .before .if1 .taken))
 
 point-at-requires-3 : tie.Need-point-at-requires-3 Inv-loop μ-loop Inv-ends μ-ends
 point-at-requires-3 c κs = search needs
@@ -62,7 +63,8 @@ loop-again c =
     between-on (e .ends .inv) (l .before .before .before .ends-test .taken) (leb-true _ _ (l .before .before .if1 .taken)) (l .loop .inv)
     (c .before .before .before .loop-test .taken)
     refl
-    (stays _ (c .before .strays .ensures) (c .before .before .point-at3 .ensures) (e .before .point-at .ensures) (l .before .point-at2 .ensures) (c .if2 .left))
+    (stays _ (c .before .strays .ensures) (c .before .before .point-at3 .ensures) (e .before .point-at .ensures)
+    (l .before .point-at2 .ensures) (c .if2 .left))
 
 add-end-2 : tie.Need-add-end-2 Inv-loop μ-loop Inv-ends μ-ends
 add-end-2 c = omega arith
@@ -74,7 +76,8 @@ ends-again : tie.Need-ends-again Inv-loop μ-loop Inv-ends μ-ends
 ends-again c =
     let l = c .before in
     let e = l .before .before .before .before in
-    ends-on (e .ends .inv) (l .before .before .before .ends-test .taken) (leb-true _ _ (l .before .before .if1 .taken)) (l .loop .inv) (c .loop-test .left)
+    ends-on (e .ends .inv) (l .before .before .before .ends-test .taken) (leb-true _ _ (l .before .before .if1 .taken)) (l .loop .inv)
+    (c .loop-test .left)
 
 sub-result : tie.Need-sub-result Inv-loop μ-loop Inv-ends μ-ends
 sub-result c = omega arith
@@ -83,7 +86,8 @@ returns : tie.Need-returns Inv-loop μ-loop Inv-ends μ-ends
 returns c =
     let e = c .before in
     ⊎-elim
-    (λ w. ends-out (e .ends .inv) (let far : 256 < e .ends .end - e .before .before .before .args .anchor = leb-false _ _ (w .1 .left) in omega arith))
+    (λ w. ends-out (e .ends .inv) (let far : 256 < e .ends .end - e .before .before .before .args .anchor = leb-false _ _ (w .1 .left) in
+    omega arith))
     (⊎-elim
     (λ w. ends-out (e .ends .inv) (omega arith))
     (λ w.

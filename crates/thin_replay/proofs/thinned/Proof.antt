@@ -28,7 +28,8 @@ enum-known-left c = search needs
 
 compare-requires : tie.Need-compare-requires
 compare-requires c κs =
-    let l = left-is (c .before .before .before .before .before .before .before .thin .ensures) (c .before .before .before .left .given .1) in
+    let l =
+    left-is (c .before .before .before .before .before .before .before .thin .ensures) (c .before .before .before .left .given .1) in
     omega (arith, l .fewer)
 
 enum-told : tie.Need-enum-told

@@ -26,7 +26,8 @@ returns-2 c =
     let kept = c .before .before .before in
     let last = kept .before .before in
     let at = last .before .before .before in
-    flushes (at .args .t) (now (at .args .window)) _ (last .waiting .result) (omega (arith, last .before .if1 .left)) (last .waiting .ensures)
+    flushes (at .args .t) (now (at .args .window)) _ (last .waiting .result) (omega (arith, last .before .if1 .left))
+    (last .waiting .ensures)
     (kept .keep .ensures (now (at .args .window)))
 
 pub flush-spec : {M : Type 1} → statement M

@@ -24,7 +24,8 @@ returns : tie.Need-returns
 returns c = λ w.
     let at = c .before .before .before .before .before .before .before .before .before .before .before .before in
     keeps-full (at .args .t) w _ (at .args .p) (at .pre)
-    (c .before .before .before .before .before .before .before .before .if1 .taken ∙ c .before .before .before .before .before .before .before .before .before .before .capacity .ensures)
+    (c .before .before .before .before .before .before .before .before .if1 .taken
+    ∙ c .before .before .before .before .before .before .before .before .before .before .capacity .ensures)
     (c .before .before .before .before .before .before .thin .ensures w) (c .before .before .put .ensures w)
 
 put-requires-2 : tie.Need-put-requires-2
@@ -36,7 +37,8 @@ same-length-2 c = search needs
 returns-2 : tie.Need-returns-2
 returns-2 c = λ w.
     let at = c .before .before .before .before .before .before .before .before in
-    keeps-room (at .args .t) w _ (at .args .p) (λ e. c .before .before .before .before .if1 .left (e ∙ sym (c .before .before .before .before .before .before .capacity .ensures)))
+    keeps-room (at .args .t) w _ (at .args .p)
+    (λ e. c .before .before .before .before .if1 .left (e ∙ sym (c .before .before .before .before .before .before .capacity .ensures)))
     (c .before .before .put2 .ensures w)
 
 pub keep-spec : {M : Type 1} → statement M

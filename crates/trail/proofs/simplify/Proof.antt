@@ -31,7 +31,8 @@ returns c =
     let at = tested .before .before .before .before in
     let a = at .args in
     simplifies-bends (a .t) _ _ (a .anchor) (a .p)
-    (⊎-elim (λ x. strayed (a .t) _ _ (a .anchor) (a .p) is (x .taken)) (λ x. filled (a .t) _ _ (a .anchor) (a .p) is (x .2 .taken)) (tested .if1 .came))
+    (⊎-elim (λ x. strayed (a .t) _ _ (a .anchor) (a .p) is (x .taken)) (λ x. filled (a .t) _ _ (a .anchor) (a .p) is (x .2 .taken))
+    (tested .if1 .came))
     (flushed .flush .ensures) (c .wait .ensures)
 
 wait-requires-2 : tie.Need-wait-requires-2

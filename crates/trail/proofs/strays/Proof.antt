@@ -31,9 +31,11 @@ off-segment-requires c κs = search needs
 returns : tie.Need-returns Inv-loop μ-loop
 returns c =
     let a = c .before .before .before .before .before .args in
-    let far : lt (a .tolerance) (offSegment (waitingAt (now (a .window)) (c .before .before .before .before .loop .i)) (a .anchor) (a .p)) ≡ true =
+    let far : lt (a .tolerance) (offSegment (waitingAt (now (a .window)) (c .before .before .before .before .loop .i)) (a .anchor) (a .p))
+    ≡ true =
     simp (← c .before .before .waiting .ensures, ← c .before .off-segment .ensures) (c .if1 .taken) in
-    sym (strays-found (a .tolerance) (a .anchor) (a .p) (now (a .window)) (a .window-len) (c .before .before .before .before .loop .i) (c .before .before .before .loop-test .taken) far)
+    sym (strays-found (a .tolerance) (a .anchor) (a .p) (now (a .window)) (a .window-len) (c .before .before .before .before .loop .i)
+    (c .before .before .before .loop-test .taken) far)
 
 add-i : tie.Need-add-i Inv-loop μ-loop
 add-i c = search needs
@@ -44,9 +46,13 @@ loop-less c = search needs
 loop-again : tie.Need-loop-again Inv-loop μ-loop
 loop-again c =
     let a = c .before .before .before .before .before .args in
-    let near : lt (a .tolerance) (offSegment (waitingAt (now (a .window)) (c .before .before .before .before .loop .i)) (a .anchor) (a .p)) ≡ false =
-    simp (← c .before .before .waiting .ensures, ← c .before .off-segment .ensures) (c .if1 .left) in
-    (omega arith, strays-next (a .tolerance) (a .anchor) (a .p) (now (a .window)) (c .before .before .before .before .loop .i) (c .before .before .before .before .loop .inv .1) near)
+    let near : lt (a .tolerance) (offSegment (waitingAt (now (a .window)) (c .before .before .before .before .loop .i)) (a .anchor) (a .p))
+    ≡ false =
+    simp (← c .before .before .waiting .ensures, ← c .before .off-segment .ensures) (c .if1 .left) in (
+      omega arith,
+      strays-next (a .tolerance) (a .anchor) (a .p) (now (a .window)) (c .before .before .before .before .loop .i)
+          (c .before .before .before .before .loop .inv .1) near,
+    )
 
 returns-2 : tie.Need-returns-2 Inv-loop μ-loop
 returns-2 c =

@@ -17,8 +17,10 @@ unfolding begun
 returns c = λ b.
     let stepped = c .before .before .before .before in
     let g = stepped .before .before .before .before .before .before .args in
-    let after : Lap → State = λ l. displaying (g .d) (withUpdatedMs (g .now-ms) (withLap l (withCourse (g .course) (stateOf (g .h) b)))) .state in
-    tells (λ s. displaying (g .d) (begun (g .p) (g .now-ms) (withCourse (g .course) s))) (g .h) b _ _ refl refl (ap after (stepped .step-pass .ensures)) refl
+    let after : Lap → State =
+    λ l. displaying (g .d) (withUpdatedMs (g .now-ms) (withLap l (withCourse (g .course) (stateOf (g .h) b)))) .state in
+    tells (λ s. displaying (g .d) (begun (g .p) (g .now-ms) (withCourse (g .course) s))) (g .h) b _ _ refl refl
+    (ap after (stepped .step-pass .ensures)) refl
 
 pub shown-spec : {M : Type 1} → statement M
 shown-spec = tie.close (tie.spec step-pass-requires returns)

@@ -39,7 +39,8 @@ loop-again : tie.Need-loop-again Inv-loop μ-loop
 loop-again c =
     let at = c .before .before .before .before .before .before .before .before .before in
     let read = c .before .before .before .before in
-    going-on (at .before .loop .inv) (at .loop-test .taken) (c .before .before .put .ensures) (read .before .before .before .crumb-at .ensures)
+    going-on (at .before .loop .inv) (at .loop-test .taken) (c .before .before .put .ensures)
+    (read .before .before .before .crumb-at .ensures)
     (read .before .point-at .ensures) (read .along-to .ensures)
 
 same-length : tie.Need-same-length Inv-loop μ-loop

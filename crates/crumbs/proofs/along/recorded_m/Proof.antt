@@ -24,7 +24,8 @@ along-to-requires c κs = search needs
 returns-2 : tie.Need-returns-2
 returns-2 c =
     c .along-to .ensures
-    ∙ (ap (λ a. alongTo a (c .before .before .before .before .args .p)) (c .before .crumb-at .ensures) ∙ sym (recorded-some _ _ _ (omega arith)))
+    ∙ (ap (λ a. alongTo a (c .before .before .before .before .args .p)) (c .before .crumb-at .ensures)
+    ∙ sym (recorded-some _ _ _ (omega arith)))
 
 pub recorded-m-spec : {M : Type 1} → statement M
 recorded-m-spec =

@@ -35,11 +35,15 @@ enum-known-answer-2 c = search needs
 
 returns-2 : tie.Need-returns-2
 unfolding saysAngle numberOf
-returns-2 c = answered (guide-read _ (c .before .before .before .before .before .before .are-guide .ensures) (c .before .before .before .before .before .if1 .left) ∙ ap some (sym (c .before .before .before .before .guide-at .ensures))) (c .before .before .before .arrow .ensures) (c .before .answer .given .1)
+returns-2 c = answered (guide-read _ (c .before .before .before .before .before .before .are-guide .ensures)
+    (c .before .before .before .before .before .if1 .left) ∙ ap some (sym (c .before .before .before .before .guide-at .ensures)))
+    (c .before .before .before .arrow .ensures) (c .before .answer .given .1)
 
 returns-3 : tie.Need-returns-3
 unfolding saysAngle numberOf
-returns-3 c = answered (guide-read _ (c .before .before .before .before .before .before .are-guide .ensures) (c .before .before .before .before .before .if1 .left) ∙ ap some (sym (c .before .before .before .before .guide-at .ensures))) (c .before .before .before .arrow .ensures) (c .before .answer2 .given .1)
+returns-3 c = answered (guide-read _ (c .before .before .before .before .before .before .are-guide .ensures)
+    (c .before .before .before .before .before .if1 .left) ∙ ap some (sym (c .before .before .before .before .guide-at .ensures)))
+    (c .before .before .before .arrow .ensures) (c .before .answer2 .given .1)
 
 pub cittumay-arrow-spec : {M : Type 1} → statement M
 cittumay-arrow-spec =

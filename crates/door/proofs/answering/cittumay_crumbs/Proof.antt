@@ -14,7 +14,8 @@ no-part-requires : tie.Need-no-part-requires
 no-part-requires c κs = search needs
 
 returns : tie.Need-returns
-returns c = no-part (unloaded (c .before .before .before .before .before .load .ensures) (c .before .before .before .if1 .taken)) (c .before .before .no-state-with .ensures) (c .no-part .ensures)
+returns c = no-part (unloaded (c .before .before .before .before .before .load .ensures) (c .before .before .before .if1 .taken))
+    (c .before .before .no-state-with .ensures) (c .no-part .ensures)
 
 crumbs-requires : tie.Need-crumbs-requires
 crumbs-requires c κs = search needs
@@ -25,7 +26,8 @@ capacity-requires c κs = search needs
 returns-2 : tie.Need-returns-2
 returns-2 c =
     let returned = c .before .crumbs .ensures in
-    part-returned (loaded (c .before .before .before .before .before .before .load .ensures) (c .before .before .before .before .if1 .left)) _ returned _ (returned .numbers) (returned .held) (returned .empty) (c .capacity .ensures)
+    part-returned (loaded (c .before .before .before .before .before .before .load .ensures) (c .before .before .before .before .if1 .left))
+    _ returned _ (returned .numbers) (returned .held) (returned .empty) (c .capacity .ensures)
 
 pub cittumay-crumbs-spec : {M : Type 1} → statement M
 cittumay-crumbs-spec =

@@ -39,15 +39,24 @@ same-length c = search needs
 
 returns-3 : tie.Need-returns-3
 unfolding saysShowing showing numberOf
-returns-3 c = answered-with (roomy _ (c .before .before .before .before .before .before .before .before .before .before .before .before .if1 .left) (loaded (c .before .before .before .before .before .before .before .before .before .before .before .load .ensures) (c .before .before .before .before .before .before .before .before .before .if2 .left))) (c .before .before .before .before .before .before .before .guide .ensures) (c .before .before .before .before .before .answer .given .1) (ap (guideValues 1) (c .before .before .put-guide .ensures))
+returns-3 c =
+    answered-with (roomy _ (c .before .before .before .before .before .before .before .before .before .before .before .before .if1 .left)
+    (loaded (c .before .before .before .before .before .before .before .before .before .before .before .load .ensures)
+    (c .before .before .before .before .before .before .before .before .before .if2 .left)))
+    (c .before .before .before .before .before .before .before .guide .ensures)
+    (c .before .before .before .before .before .answer .given .1) (ap (guideValues 1) (c .before .before .put-guide .ensures))
 
 returns-4 : tie.Need-returns-4
 unfolding saysShowing showing numberOf
-returns-4 c = answered (roomy _ (c .before .before .before .before .before .before .before .if1 .left) (loaded (c .before .before .before .before .before .before .load .ensures) (c .before .before .before .before .if2 .left))) (c .before .before .guide .ensures) (c .enum-told .given .1)
+returns-4 c = answered (roomy _ (c .before .before .before .before .before .before .before .if1 .left)
+    (loaded (c .before .before .before .before .before .before .load .ensures) (c .before .before .before .before .if2 .left)))
+    (c .before .before .guide .ensures) (c .enum-told .given .1)
 
 returns-5 : tie.Need-returns-5
 unfolding saysShowing numberOf
-returns-5 c = answered (roomy _ (c .before .before .before .before .before .before .before .before .if1 .left) (loaded (c .before .before .before .before .before .before .before .load .ensures) (c .before .before .before .before .before .if2 .left))) (c .before .before .before .guide .ensures) (c .before .answer2 .given .1)
+returns-5 c = answered (roomy _ (c .before .before .before .before .before .before .before .before .if1 .left) (loaded
+    (c .before .before .before .before .before .before .before .load .ensures) (c .before .before .before .before .before .if2 .left)))
+    (c .before .before .before .guide .ensures) (c .before .answer2 .given .1)
 
 pub cittumay-guide-spec : {M : Type 1} → statement M
 cittumay-guide-spec =

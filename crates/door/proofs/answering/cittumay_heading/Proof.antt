@@ -27,11 +27,15 @@ enum-known-answer-2 c = search needs
 
 returns-2 : tie.Need-returns-2
 unfolding saysRiding numberOf
-returns-2 c = answered-with (loaded (c .before .before .before .before .before .before .before .before .before .before .load .ensures) (c .before .before .before .before .before .before .before .before .if1 .left)) (c .before .before .before .before .before .before .heading .ensures) (c .before .before .before .before .answer .given .1) (c .put-heading .ensures)
+returns-2 c = answered-with (loaded (c .before .before .before .before .before .before .before .before .before .before .load .ensures)
+    (c .before .before .before .before .before .before .before .before .if1 .left))
+    (c .before .before .before .before .before .before .heading .ensures) (c .before .before .before .before .answer .given .1)
+    (c .put-heading .ensures)
 
 returns-3 : tie.Need-returns-3
 unfolding saysRiding numberOf
-returns-3 c = answered (loaded (c .before .before .before .before .before .before .before .load .ensures) (c .before .before .before .before .before .if1 .left)) (c .before .before .before .heading .ensures) (c .before .answer2 .given .1)
+returns-3 c = answered (loaded (c .before .before .before .before .before .before .before .load .ensures)
+    (c .before .before .before .before .before .if1 .left)) (c .before .before .before .heading .ensures) (c .before .answer2 .given .1)
 
 pub cittumay-heading-spec : {M : Type 1} → statement M
 cittumay-heading-spec =

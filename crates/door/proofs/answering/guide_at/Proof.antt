@@ -13,47 +13,96 @@ mode-of-requires : tie.Need-mode-of-requires
 mode-of-requires c κs = search needs
 
 shared-slice-read-heading-of : tie.Need-shared-slice-read-heading-of
-shared-slice-read-heading-of c = omega (arith, are-read (now (c .before .before .before .before .args .words)) (c .before .before .before .before .pre) .long)
+shared-slice-read-heading-of c =
+    omega (arith, are-read (now (c .before .before .before .before .args .words)) (c .before .before .before .before .pre) .long)
 
 shared-slice-read-heading-of-2 : tie.Need-shared-slice-read-heading-of-2
-shared-slice-read-heading-of-2 c = omega (arith, are-read (now (c .before .before .before .before .before .args .words)) (c .before .before .before .before .before .pre) .long)
+shared-slice-read-heading-of-2 c = omega
+    (arith, are-read (now (c .before .before .before .before .before .args .words)) (c .before .before .before .before .before .pre) .long)
 
 cast-heading-of : tie.Need-cast-heading-of
-cast-heading-of c = record { fits = omega (arith, are-read (now (c .before .before .before .before .before .args .words)) (c .before .before .before .before .before .pre) .heading) }
+cast-heading-of c = record {
+  fits = omega (
+    arith,
+    are-read (now (c .before .before .before .before .before .args .words)) (c .before .before .before .before .before .pre) .heading,
+  );
+}
 
 heading-of-requires : tie.Need-heading-of-requires
 heading-of-requires c κs = search needs
 
 shared-slice-read-t5 : tie.Need-shared-slice-read-t5
-shared-slice-read-t5 c = omega (arith, are-read (now (c .before .before .before .before .before .before .before .args .words)) (c .before .before .before .before .before .before .before .pre) .long)
+shared-slice-read-t5 c = omega (
+  arith,
+  are-read (now (c .before .before .before .before .before .before .before .args .words))
+      (c .before .before .before .before .before .before .before .pre) .long,
+)
 
 shared-slice-read-t9 : tie.Need-shared-slice-read-t9
-shared-slice-read-t9 c = omega (arith, are-read (now (c .before .before .before .before .before .before .before .before .args .words)) (c .before .before .before .before .before .before .before .before .pre) .long)
+shared-slice-read-t9 c = omega (
+  arith,
+  are-read (now (c .before .before .before .before .before .before .before .before .args .words))
+      (c .before .before .before .before .before .before .before .before .pre) .long,
+)
 
 shared-slice-read-t15 : tie.Need-shared-slice-read-t15
-shared-slice-read-t15 c = omega (arith, are-read (now (c .before .before .before .before .before .before .before .before .before .args .words)) (c .before .before .before .before .before .before .before .before .before .pre) .long)
+shared-slice-read-t15 c =
+    omega (
+      arith,
+      are-read (now (c .before .before .before .before .before .before .before .before .before .args .words))
+          (c .before .before .before .before .before .before .before .before .before .pre) .long,
+    )
 
 shared-slice-read-t18 : tie.Need-shared-slice-read-t18
-shared-slice-read-t18 c = omega (arith, are-read (now (c .before .before .before .before .before .before .before .before .before .before .args .words)) (c .before .before .before .before .before .before .before .before .before .before .pre) .long)
+shared-slice-read-t18 c =
+    omega (
+      arith,
+      are-read (now (c .before .before .before .before .before .before .before .before .before .before .args .words))
+          (c .before .before .before .before .before .before .before .before .before .before .pre) .long,
+    )
 
 shared-slice-read-t20 : tie.Need-shared-slice-read-t20
-shared-slice-read-t20 c = omega (arith, are-read (now (c .before .before .before .before .before .before .before .before .before .before .before .args .words)) (c .before .before .before .before .before .before .before .before .before .before .before .pre) .long)
+shared-slice-read-t20 c =
+    omega (
+      arith,
+      are-read (now (c .before .before .before .before .before .before .before .before .before .before .before .args .words))
+          (c .before .before .before .before .before .before .before .before .before .before .before .pre) .long,
+    )
 
 shared-slice-read-t22 : tie.Need-shared-slice-read-t22
-shared-slice-read-t22 c = omega (arith, are-read (now (c .before .before .before .before .before .before .before .before .before .before .before .before .args .words)) (c .before .before .before .before .before .before .before .before .before .before .before .before .pre) .long)
+shared-slice-read-t22 c = omega (
+  arith,
+  are-read (now (c .before .before .before .before .before .before .before .before .before .before .before .before .args .words))
+      (c .before .before .before .before .before .before .before .before .before .before .before .before .pre) .long,
+)
 
 shared-slice-read-t24 : tie.Need-shared-slice-read-t24
-shared-slice-read-t24 c = omega (arith, are-read (now (c .before .before .before .before .before .before .before .before .before .before .before .before .before .args .words)) (c .before .before .before .before .before .before .before .before .before .before .before .before .before .pre) .long)
+shared-slice-read-t24 c = omega (
+  arith,
+  are-read (now (c .before .before .before .before .before .before .before .before .before .before .before .before .before .args .words))
+      (c .before .before .before .before .before .before .before .before .before .before .before .before .before .pre) .long,
+)
 
 cast-t10 : tie.Need-cast-t10
-cast-t10 c = record { fits = omega (arith, are-read (now (c .before .before .before .before .before .before .before .before .before .before .before .before .before .args .words)) (c .before .before .before .before .before .before .before .before .before .before .before .before .before .pre) .bearing) }
+cast-t10 c = record {
+  fits = omega (
+    arith,
+    are-read (now (c .before .before .before .before .before .before .before .before .before .before .before .before .before .args .words))
+        (c .before .before .before .before .before .before .before .before .before .before .before .before .before .pre) .bearing,
+  );
+}
 
 returns : tie.Need-returns
 returns c =
     let w = now (c .before .before .before .before .before .before .before .before .before .before .before .before .before .args .words) in
     let known = c .shared-slice-known11 .given in
-    simp (c .before .before .before .before .before .before .before .before .before .before .mode-of .ensures, c .before .before .before .before .before .before .before .heading-of .ensures)
-    (read-plain w (are-read w (c .before .before .before .before .before .before .before .before .before .before .before .before .before .pre)) (omega (arith, known 4)) (omega (arith, known 5)) (omega (arith, known 6)))
+    simp (
+      c .before .before .before .before .before .before .before .before .before .before .mode-of .ensures,
+      c .before .before .before .before .before .before .before .heading-of .ensures,
+    )
+    (read-plain w
+    (are-read w (c .before .before .before .before .before .before .before .before .before .before .before .before .before .pre))
+    (omega (arith, known 4)) (omega (arith, known 5)) (omega (arith, known 6)))
 
 pub guide-at-spec : {M : Type 1} → statement M
 guide-at-spec =

@@ -23,15 +23,28 @@ enum-known-answer-2 c = search needs
 
 returns : tie.Need-returns
 unfolding saysAhead leading numberOf
-returns c = let g = c .before .before .before .before .before .before .before .args in (sym (ap (λ (r : Ahead). numberOf (saysAhead r)) (c .before .before .before .before .before .answer .given .1)), ap (λ (p : SpotValues). record { known = 1; count = c .before .before .before .before .before .answer .given .0 .0; point = p }) (c .put-spot .ensures) ∙ sym (ap (λ (r : Ahead). valuesOf leading (saysAhead r) (aheadValues (now (g .known)) (now (g .count)) (now (g .matched)) (now (g .east)) (now (g .north)))) (c .before .before .before .before .before .answer .given .1)))
+returns c = let g = c .before .before .before .before .before .before .before .args in (
+  sym (ap (λ (r : Ahead). numberOf (saysAhead r)) (c .before .before .before .before .before .answer .given .1)),
+  ap (λ (p : SpotValues). record { known = 1; count = c .before .before .before .before .before .answer .given .0 .0; point = p })
+      (c .put-spot .ensures) ∙ sym (ap (λ (r : Ahead). valuesOf leading (saysAhead r) (aheadValues (now (g .known)) (now (g .count))
+      (now (g .matched)) (now (g .east)) (now (g .north)))) (c .before .before .before .before .before .answer .given .1)),
+)
 
 returns-2 : tie.Need-returns-2
 unfolding saysAhead leading numberOf
-returns-2 c = let g = c .before .before .args in (sym (ap (λ (r : Ahead). numberOf (saysAhead r)) (c .enum-told .given .1)), sym (ap (λ (r : Ahead). valuesOf leading (saysAhead r) (aheadValues (now (g .known)) (now (g .count)) (now (g .matched)) (now (g .east)) (now (g .north)))) (c .enum-told .given .1)))
+returns-2 c = let g = c .before .before .args in (
+  sym (ap (λ (r : Ahead). numberOf (saysAhead r)) (c .enum-told .given .1)),
+  sym (ap (λ (r : Ahead). valuesOf leading (saysAhead r)
+      (aheadValues (now (g .known)) (now (g .count)) (now (g .matched)) (now (g .east)) (now (g .north)))) (c .enum-told .given .1)),
+)
 
 returns-3 : tie.Need-returns-3
 unfolding saysAhead numberOf
-returns-3 c = let g = c .before .before .before .args in (sym (ap (λ (r : Ahead). numberOf (saysAhead r)) (c .before .answer2 .given .1)), sym (ap (λ (r : Ahead). valuesOf leading (saysAhead r) (aheadValues (now (g .known)) (now (g .count)) (now (g .matched)) (now (g .east)) (now (g .north)))) (c .before .answer2 .given .1)))
+returns-3 c = let g = c .before .before .before .args in (
+  sym (ap (λ (r : Ahead). numberOf (saysAhead r)) (c .before .answer2 .given .1)),
+  sym (ap (λ (r : Ahead). valuesOf leading (saysAhead r)
+      (aheadValues (now (g .known)) (now (g .count)) (now (g .matched)) (now (g .east)) (now (g .north)))) (c .before .answer2 .given .1)),
+)
 
 pub put-ahead-spec : {M : Type 1} → statement M
 put-ahead-spec =

@@ -74,7 +74,16 @@ same-length : tie.Need-same-length
 same-length c = simp length-set
 
 returns : tie.Need-returns
-returns c = ten-written (now (c .before .before .before .before .before .before .before .before .args .words)) _ _ _ _ _ _ _ _ _ _ (c .before .before .before .before .before .before .before .before .pre) ∙ simp (c .before .before .before .before .before .before .mode-word .ensures, c .before .before .before .before .before .flag-of .ensures, c .before .before .before .before .flag-of2 .ensures, c .before .before .before .flag-of3 .ensures, c .before .known-word .ensures, c .heading-word .ensures)
+returns c = ten-written (now (c .before .before .before .before .before .before .before .before .args .words)) _ _ _ _ _ _ _ _ _ _
+    (c .before .before .before .before .before .before .before .before .pre)
+    ∙ simp (
+      c .before .before .before .before .before .before .mode-word .ensures,
+      c .before .before .before .before .before .flag-of .ensures,
+      c .before .before .before .before .flag-of2 .ensures,
+      c .before .before .before .flag-of3 .ensures,
+      c .before .known-word .ensures,
+      c .heading-word .ensures,
+    )
 
 pub put-guide-spec : {M : Type 1} → statement M
 put-guide-spec =

@@ -15,11 +15,13 @@ enum-told c = search needs
 
 returns : tie.Need-returns
 unfolding riding
-returns c = let g = c .before .before .args in sym (ap (λ (x : Heading). riding x (headingValues (now (g .known)) (now (g .heading)))) (c .enum-told .given .1))
+returns c = let g = c .before .before .args in
+    sym (ap (λ (x : Heading). riding x (headingValues (now (g .known)) (now (g .heading)))) (c .enum-told .given .1))
 
 returns-2 : tie.Need-returns-2
 unfolding riding
-returns-2 c = let g = c .before .before .before .args in sym (ap (λ (x : Heading). riding x (headingValues (now (g .known)) (now (g .heading)))) (c .before .way .given .1))
+returns-2 c = let g = c .before .before .before .args in
+    sym (ap (λ (x : Heading). riding x (headingValues (now (g .known)) (now (g .heading)))) (c .before .way .given .1))
 
 pub put-heading-spec : {M : Type 1} → statement M
 put-heading-spec = tie.close (tie.spec enum-known-way enum-told returns returns-2)

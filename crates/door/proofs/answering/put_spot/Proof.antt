@@ -15,11 +15,15 @@ enum-told c = search needs
 
 returns : tie.Need-returns
 unfolding spotted
-returns c = let g = c .before .before .args in sym (ap (λ (p : Spot). spotted p (record { matched = now (g .matched); east = now (g .east); north = now (g .north) })) (c .enum-told .given .1))
+returns c = let g = c .before .before .args in
+    sym (ap (λ (p : Spot). spotted p (record { matched = now (g .matched); east = now (g .east); north = now (g .north) }))
+    (c .enum-told .given .1))
 
 returns-2 : tie.Need-returns-2
 unfolding spotted
-returns-2 c = let g = c .before .before .before .args in sym (ap (λ (p : Spot). spotted p (record { matched = now (g .matched); east = now (g .east); north = now (g .north) })) (c .before .point .given .1))
+returns-2 c = let g = c .before .before .before .args in
+    sym (ap (λ (p : Spot). spotted p (record { matched = now (g .matched); east = now (g .east); north = now (g .north) }))
+    (c .before .point .given .1))
 
 pub put-spot-spec : {M : Type 1} → statement M
 put-spot-spec = tie.close (tie.spec enum-known-point enum-told returns returns-2)

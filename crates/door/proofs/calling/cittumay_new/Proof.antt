@@ -21,10 +21,12 @@ same-length-2 : tie.Need-same-length-2
 same-length-2 c = search needs
 
 returns : tie.Need-returns
-returns c = no-room (c .before .before .before .before .before .new .ensures) (c .before .before .has-room .ensures) (c .before .if1 .taken) (c .no-state-with .ensures)
+returns c = no-room (c .before .before .before .before .before .new .ensures) (c .before .before .has-room .ensures) (c .before .if1 .taken)
+    (c .no-state-with .ensures)
 
 keep-changed-requires : tie.Need-keep-changed-requires
-keep-changed-requires c κs = let g = c .before .before .before .before .before .before .before .before .before .before .args in room-found (now (g .words)) (now (g .numbers)) (c .before .before .before .has-room .ensures) (c .before .before .if1 .left)
+keep-changed-requires c κs = let g = c .before .before .before .before .before .before .before .before .before .before .args in
+    room-found (now (g .words)) (now (g .numbers)) (c .before .before .before .has-room .ensures) (c .before .before .if1 .left)
 
 same-length-3 : tie.Need-same-length-3
 same-length-3 c = search needs
@@ -33,7 +35,10 @@ same-length-4 : tie.Need-same-length-4
 same-length-4 c = search needs
 
 returns-2 : tie.Need-returns-2
-returns-2 c = with-room (c .before .before .before .before .before .before .before .before .before .before .before .new .ensures) (c .before .before .before .before .before .before .before .before .has-room .ensures) (c .before .before .before .before .before .before .before .if1 .left) (c .before .before .before .before .keep-changed .ensures .0) (c .before .before .before .before .keep-changed .ensures .1)
+returns-2 c = with-room (c .before .before .before .before .before .before .before .before .before .before .before .new .ensures)
+    (c .before .before .before .before .before .before .before .before .has-room .ensures)
+    (c .before .before .before .before .before .before .before .if1 .left) (c .before .before .before .before .keep-changed .ensures .0)
+    (c .before .before .before .before .keep-changed .ensures .1)
 
 pub cittumay-new-spec : {M : Type 1} → statement M
 cittumay-new-spec =

@@ -25,7 +25,8 @@ replay-requires : tie.Need-replay-requires
 replay-requires c κs = search needs
 
 keep-changed-requires : tie.Need-keep-changed-requires
-keep-changed-requires c κs = room-read (c .before .before .before .before .before .before .before .before .before .load .ensures) (c .before .before .before .before .before .before .before .if1 .left)
+keep-changed-requires c κs = room-read (c .before .before .before .before .before .before .before .before .before .load .ensures)
+    (c .before .before .before .before .before .before .before .if1 .left)
 
 same-length-3 : tie.Need-same-length-3
 same-length-3 c = search needs
@@ -41,8 +42,16 @@ returns-2 c =
     let kept = c .before .before .before .before .keep-changed .ensures in
     let made = c .before .before .before .before .before .before .before .before .before .replay in
     let s = c .before .before .before .before .before .before .before .before .before .before .before .before .before .before .before .before .before .before .before .before in
-    on-held (c .before .before .before .before .before .before .before .before .before .before .before .before .before .before .load .ensures) (c .before .before .before .before .before .before .before .before .before .before .before .before .if1 .left)
-    (record { call = made .result; promised = replayed (s .args .lat) (s .args .lon) (s .fits .lat .sfits) (s .fits .lon .sfits) (made .ensures); state = refl; refusal = kept .0 })
+    on-held
+    (c .before .before .before .before .before .before .before .before .before .before .before .before .before .before .load .ensures)
+    (c .before .before .before .before .before .before .before .before .before .before .before .before .if1 .left)
+    (record {
+      call = made .result;
+      promised = replayed (s .args .lat) (s .args .lon) (s .fits .lat .sfits) (s .fits .lon .sfits)
+          (made .ensures);
+      state = refl;
+      refusal = kept .0;
+    })
     (kept .1)
 
 pub cittumay-replay-spec : {M : Type 1} → statement M

@@ -21,7 +21,8 @@ reset-requires : tie.Need-reset-requires
 reset-requires c κs = search needs
 
 keep-changed-requires : tie.Need-keep-changed-requires
-keep-changed-requires c κs = room-read (c .before .before .before .before .before .before .load .ensures) (c .before .before .before .before .if1 .left)
+keep-changed-requires c κs =
+    room-read (c .before .before .before .before .before .before .load .ensures) (c .before .before .before .before .if1 .left)
 
 same-length-3 : tie.Need-same-length-3
 same-length-3 c = search needs
@@ -33,7 +34,8 @@ returns-2 : tie.Need-returns-2
 returns-2 c =
     let kept = c .before .before .before .before .keep-changed .ensures in
     let made = c .before .before .before .before .before .before .before .reset in
-    on-held (c .before .before .before .before .before .before .before .before .before .before .before .load .ensures) (c .before .before .before .before .before .before .before .before .before .if1 .left)
+    on-held (c .before .before .before .before .before .before .before .before .before .before .before .load .ensures)
+    (c .before .before .before .before .before .before .before .before .before .if1 .left)
     (record { call = made .result; promised = made .ensures; state = refl; refusal = kept .0 })
     (kept .1)
 

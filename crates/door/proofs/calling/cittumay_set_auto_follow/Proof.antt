@@ -25,7 +25,8 @@ set-auto-follow-requires : tie.Need-set-auto-follow-requires
 set-auto-follow-requires c κs = search needs
 
 keep-changed-requires : tie.Need-keep-changed-requires
-keep-changed-requires c κs = room-read (c .before .before .before .before .before .before .before .before .before .load .ensures) (c .before .before .before .before .before .before .before .if1 .left)
+keep-changed-requires c κs = room-read (c .before .before .before .before .before .before .before .before .before .load .ensures)
+    (c .before .before .before .before .before .before .before .if1 .left)
 
 same-length-3 : tie.Need-same-length-3
 same-length-3 c = search needs
@@ -41,7 +42,9 @@ unfolding isSet
 returns-2 c =
     let kept = c .before .before .before .before .keep-changed .ensures in
     let made = c .before .before .before .before .before .before .before .before .before .set-auto-follow in
-    on-held (c .before .before .before .before .before .before .before .before .before .before .before .before .before .before .load .ensures) (c .before .before .before .before .before .before .before .before .before .before .before .before .if1 .left)
+    on-held
+    (c .before .before .before .before .before .before .before .before .before .before .before .before .before .before .load .ensures)
+    (c .before .before .before .before .before .before .before .before .before .before .before .before .if1 .left)
     (record { call = made .result; promised = made .ensures; state = refl; refusal = kept .0 })
     (kept .1)
 

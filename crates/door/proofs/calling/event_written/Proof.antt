@@ -19,11 +19,13 @@ enum-told c = search needs
 
 returns : tie.Need-returns
 unfolding saysSight
-returns c = c .number-of-event .ensures ∙ sym (ap (λ (a : Sight). valuesOf (λ e _. numberOfEvent e) (saysSight a) (c .before .before .before .before .args .was)) (c .before .before .answer .given .1))
+returns c = c .number-of-event .ensures ∙ sym (ap (λ (a : Sight). valuesOf (λ e _. numberOfEvent e) (saysSight a)
+    (c .before .before .before .before .args .was)) (c .before .before .answer .given .1))
 
 returns-2 : tie.Need-returns-2
 unfolding saysSight
-returns-2 c = sym (ap (λ (a : Sight). valuesOf (λ e _. numberOfEvent e) (saysSight a) (c .before .before .args .was)) (c .enum-told .given .1))
+returns-2 c =
+    sym (ap (λ (a : Sight). valuesOf (λ e _. numberOfEvent e) (saysSight a) (c .before .before .args .was)) (c .enum-told .given .1))
 
 pub event-written-spec : {M : Type 1} → statement M
 event-written-spec =

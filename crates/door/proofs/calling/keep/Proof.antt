@@ -17,7 +17,10 @@ same-length-2 : tie.Need-same-length-2
 same-length-2 c = search needs
 
 returns-2 : tie.Need-returns-2
-returns-2 c = (sym (c .before .before .before .before .before .before .before .if1 .left), record { taken = λ _. c .before .before .before .before .store .ensures; refused = λ ne. absurd (ne refl) })
+returns-2 c = (
+  sym (c .before .before .before .before .before .before .before .if1 .left),
+  record { taken = λ _. c .before .before .before .before .store .ensures; refused = λ ne. absurd (ne refl) },
+)
 
 pub keep-spec : {M : Type 1} → statement M
 keep-spec = tie.close (tie.spec returns store-requires same-length same-length-2 returns-2)

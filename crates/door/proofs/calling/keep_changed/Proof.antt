@@ -17,7 +17,11 @@ same-length-2 : tie.Need-same-length-2
 same-length-2 c = search needs
 
 returns : tie.Need-returns
-returns c = (c .before .before .before .before .keep .ensures .0 ∙ c .before .before .before .before .before .before .before .number-of-reply .ensures, c .before .before .before .before .keep .ensures .1)
+returns c = (
+  c .before .before .before .before .keep .ensures .0
+      ∙ c .before .before .before .before .before .before .before .number-of-reply .ensures,
+  c .before .before .before .before .keep .ensures .1,
+)
 
 pub keep-changed-spec : {M : Type 1} → statement M
 keep-changed-spec =

@@ -30,7 +30,9 @@ number-of-sight-requires : tie.Need-number-of-sight-requires
 number-of-sight-requires c κs = search needs
 
 keep-requires : tie.Need-keep-requires
-keep-requires c κs = room-read (c .before .before .before .before .before .before .before .before .before .before .before .before .before .load .ensures) (c .before .before .before .before .before .before .before .before .before .before .before .if1 .left)
+keep-requires c κs =
+    room-read (c .before .before .before .before .before .before .before .before .before .before .before .before .before .load .ensures)
+    (c .before .before .before .before .before .before .before .before .before .before .before .if1 .left)
 
 same-length-3 : tie.Need-same-length-3
 same-length-3 c = search needs

@@ -20,11 +20,20 @@ enum-known-answer-2 c = search needs
 
 returns : tie.Need-returns
 unfolding saysVerdict numberOf
-returns c = (sym (ap (λ (r : Verdict). numberOf (saysVerdict r)) (c .before .before .answer .given .1)), c .flag-of .ensures ∙ sym (ap (λ (r : Verdict). valuesOf flagged (saysVerdict r) (now (c .before .before .before .before .args .yes))) (c .before .before .answer .given .1)))
+returns c = (
+  sym (ap (λ (r : Verdict). numberOf (saysVerdict r)) (c .before .before .answer .given .1)),
+  c .flag-of .ensures
+      ∙ sym (ap (λ (r : Verdict). valuesOf flagged (saysVerdict r) (now (c .before .before .before .before .args .yes)))
+      (c .before .before .answer .given .1)),
+)
 
 returns-2 : tie.Need-returns-2
 unfolding saysVerdict numberOf
-returns-2 c = (sym (ap (λ (r : Verdict). numberOf (saysVerdict r)) (c .before .answer2 .given .1)), sym (ap (λ (r : Verdict). valuesOf flagged (saysVerdict r) (now (c .before .before .before .args .yes))) (c .before .answer2 .given .1)))
+returns-2 c = (
+  sym (ap (λ (r : Verdict). numberOf (saysVerdict r)) (c .before .answer2 .given .1)),
+  sym
+      (ap (λ (r : Verdict). valuesOf flagged (saysVerdict r) (now (c .before .before .before .args .yes))) (c .before .answer2 .given .1)),
+)
 
 pub put-verdict-spec : {M : Type 1} → statement M
 put-verdict-spec =

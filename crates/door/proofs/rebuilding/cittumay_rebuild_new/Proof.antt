@@ -17,7 +17,8 @@ same-length : tie.Need-same-length
 same-length c = search needs
 
 returns-2 : tie.Need-returns-2
-returns-2 c = new-stored _ (c .before .before .before .before .before .if1 .left) (c .before .before .before .before .new .ensures) (c .before .before .store-rebuild .ensures)
+returns-2 c = new-stored _ (c .before .before .before .before .before .if1 .left) (c .before .before .before .before .new .ensures)
+    (c .before .before .store-rebuild .ensures)
 
 pub cittumay-rebuild-new-spec : {M : Type 1} → statement M
 cittumay-rebuild-new-spec =

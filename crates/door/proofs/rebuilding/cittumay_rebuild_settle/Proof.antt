@@ -41,7 +41,14 @@ number-of-reply-requires : tie.Need-number-of-reply-requires
 number-of-reply-requires c κs = search needs
 
 keep-both-requires : tie.Need-keep-both-requires
-keep-both-requires c κs = (rebuild-has-room _ _ (begun (c .before .before .before .before .before .before .before .before .before .before .before .before .before .before .before .before .before .load-rebuild .ensures) (c .before .before .before .before .before .before .before .before .before .before .before .before .before .before .before .if1 .left)), has-room _ _ _ (loaded (c .before .before .before .before .before .before .before .before .before .before .before .before .load .ensures) (c .before .before .before .before .before .before .before .before .before .before .if2 .left)))
+keep-both-requires c κs = (
+  rebuild-has-room _ _ (begun
+      (c .before .before .before .before .before .before .before .before .before .before .before .before .before .before .before .before .before .load-rebuild .ensures)
+      (c .before .before .before .before .before .before .before .before .before .before .before .before .before .before .before .if1 .left)),
+  has-room _ _ _
+      (loaded (c .before .before .before .before .before .before .before .before .before .before .before .before .load .ensures)
+      (c .before .before .before .before .before .before .before .before .before .before .if2 .left)),
+)
 
 same-length-5 : tie.Need-same-length-5
 same-length-5 c = search needs
@@ -53,7 +60,21 @@ same-length-7 : tie.Need-same-length-7
 same-length-7 c = search needs
 
 returns-3 : tie.Need-returns-3
-returns-3 c = let kept = c .before .before .before .before .before .before .keep-both .ensures in with-both _ _ (begun (c .before .before .before .before .before .before .before .before .before .before .before .before .before .before .before .before .before .before .before .before .before .before .before .before .load-rebuild .ensures) (c .before .before .before .before .before .before .before .before .before .before .before .before .before .before .before .before .before .before .before .before .before .before .if1 .left)) (loaded (c .before .before .before .before .before .before .before .before .before .before .before .before .before .before .before .before .before .before .before .load .ensures) (c .before .before .before .before .before .before .before .before .before .before .before .before .before .before .before .before .before .if2 .left)) (record { call = c .before .before .before .before .before .before .before .before .before .before .before .before .before .settle .result; promised = settled-at (c .before .before .before .before .before .before .before .before .before .before .before .before .before .before .utc-of .ensures) (c .before .before .before .before .before .before .before .before .before .before .before .before .before .settle .ensures); refusal = kept .0 ∙ c .before .before .before .before .before .before .before .before .before .before .number-of-reply .ensures; rebuilt = kept .1 .0; state = kept .1 .1 })
+returns-3 c = let kept = c .before .before .before .before .before .before .keep-both .ensures in with-both _ _ (begun
+    (c .before .before .before .before .before .before .before .before .before .before .before .before .before .before .before .before .before .before .before .before .before .before .before .before .load-rebuild .ensures) (c .before .before .before .before .before .before .before .before .before .before .before .before .before .before .before .before .before .before .before .before .before .before .if1 .left)) (loaded (c .before .before .before .before .before .before .before .before .before .before .before .before .before .before .before .before .before .before .before .load .ensures) (c .before .before .before .before .before .before .before .before .before .before .before .before .before .before .before .before .before .if2 .left))
+    (record {
+      call =
+          c .before .before .before .before .before .before .before .before .before .before .before .before .before .settle .result;
+      promised =
+          settled-at
+          (c .before .before .before .before .before .before .before .before .before .before .before .before .before .before .utc-of .ensures)
+          (c .before .before .before .before .before .before .before .before .before .before .before .before .before .settle .ensures);
+      refusal =
+          kept .0 ∙ c .before .before .before .before .before .before .before .before .before .before .number-of-reply .ensures;
+      rebuilt =
+          kept .1 .0;
+      state = kept .1 .1;
+    })
 
 pub cittumay-rebuild-settle-spec : {M : Type 1} → statement M
 cittumay-rebuild-settle-spec =

@@ -17,7 +17,8 @@ same-length : tie.Need-same-length
 same-length c = search needs
 
 returns : tie.Need-returns
-returns c = without-rebuild (not-begun (c .before .before .before .load-rebuild .ensures) (c .before .if1 .taken)) (c .no-state-with .ensures) (refl, (refl, refl))
+returns c = without-rebuild (not-begun (c .before .before .before .load-rebuild .ensures) (c .before .if1 .taken))
+    (c .no-state-with .ensures) (refl, (refl, refl))
 
 load-requires : tie.Need-load-requires
 load-requires c κs = search needs
@@ -35,7 +36,8 @@ same-length-4 : tie.Need-same-length-4
 same-length-4 c = search needs
 
 returns-2 : tie.Need-returns-2
-returns-2 c = without-guide (unloaded (c .before .before .before .load .ensures) (c .before .if2 .taken)) (c .no-state-with2 .ensures) (refl, (refl, refl))
+returns-2 c = without-guide (unloaded (c .before .before .before .load .ensures) (c .before .if2 .taken)) (c .no-state-with2 .ensures)
+    (refl, (refl, refl))
 
 step-requires : tie.Need-step-requires
 step-requires c κs = search needs
@@ -44,7 +46,13 @@ put-verdict-requires : tie.Need-put-verdict-requires
 put-verdict-requires c κs = search needs
 
 keep-both-requires : tie.Need-keep-both-requires
-keep-both-requires c κs = (rebuild-has-room _ _ (begun (c .before .before .before .before .before .before .before .before .before .before .before .before .before .before .before .before .before .before .before .before .load-rebuild .ensures) (c .before .before .before .before .before .before .before .before .before .before .before .before .before .before .before .before .before .before .if1 .left)), has-room _ _ _ (loaded (c .before .before .before .before .before .before .before .before .before .before .before .before .before .before .before .load .ensures) (c .before .before .before .before .before .before .before .before .before .before .before .before .before .if2 .left)))
+keep-both-requires c κs = (
+  rebuild-has-room _ _ (begun
+      (c .before .before .before .before .before .before .before .before .before .before .before .before .before .before .before .before .before .before .before .before .load-rebuild .ensures) (c .before .before .before .before .before .before .before .before .before .before .before .before .before .before .before .before .before .before .if1 .left)),
+  has-room _ _ _ (loaded
+      (c .before .before .before .before .before .before .before .before .before .before .before .before .before .before .before .load .ensures)
+      (c .before .before .before .before .before .before .before .before .before .before .before .before .before .if2 .left)),
+)
 
 same-length-5 : tie.Need-same-length-5
 same-length-5 c = search needs
@@ -59,7 +67,19 @@ same-length-8 : tie.Need-same-length-8
 same-length-8 c = search needs
 
 returns-3 : tie.Need-returns-3
-returns-3 c = let kept = c .before .before .before .before .before .before .keep-both .ensures in with-both _ _ (begun (c .before .before .before .before .before .before .before .before .before .before .before .before .before .before .before .before .before .before .before .before .before .before .before .before .before .before .before .load-rebuild .ensures) (c .before .before .before .before .before .before .before .before .before .before .before .before .before .before .before .before .before .before .before .before .before .before .before .before .before .if1 .left)) (loaded (c .before .before .before .before .before .before .before .before .before .before .before .before .before .before .before .before .before .before .before .before .before .before .load .ensures) (c .before .before .before .before .before .before .before .before .before .before .before .before .before .before .before .before .before .before .before .before .if2 .left)) (record { made = record { answer = c .before .before .before .before .before .before .before .before .before .before .before .before .before .before .before .before .step .result; promised = c .before .before .before .before .before .before .before .before .before .before .before .before .before .before .before .before .step .ensures; told = kept .0 ∙ c .before .before .before .before .before .before .before .before .before .before .before .before .put-verdict .ensures .0; written = c .before .before .before .before .before .before .before .before .before .before .before .before .put-verdict .ensures .1 }; rebuilt = kept .1 .0; state = kept .1 .1 })
+returns-3 c = let kept = c .before .before .before .before .before .before .keep-both .ensures in with-both _ _ (begun
+    (c .before .before .before .before .before .before .before .before .before .before .before .before .before .before .before .before .before .before .before .before .before .before .before .before .before .before .before .load-rebuild .ensures) (c .before .before .before .before .before .before .before .before .before .before .before .before .before .before .before .before .before .before .before .before .before .before .before .before .before .if1 .left)) (loaded (c .before .before .before .before .before .before .before .before .before .before .before .before .before .before .before .before .before .before .before .before .before .before .load .ensures) (c .before .before .before .before .before .before .before .before .before .before .before .before .before .before .before .before .before .before .before .before .if2 .left)) (record {
+      made = record {
+        answer = c .before .before .before .before .before .before .before .before .before .before .before .before .before .before .before .before .step .result;
+        promised = c .before .before .before .before .before .before .before .before .before .before .before .before .before .before .before .before .step .ensures;
+        told =
+            kept .0 ∙ c .before .before .before .before .before .before .before .before .before .before .before .before .put-verdict .ensures .0;
+        written =
+            c .before .before .before .before .before .before .before .before .before .before .before .before .put-verdict .ensures .1;
+      };
+      rebuilt = kept .1 .0;
+      state = kept .1 .1;
+    })
 
 pub cittumay-rebuild-step-spec : {M : Type 1} → statement M
 cittumay-rebuild-step-spec =

@@ -24,7 +24,8 @@ crumb-requires c κs = search needs
 
 returns-3 : tie.Need-returns-3
 unfolding longEnough minTrackM constant ofBits
-returns-3 c = simp (c .before .before .before .if1 .left, length-crumbs, le-leb _ _ (c .before .before .if2 .left), ← c .before .crumb .ensures)
+returns-3 c =
+    simp (c .before .before .before .if1 .left, length-crumbs, le-leb _ _ (c .before .before .if2 .left), ← c .before .crumb .ensures)
 
 pub long-enough-spec : {M : Type 1} → statement M
 long-enough-spec = tie.close (tie.spec returns returns-2 sub-crumb crumb-requires returns-3)

@@ -29,11 +29,13 @@ returns c =
 
 returns-2 : tie.Need-returns-2
 unfolding nearCourse
-returns-2 c = let g = c .before .before .before .args in sym (ap (λ (x : Line). nearCourse x (crumbs (g .len) (now (g .line))) (g .p)) (c .enum-told2 .given .1))
+returns-2 c = let g = c .before .before .before .args in
+    sym (ap (λ (x : Line). nearCourse x (crumbs (g .len) (now (g .line))) (g .p)) (c .enum-told2 .given .1))
 
 returns-3 : tie.Need-returns-3
 unfolding nearCourse
-returns-3 c = let g = c .before .before .before .args in sym (ap (λ (x : Line). nearCourse x (crumbs (g .len) (now (g .line))) (g .p)) (c .enum-told3 .given .1))
+returns-3 c = let g = c .before .before .before .args in
+    sym (ap (λ (x : Line). nearCourse x (crumbs (g .len) (now (g .line))) (g .p)) (c .enum-told3 .given .1))
 
 pub near-course-spec : {M : Type 1} → statement M
 near-course-spec =

@@ -27,7 +27,8 @@ returns c = let g = c .before .before .before .args in no-heading (g .len) (now 
 returns-2 : tie.Need-returns-2
 returns-2 c =
     let g = c .before .before .before .before .before .args in
-    too-short (g .len) (now (g .crumbs)) (g .p) (g .heading) (c .before .before .heading .given .0 .0) (c .before .before .heading .given .1) (c .if1 .taken)
+    too-short (g .len) (now (g .crumbs)) (g .p) (g .heading) (c .before .before .heading .given .0 .0)
+    (c .before .before .heading .given .1) (c .if1 .taken)
 
 sub-crumb : tie.Need-sub-crumb
 sub-crumb c = search needs
@@ -40,8 +41,10 @@ ends-requires c κs = search needs
 
 nearest-before-requires : tie.Need-nearest-before-requires
 nearest-before-requires c κs =
-    let g = c .before .before .before .before .before .before .before .before .args in
-    (subst (λ (n : ℕ). n ≤ g .len) (sym (c .ends .ensures)) (ends-few (g .len) (now (g .crumbs)) _), c .before .before .before .before .before .before .before .before .pre)
+    let g = c .before .before .before .before .before .before .before .before .args in (
+      subst (λ (n : ℕ). n ≤ g .len) (sym (c .ends .ensures)) (ends-few (g .len) (now (g .crumbs)) _),
+      c .before .before .before .before .before .before .before .before .pre,
+    )
 
 against-near-requires : tie.Need-against-near-requires
 against-near-requires c κs =
@@ -56,8 +59,16 @@ returns-3 : tie.Need-returns-3
 unfolding retraceSkipM constant ofBits
 returns-3 c =
     let g = c .before .before .before .before .before .before .before .before .before .before .args in
-    let is = long-enough (g .len) (now (g .crumbs)) (g .p) (g .heading) (c .before .before .before .before .before .before .before .heading .given .0 .0) (c .before .before .before .before .before .before .before .heading .given .1) (c .before .before .before .before .before .if1 .left) in
-    simp (← is, ← c .before .before .before .before .crumb .ensures, ← c .before .before .ends .ensures, ← c .before .nearest-before .ensures) (c .against-near .ensures)
+    let is = long-enough (g .len) (now (g .crumbs)) (g .p) (g .heading)
+    (c .before .before .before .before .before .before .before .heading .given .0 .0)
+    (c .before .before .before .before .before .before .before .heading .given .1)
+    (c .before .before .before .before .before .if1 .left) in
+    simp (
+      ← is,
+      ← c .before .before .before .before .crumb .ensures,
+      ← c .before .before .ends .ensures,
+      ← c .before .nearest-before .ensures,
+    ) (c .against-near .ensures)
 
 pub rides-back-spec : {M : Type 1} → statement M
 rides-back-spec =

@@ -21,14 +21,16 @@ unfolding recordCount
 question7-requires c κs = (refl, counted _ (c .before .question6 .ensures) (c .if1 .left) .least)
 
 returns-2 : tie.Need-returns-2
-returns-2 c = file-chain _ (c .before .before .before .question6 .ensures) (c .before .before .if1 .left) (c .before .question7 .ensures) (c .if2 .taken)
+returns-2 c = file-chain _ (c .before .before .before .question6 .ensures) (c .before .before .if1 .left) (c .before .question7 .ensures)
+    (c .if2 .taken)
 
 asks-records-requires : tie.Need-asks-records-requires
 unfolding recordCount
 asks-records-requires c κs = refl
 
 returns-3 : tie.Need-returns-3
-returns-3 c = file-records _ (c .before .before .before .before .question6 .ensures) (c .before .before .before .if1 .left) (c .before .before .question7 .ensures) (c .before .if2 .left) (c .asks-records .ensures)
+returns-3 c = file-records _ (c .before .before .before .before .question6 .ensures) (c .before .before .before .if1 .left)
+    (c .before .before .question7 .ensures) (c .before .if2 .left) (c .asks-records .ensures)
 
 pub asks-file-spec : {M : Type 1} → statement M
 asks-file-spec =

@@ -23,7 +23,8 @@ asks-record-requires : tie.Need-asks-record-requires Inv-loop μ-loop
 asks-record-requires c κs = tt
 
 returns-2 : tie.Need-returns-2 Inv-loop μ-loop
-returns-2 c = walking-no (c .before .before .before .before .loop .inv) (c .before .before .before .before .before .before .before .pre) (c .before .before .before .loop-test .taken) (c .before .before .if1 .left) (c .before .asks-record .ensures) (c .if2 .taken)
+returns-2 c = walking-no (c .before .before .before .before .loop .inv) (c .before .before .before .before .before .before .before .pre)
+    (c .before .before .before .loop-test .taken) (c .before .before .if1 .left) (c .before .asks-record .ensures) (c .if2 .taken)
 
 next-of-requires-2 : tie.Need-next-of-requires-2 Inv-loop μ-loop
 next-of-requires-2 c κs = tt
@@ -35,7 +36,8 @@ loop-less : tie.Need-loop-less Inv-loop μ-loop
 loop-less c = omega arith
 
 loop-again : tie.Need-loop-again Inv-loop μ-loop
-loop-again c = walking-next (c .before .before .before .before .before .loop .inv) (c .before .before .before .before .loop-test .taken) (c .before .before .before .if1 .left) (c .before .before .asks-record .ensures) (c .before .if2 .left) (c .next-of2 .ensures)
+loop-again c = walking-next (c .before .before .before .before .before .loop .inv) (c .before .before .before .before .loop-test .taken)
+    (c .before .before .before .if1 .left) (c .before .before .asks-record .ensures) (c .before .if2 .left) (c .next-of2 .ensures)
 
 returns-3 : tie.Need-returns-3 Inv-loop μ-loop
 returns-3 c = walking-none (c .before .loop .inv) (c .before .before .before .before .pre) (c .loop-test .left)

@@ -36,7 +36,8 @@ loop-less : tie.Need-loop-less Inv-loop μ-loop
 loop-less c = omega arith
 
 loop-again : tie.Need-loop-again Inv-loop μ-loop
-loop-again c = passing-next (c .before .before .before .loop .inv) (c .before .before .loop-test .taken) (c .before .crumb-at .ensures) (c .crumb-fits .ensures)
+loop-again c = passing-next (c .before .before .before .loop .inv) (c .before .before .loop-test .taken) (c .before .crumb-at .ensures)
+    (c .crumb-fits .ensures)
 
 returns : tie.Need-returns Inv-loop μ-loop
 returns c = passing-end (c .before .loop .inv) (c .loop-test .left)

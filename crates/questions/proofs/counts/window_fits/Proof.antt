@@ -27,7 +27,8 @@ loop-less : tie.Need-loop-less Inv-loop μ-loop
 loop-less c = omega arith
 
 loop-again : tie.Need-loop-again Inv-loop μ-loop
-loop-again c = waiting-next (c .before .before .before .loop .inv) (c .before .before .loop-test .taken) (c .before .waiting .ensures) (c .place-fits .ensures)
+loop-again c = waiting-next (c .before .before .before .loop .inv) (c .before .before .loop-test .taken) (c .before .waiting .ensures)
+    (c .place-fits .ensures)
 
 returns : tie.Need-returns Inv-loop μ-loop
 returns c = waiting-end (c .before .loop .inv) (c .loop-test .left)

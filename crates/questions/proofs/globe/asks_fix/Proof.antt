@@ -14,20 +14,25 @@ longitude-fits-requires c κs = search needs
 
 returns : tie.Need-returns
 unfolding asksFix
-returns c = simp (asked latitudeFits _ (c .before .before .before .fits .lat) (c .before .before .latitude-fits .ensures) (not-true _ (c .if1 .taken)))
+returns c = simp
+    (asked latitudeFits _ (c .before .before .before .fits .lat) (c .before .before .latitude-fits .ensures) (not-true _ (c .if1 .taken)))
 
 returns-2 : tie.Need-returns-2
 unfolding asksFix
 returns-2 c = simp (
-  asked latitudeFits _ (c .before .before .before .before .fits .lat) (c .before .before .before .latitude-fits .ensures) (not-false _ (c .before .if1 .left)),
-  asked longitudeFits _ (c .before .before .before .before .fits .lon) (c .before .before .longitude-fits .ensures) (not-true _ (c .if2 .taken)),
+  asked latitudeFits _ (c .before .before .before .before .fits .lat) (c .before .before .before .latitude-fits .ensures)
+      (not-false _ (c .before .if1 .left)),
+  asked longitudeFits _ (c .before .before .before .before .fits .lon) (c .before .before .longitude-fits .ensures)
+      (not-true _ (c .if2 .taken)),
 )
 
 returns-3 : tie.Need-returns-3
 unfolding asksFix
 returns-3 c = simp (
-  asked latitudeFits _ (c .before .before .before .before .fits .lat) (c .before .before .before .latitude-fits .ensures) (not-false _ (c .before .if1 .left)),
-  asked longitudeFits _ (c .before .before .before .before .fits .lon) (c .before .before .longitude-fits .ensures) (not-false _ (c .if2 .left)),
+  asked latitudeFits _ (c .before .before .before .before .fits .lat) (c .before .before .before .latitude-fits .ensures)
+      (not-false _ (c .before .if1 .left)),
+  asked longitudeFits _ (c .before .before .before .before .fits .lon) (c .before .before .longitude-fits .ensures)
+      (not-false _ (c .if2 .left)),
 )
 
 pub asks-fix-spec : {M : Type 1} → statement M

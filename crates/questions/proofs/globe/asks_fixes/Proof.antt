@@ -35,8 +35,10 @@ asks-fix-requires c κs = tt
 returns : tie.Need-returns Inv-loop μ-loop
 returns c =
     let at = c .before .before .before .before .before .before in
-    asking-no (at .loop .inv) (c .before .before .before .before .before .loop-test .taken) (ltb-true _ _ (c .before .before .before .before .if1 .taken))
-    (fix-handed _ _ (record { sfits = c .before .before .before .asks-fix-arg .given }) (record { sfits = c .before .before .asks-fix-arg2 .given }) (c .before .asks-fix .ensures))
+    asking-no (at .loop .inv) (c .before .before .before .before .before .loop-test .taken)
+    (ltb-true _ _ (c .before .before .before .before .if1 .taken))
+    (fix-handed _ _ (record { sfits = c .before .before .before .asks-fix-arg .given })
+    (record { sfits = c .before .before .asks-fix-arg2 .given }) (c .before .asks-fix .ensures))
     (c .if2 .taken)
 
 add-i : tie.Need-add-i Inv-loop μ-loop
@@ -48,8 +50,10 @@ loop-less c = omega arith
 loop-again : tie.Need-loop-again Inv-loop μ-loop
 loop-again c =
     let at = c .before .before .before .before .before .before in
-    asking-next (at .loop .inv) (c .before .before .before .before .before .loop-test .taken) (ltb-true _ _ (c .before .before .before .before .if1 .taken))
-    (fix-handed _ _ (record { sfits = c .before .before .before .asks-fix-arg .given }) (record { sfits = c .before .before .asks-fix-arg2 .given }) (c .before .asks-fix .ensures))
+    asking-next (at .loop .inv) (c .before .before .before .before .before .loop-test .taken)
+    (ltb-true _ _ (c .before .before .before .before .if1 .taken))
+    (fix-handed _ _ (record { sfits = c .before .before .before .asks-fix-arg .given })
+    (record { sfits = c .before .before .asks-fix-arg2 .given }) (c .before .asks-fix .ensures))
     (c .if2 .left)
 
 returns-2 : tie.Need-returns-2 Inv-loop μ-loop

@@ -1,5 +1,5 @@
--- `questions::limits::factor_fits` meets its contract: a size is at most the bound where the number lies from the negative bound to the bound, and no
--- binary32 lies between 0.02 and the nearest. Assumes nothing.
+-- `questions::limits::factor_fits` meets its contract: a size is at most the bound where the number lies from the negative bound to the
+-- bound, and no binary32 lies between 0.02 and the nearest. Assumes nothing.
 use mathlib.Core.Path.{sym, subst, _∙_}
 use lib.Dec.{T}
 use lib.Ieee.{binary32, fits, ofBits, neg}

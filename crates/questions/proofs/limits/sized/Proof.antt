@@ -1,4 +1,5 @@
--- `questions::limits::sized` meets its contract: a size is at most the bound where the number lies from the negative bound to the bound. Assumes nothing.
+-- `questions::limits::sized` meets its contract: a size is at most the bound where the number lies from the negative bound to the bound.
+-- Assumes nothing.
 use mathlib.Core.Path.{_∙_}
 use lib.Ieee.{ofBits, neg}
 use Rattle.binary32.specs.Arithmetic.{constant}

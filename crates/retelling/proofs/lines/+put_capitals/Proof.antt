@@ -87,7 +87,8 @@ put-capitals-same-length : (t : ℕ) → put-capitals-lts.Need-same-length (
   put-byte-reads.Asked,
   put-byte-reads.Learnt,
 ) (put-capitals-at t) put-capitals.Post
-put-capitals-same-length t c = c .before .before .put-byte .ensures .size ∙ c .before .before .before .before .before .before .before .put-capitals .ensures .size
+put-capitals-same-length t c =
+    c .before .before .put-byte .ensures .size ∙ c .before .before .before .before .before .before .before .put-capitals .ensures .size
 
 put-capitals-returns-2 : (t : ℕ) → put-capitals-lts.Need-returns-2 (
   put-capitals-below t,
@@ -97,7 +98,9 @@ put-capitals-returns-2 : (t : ℕ) → put-capitals-lts.Need-returns-2 (
   put-byte-reads.Asked,
   put-byte-reads.Learnt,
 ) (put-capitals-at t) put-capitals.Post
-put-capitals-returns-2 t c = writes-capital _ _ (c .before .before .before .before .before .before .before .before .before .if1 .left) (c .before .before .before .capital .ensures) (c .before .before .before .before .before .before .before .put-capitals .ensures) (c .before .before .put-byte .ensures)
+put-capitals-returns-2 t c = writes-capital _ _ (c .before .before .before .before .before .before .before .before .before .if1 .left)
+    (c .before .before .before .capital .ensures) (c .before .before .before .before .before .before .before .put-capitals .ensures)
+    (c .before .before .put-byte .ensures)
 
 pub +put-capitals-spec : {M : Type 1} → statement M
 +put-capitals-spec = close μ-put-capitals λ t. put-capitals-lts.spec (

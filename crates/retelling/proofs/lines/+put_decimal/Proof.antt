@@ -69,7 +69,8 @@ put-decimal-put-decimal-requires : (t : ℕ) → put-decimal-lts.Need-put-decima
   put-decimal-below t,
   put-decimal.Post,
 ) (put-decimal-at t) put-decimal.Post
-put-decimal-put-decimal-requires t c κs = (omega (arith, c .before .before .before .pre .0, tenth (c .before .before .before .args .n) (c .before .if1 .left)), tt)
+put-decimal-put-decimal-requires t c κs =
+    (omega (arith, c .before .before .before .pre .0, tenth (c .before .before .before .args .n) (c .before .if1 .left)), tt)
 
 put-decimal-cast-put-byte-2 : (t : ℕ) → put-decimal-lts.Need-cast-put-byte-2 (
   put-byte-reads.Asked,
@@ -101,7 +102,8 @@ put-decimal-same-length-2 : (t : ℕ) → put-decimal-lts.Need-same-length-2 (
   put-decimal-below t,
   put-decimal.Post,
 ) (put-decimal-at t) put-decimal.Post
-put-decimal-same-length-2 t c = c .before .before .put-byte2 .ensures .size ∙ c .before .before .before .before .before .before .put-decimal .ensures .size
+put-decimal-same-length-2 t c =
+    c .before .before .put-byte2 .ensures .size ∙ c .before .before .before .before .before .before .put-decimal .ensures .size
 
 put-decimal-returns-2 : (t : ℕ) → put-decimal-lts.Need-returns-2 (
   put-byte-reads.Asked,
@@ -109,7 +111,8 @@ put-decimal-returns-2 : (t : ℕ) → put-decimal-lts.Need-returns-2 (
   put-decimal-below t,
   put-decimal.Post,
 ) (put-decimal-at t) put-decimal.Post
-put-decimal-returns-2 t c = writes-tenth _ (c .before .before .before .before .before .before .before .before .if1 .left) (c .before .before .before .before .before .before .put-decimal .ensures) (c .before .before .put-byte2 .ensures)
+put-decimal-returns-2 t c = writes-tenth _ (c .before .before .before .before .before .before .before .before .if1 .left)
+    (c .before .before .before .before .before .before .put-decimal .ensures) (c .before .before .put-byte2 .ensures)
 
 pub +put-decimal-spec : {M : Type 1} → statement M
 +put-decimal-spec = close μ-put-decimal λ t. put-decimal-lts.spec (

@@ -28,7 +28,10 @@ same-length c = search needs
 
 returns : tie.Need-returns
 unfolding crumbLine
-returns c = writes-then (writes-then (writes-then (writes-then (writes-then (c .before .before .before .before .before .before .before .before .before .before .before .before .before .before .before .before .before .before .before .before .before .before .put-pattern .ensures) (c .before .before .before .before .before .before .before .before .before .before .before .before .before .before .before .before .before .before .put-byte .ensures)) (c .before .before .before .before .before .before .before .before .before .before .before .before .before .before .put-pattern2 .ensures)) (c .before .before .before .before .before .before .before .before .before .before .put-byte2 .ensures)) (c .before .before .before .before .before .before .put-pattern3 .ensures)) (c .before .before .put-byte3 .ensures)
+returns c = writes-then (writes-then (writes-then (writes-then (writes-then
+    (c .before .before .before .before .before .before .before .before .before .before .before .before .before .before .before .before .before .before .before .before .before .before .put-pattern .ensures) (c .before .before .before .before .before .before .before .before .before .before .before .before .before .before .before .before .before .before .put-byte .ensures)) (c .before .before .before .before .before .before .before .before .before .before .before .before .before .before .put-pattern2 .ensures))
+    (c .before .before .before .before .before .before .before .before .before .before .put-byte2 .ensures))
+    (c .before .before .before .before .before .before .put-pattern3 .ensures)) (c .before .before .put-byte3 .ensures)
 
 pub put-crumb-spec : {M : Type 1} → statement M
 put-crumb-spec =

@@ -40,7 +40,10 @@ same-length c = search needs
 
 returns : tie.Need-returns
 unfolding firstLine
-returns c = writes-then (writes-then (writes-then (writes-then (writes-then (writes-then (c .before .before .before .before .before .before .before .before .before .before .before .before .before .before .before .before .before .before .before .before .before .before .before .before .before .before .before .before .put-word .ensures) (c .before .before .before .before .before .before .before .before .before .before .before .before .before .before .before .before .before .before .before .before .before .before .before .before .put-decimal .ensures)) (c .before .before .before .before .before .before .before .before .before .before .before .before .before .before .before .before .before .before .before .put-word2 .ensures)) (c .before .before .before .before .before .before .before .before .before .before .before .before .before .before .before .put-decimal2 .ensures)) (c .before .before .before .before .before .before .before .before .before .before .put-word3 .ensures)) (c .before .before .before .before .before .before .put-stage .ensures)) (c .before .before .put-byte .ensures)
+returns c = writes-then (writes-then (writes-then (writes-then (writes-then (writes-then
+    (c .before .before .before .before .before .before .before .before .before .before .before .before .before .before .before .before .before .before .before .before .before .before .before .before .before .before .before .before .put-word .ensures) (c .before .before .before .before .before .before .before .before .before .before .before .before .before .before .before .before .before .before .before .before .before .before .before .before .put-decimal .ensures)) (c .before .before .before .before .before .before .before .before .before .before .before .before .before .before .before .before .before .before .before .put-word2 .ensures)) (c .before .before .before .before .before .before .before .before .before .before .before .before .before .before .before .put-decimal2 .ensures))
+    (c .before .before .before .before .before .before .before .before .before .before .put-word3 .ensures))
+    (c .before .before .before .before .before .before .put-stage .ensures)) (c .before .before .put-byte .ensures)
 
 pub put-first-spec : {M : Type 1} → statement M
 put-first-spec =

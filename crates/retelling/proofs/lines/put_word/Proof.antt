@@ -31,7 +31,11 @@ loop-less : tie.Need-loop-less Inv-loop μ-loop
 loop-less c = omega arith
 
 loop-again : tie.Need-loop-again Inv-loop μ-loop
-loop-again c = (omega arith, writes-next _ _ (c .before .before .before .before .before .before .loop .inv .1) (c .before .before .before .before .before .loop-test .taken) refl (c .before .before .put-byte .ensures))
+loop-again c = (
+  omega arith,
+  writes-next _ _ (c .before .before .before .before .before .before .loop .inv .1)
+      (c .before .before .before .before .before .loop-test .taken) refl (c .before .before .put-byte .ensures),
+)
 
 same-length : tie.Need-same-length Inv-loop μ-loop
 same-length c = c .before .loop .inv .1 .size

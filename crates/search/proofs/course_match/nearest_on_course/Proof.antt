@@ -1,4 +1,5 @@
--- `search::course_match::nearest_on_course` meets its contract: the cases are the rule's, and what is found on the near stretch is a segment of the line. Assumes nothing.
+-- `search::course_match::nearest_on_course` meets its contract: the cases are the rule's, and what is found on the near stretch is a
+-- segment of the line. Assumes nothing.
 use mathlib.Core.Path.{sym, _∙_}
 use native.Mathlib.Omega.{arith}
 use borrow.Author.Needs.{needs}

@@ -16,7 +16,13 @@ or-else-requires c κs = search needs
 returns : tie.Need-returns
 unfolding settled
 returns c =
-    simp (← c .before .before .before .slides-back .ensures, c .before .before .if1 .taken, ← c .before .in-reach .ensures, c .or-else .ensures, settled)
+    simp (
+      ← c .before .before .before .slides-back .ensures,
+      c .before .before .if1 .taken,
+      ← c .before .in-reach .ensures,
+      c .or-else .ensures,
+      settled,
+    )
 
 returns-2 : tie.Need-returns-2
 unfolding settled

@@ -15,7 +15,8 @@ overtake-requires c κs = search needs
 
 returns : tie.Need-returns
 returns c =
-    leads-in _ _ _ _ _ (c .before .before .before .reaches .ensures) (c .before .before .if1 .taken) (c .before .square-on .ensures) (c .overtake .ensures)
+    leads-in _ _ _ _ _ (c .before .before .before .reaches .ensures) (c .before .before .if1 .taken) (c .before .square-on .ensures)
+    (c .overtake .ensures)
 
 returns-2 : tie.Need-returns-2
 returns-2 c = leads-out _ _ _ _ _ (c .before .reaches .ensures) (c .if1 .left)

@@ -30,7 +30,8 @@ loop-less : tie.Need-loop-less Inv-loop μ-loop
 loop-less c = omega arith
 
 loop-again : tie.Need-loop-again Inv-loop μ-loop
-loop-again c = chases-on _ _ _ _ (c .before .before .before .loop .inv) (c .before .before .before .before .before .pre .0) (c .before .if1 .taken) (c .consider .ensures)
+loop-again c = chases-on _ _ _ _ (c .before .before .before .loop .inv) (c .before .before .before .before .before .pre .0)
+    (c .before .if1 .taken) (c .consider .ensures)
 
 returns : tie.Need-returns Inv-loop μ-loop
 unfolding nearestWithin
@@ -54,7 +55,8 @@ unfolding nearestWithin
 returns-2 c =
     let d = c .before .before .before .before in
     let l = d .before .before .before .before in
-    chases-one _ _ _ _ (l .loop .inv) (d .before .before .if1 .left) (d .if2 .left) (c .before .before .before .sqrtf .ensures) (c .before .before .sqrtf2 .ensures) (c .before .if3 .taken) (c .nearest-on .ensures)
+    chases-one _ _ _ _ (l .loop .inv) (d .before .before .if1 .left) (d .if2 .left) (c .before .before .before .sqrtf .ensures)
+    (c .before .before .sqrtf2 .ensures) (c .before .if3 .taken) (c .nearest-on .ensures)
 
 nearest-within-requires : tie.Need-nearest-within-requires Inv-loop μ-loop
 nearest-within-requires c κs = search needs

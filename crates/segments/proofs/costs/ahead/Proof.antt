@@ -19,7 +19,8 @@ plain-requires c κs = search needs
 
 returns-2 : tie.Need-returns-2
 unfolding ahead searchM constant ofBits
-returns-2 c = simp (c .before .before .before .if1 .taken, ← c .before .before .against .ensures, c .before .if2 .left, c .plain .ensures, ahead)
+returns-2 c =
+    simp (c .before .before .before .if1 .taken, ← c .before .before .against .ensures, c .before .if2 .left, c .plain .ensures, ahead)
 
 returns-3 : tie.Need-returns-3
 unfolding ahead searchM constant ofBits

@@ -24,8 +24,10 @@ unfolding autoOff
 returns c =
     let g = c .before .before .before .before .before .before .args in
     let k = c .before .before .stop-following in
-    follows-as (autoOff (g .h .«auto_follow»)) (λ C s. andThen (stop C s) λ _ after. done (tt {0}) (withAutoFollow false after)) (g .h) (now (g .crumbs)) _ (k .last .1 .0)
-    (ap (λ (b : Bool). autoOff b (capacity (length (now (g .crumbs)))) (stateOf (g .h) (now (g .crumbs))) .state) (c .before .before .before .before .if1 .taken))
+    follows-as (autoOff (g .h .«auto_follow»)) (λ C s. andThen (stop C s) λ _ after. done (tt {0}) (withAutoFollow false after)) (g .h)
+    (now (g .crumbs)) _ (k .last .1 .0)
+    (ap (λ (b : Bool). autoOff b (capacity (length (now (g .crumbs)))) (stateOf (g .h) (now (g .crumbs))) .state)
+    (c .before .before .before .before .if1 .taken))
     (auto-set stop false (g .h) (k .result) _ (now (g .crumbs)) (k .last .1 .0) (k .ensures) (record { same = λ b. refl; trail = refl }))
 
 returns-2 : tie.Need-returns-2

@@ -34,7 +34,8 @@ returns c =
     let k = c .before .before .way-home in
     let l = courseOf (g .h) (now (g .line)) in
     decides-as (λ C. follow (g .best) C l (g .now-ms)) (λ C. wayHome C l (g .now-ms)) (g .h) (now (g .crumbs)) (k .result) (k .last .1 .0)
-    (ap (λ (b : Best). follow b (capacity (length (now (g .crumbs)))) l (g .now-ms) (stateOf (g .h) (now (g .crumbs)))) (c .before .before .before .before .enum-told .given .1))
+    (ap (λ (b : Best). follow b (capacity (length (now (g .crumbs)))) l (g .now-ms) (stateOf (g .h) (now (g .crumbs))))
+    (c .before .before .before .before .enum-told .given .1))
     (k .ensures)
 
 engage-at-requires : tie.Need-engage-at-requires
@@ -45,7 +46,8 @@ brought-requires c κs =
     let s = c .before .before .before .before .before .before .before in
     let g = s .args in
     let near = c .before .before .before .best .given .0 .0 in
-    engaged-fits (g .h) (c .before .engage-at .result) (courseOf (g .h) (now (g .line))) (near .end) (g .now-ms) (c .before .engage-at .ensures) (length (now (g .crumbs))) (length (now (g .line))) (s .pre .0)
+    engaged-fits (g .h) (c .before .engage-at .result) (courseOf (g .h) (now (g .line))) (near .end) (g .now-ms)
+    (c .before .engage-at .ensures) (length (now (g .crumbs))) (length (now (g .line))) (s .pre .0)
     (subst (λ (b : Best). InLine (g .h .course .«line_len») b) (c .before .before .before .best .given .1) (s .pre .1 .1))
 
 same-length-2 : tie.Need-same-length-2
@@ -57,9 +59,12 @@ returns-2 c =
     let k = c .before .before .brought in
     let near = c .before .before .before .before .before .before .best .given .0 .0 in
     let l = courseOf (g .h) (now (g .line)) in
-    decides-as (λ C. follow (g .best) C l (g .now-ms)) (λ C. follow (Found near) C l (g .now-ms)) (g .h) (now (g .crumbs)) (k .result) (k .last .1 .0)
-    (ap (λ (b : Best). follow b (capacity (length (now (g .crumbs)))) l (g .now-ms) (stateOf (g .h) (now (g .crumbs)))) (c .before .before .before .before .before .before .best .given .1))
-    (goes-on-course (g .h) (c .before .before .before .before .engage-at .result) near (k .result) (now (g .crumbs)) (k .last .1 .0) (now (g .line)) (g .now-ms) (c .before .before .before .before .engage-at .ensures) (k .ensures))
+    decides-as (λ C. follow (g .best) C l (g .now-ms)) (λ C. follow (Found near) C l (g .now-ms)) (g .h) (now (g .crumbs)) (k .result)
+    (k .last .1 .0)
+    (ap (λ (b : Best). follow b (capacity (length (now (g .crumbs)))) l (g .now-ms) (stateOf (g .h) (now (g .crumbs))))
+    (c .before .before .before .before .before .before .best .given .1))
+    (goes-on-course (g .h) (c .before .before .before .before .engage-at .result) near (k .result) (now (g .crumbs)) (k .last .1 .0)
+    (now (g .line)) (g .now-ms) (c .before .before .before .before .engage-at .ensures) (k .ensures))
 
 pub follow-best-spec : {M : Type 1} → statement M
 follow-best-spec =

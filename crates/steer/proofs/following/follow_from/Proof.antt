@@ -24,8 +24,14 @@ near-here-requires c κs = c .before .before .before .before .before .pre .cours
 follow-best-requires : tie.Need-follow-best-requires
 follow-best-requires c κs =
     let s = c .before .before .before .before .before .before .before in
-    let g = s .args in
-    (s .pre, (c .before .before .enum-told .given .1, subst (λ (b : Best). InLine (g .h .course .«line_len») b) (sym (c .before .near-here .ensures)) (near-in (g .h .here) (g .h) (now (g .line)))))
+    let g = s .args in (
+      s .pre,
+      (
+        c .before .before .enum-told .given .1,
+        subst (λ (b : Best). InLine (g .h .course .«line_len») b)
+            (sym (c .before .near-here .ensures)) (near-in (g .h .here) (g .h) (now (g .line))),
+      ),
+    )
 
 enum-told-2 : tie.Need-enum-told-2
 enum-told-2 c = search needs
@@ -49,9 +55,12 @@ returns c =
     let k = c .before .before .follow-best in
     let C = capacity (length (now (g .crumbs))) in
     let l = courseOf (g .h) (now (g .line)) in
-    decides-as (λ C. followFrom (g .h .follow .line) C l (g .now-ms)) (λ C. follow (c .before .before .before .before .near-here .result) C l (g .now-ms)) (g .h) (now (g .crumbs)) (k .result) (k .last .1 .1 .0)
-    (ap (λ (x : Line). followFrom x C l (g .now-ms) (stateOf (g .h) (now (g .crumbs)))) (c .before .before .before .before .before .enum-told .given .1)
-    ∙ sym (ap (λ (b : Best). follow b C l (g .now-ms) (stateOf (g .h) (now (g .crumbs)))) (c .before .before .before .before .near-here .ensures)))
+    decides-as (λ C. followFrom (g .h .follow .line) C l (g .now-ms)) (λ C. follow
+    (c .before .before .before .before .near-here .result) C l (g .now-ms)) (g .h) (now (g .crumbs)) (k .result) (k .last .1 .1 .0)
+    (ap (λ (x : Line). followFrom x C l (g .now-ms) (stateOf (g .h) (now (g .crumbs))))
+    (c .before .before .before .before .before .enum-told .given .1)
+    ∙ sym (ap (λ (b : Best). follow b C l (g .now-ms) (stateOf (g .h) (now (g .crumbs))))
+    (c .before .before .before .before .near-here .ensures)))
     (k .ensures)
 
 same-length-2 : tie.Need-same-length-2
@@ -63,8 +72,10 @@ returns-2 c =
     let g = c .before .before .before .before .before .before .before .before .before .args in
     let k = c .before .before .brought in
     let l = courseOf (g .h) (now (g .line)) in
-    decides-as (λ C. followFrom (g .h .follow .line) C l (g .now-ms)) (λ C. brought C l (g .now-ms)) (g .h) (now (g .crumbs)) (k .result) (k .last .1 .0)
-    (ap (λ (x : Line). followFrom x (capacity (length (now (g .crumbs)))) l (g .now-ms) (stateOf (g .h) (now (g .crumbs)))) (c .before .before .before .before .enum-told2 .given .1))
+    decides-as (λ C. followFrom (g .h .follow .line) C l (g .now-ms)) (λ C. brought C l (g .now-ms)) (g .h) (now (g .crumbs)) (k .result)
+    (k .last .1 .0)
+    (ap (λ (x : Line). followFrom x (capacity (length (now (g .crumbs)))) l (g .now-ms) (stateOf (g .h) (now (g .crumbs))))
+    (c .before .before .before .before .enum-told2 .given .1))
     (k .ensures)
 
 same-length-3 : tie.Need-same-length-3
@@ -76,8 +87,10 @@ returns-3 c =
     let g = c .before .before .before .before .before .before .before .before .before .args in
     let k = c .before .before .brought2 in
     let l = courseOf (g .h) (now (g .line)) in
-    decides-as (λ C. followFrom (g .h .follow .line) C l (g .now-ms)) (λ C. brought C l (g .now-ms)) (g .h) (now (g .crumbs)) (k .result) (k .last .1 .0)
-    (ap (λ (x : Line). followFrom x (capacity (length (now (g .crumbs)))) l (g .now-ms) (stateOf (g .h) (now (g .crumbs)))) (c .before .before .before .before .enum-told3 .given .1))
+    decides-as (λ C. followFrom (g .h .follow .line) C l (g .now-ms)) (λ C. brought C l (g .now-ms)) (g .h) (now (g .crumbs)) (k .result)
+    (k .last .1 .0)
+    (ap (λ (x : Line). followFrom x (capacity (length (now (g .crumbs)))) l (g .now-ms) (stateOf (g .h) (now (g .crumbs))))
+    (c .before .before .before .before .enum-told3 .given .1))
     (k .ensures)
 
 pub follow-from-spec : {M : Type 1} → statement M

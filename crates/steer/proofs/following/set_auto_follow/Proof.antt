@@ -33,7 +33,8 @@ returns-2 c =
     let g = c .before .before .before .before .before .before .args in
     let k = c .before .before .auto-off in
     follows-as (setAutoFollow (g .on)) (autoOff (g .h .«auto_follow»)) (g .h) (now (g .crumbs)) (k .result) (k .last .1 .0)
-    (ap (λ (b : Bool). setAutoFollow b (capacity (length (now (g .crumbs)))) (stateOf (g .h) (now (g .crumbs))) .state) (c .before .before .before .before .if1 .left))
+    (ap (λ (b : Bool). setAutoFollow b (capacity (length (now (g .crumbs)))) (stateOf (g .h) (now (g .crumbs))) .state)
+    (c .before .before .before .before .if1 .left))
     (k .ensures)
 
 pub set-auto-follow-spec : {M : Type 1} → statement M

@@ -26,8 +26,10 @@ returns c =
     let g = c .before .before .before .before .before .before .before .args in
     let k = c .before .before .follow-from in
     let l = courseOf (g .h) (now (g .line)) in
-    decides-as (λ C. setFollowing (g .follow) C l (g .now-ms)) (λ C. followFrom (g .h .follow .line) C l (g .now-ms)) (g .h) (now (g .crumbs)) (k .result) (k .last .1 .0)
-    (ap (λ (b : Bool). setFollowing b (capacity (length (now (g .crumbs)))) l (g .now-ms) (stateOf (g .h) (now (g .crumbs)))) (c .before .before .before .before .if1 .taken))
+    decides-as (λ C. setFollowing (g .follow) C l (g .now-ms)) (λ C. followFrom (g .h .follow .line) C l (g .now-ms)) (g .h)
+    (now (g .crumbs)) (k .result) (k .last .1 .0)
+    (ap (λ (b : Bool). setFollowing b (capacity (length (now (g .crumbs)))) l (g .now-ms) (stateOf (g .h) (now (g .crumbs))))
+    (c .before .before .before .before .if1 .taken))
     (k .ensures)
 
 stop-following-requires : tie.Need-stop-following-requires
@@ -49,9 +51,12 @@ returns-2 c =
     let t = c .before .before .before .before .before .before .stop-following in
     let k = c .before .before .brought in
     let l = courseOf (g .h) (now (g .line)) in
-    decides-as (λ C. setFollowing (g .follow) C l (g .now-ms)) (λ C. setFollowing false C l (g .now-ms)) (g .h) (now (g .crumbs)) (k .result) (k .last .1 .0)
-    (ap (λ (b : Bool). setFollowing b (capacity (length (now (g .crumbs)))) l (g .now-ms) (stateOf (g .h) (now (g .crumbs)))) (c .before .before .before .before .before .before .before .before .if1 .left))
-    (ends (g .h) (t .result) (k .result) (now (g .crumbs)) (t .last .1 .0) (k .last .1 .0) (now (g .line)) (g .now-ms) (t .ensures) (k .ensures))
+    decides-as (λ C. setFollowing (g .follow) C l (g .now-ms)) (λ C. setFollowing false C l (g .now-ms)) (g .h) (now (g .crumbs))
+    (k .result) (k .last .1 .0)
+    (ap (λ (b : Bool). setFollowing b (capacity (length (now (g .crumbs)))) l (g .now-ms) (stateOf (g .h) (now (g .crumbs))))
+    (c .before .before .before .before .before .before .before .before .if1 .left))
+    (ends (g .h) (t .result) (k .result) (now (g .crumbs)) (t .last .1 .0) (k .last .1 .0) (now (g .line)) (g .now-ms) (t .ensures)
+    (k .ensures))
 
 pub set-following-spec : {M : Type 1} → statement M
 set-following-spec =

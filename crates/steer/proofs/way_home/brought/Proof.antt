@@ -12,7 +12,8 @@ enum-told : tie.Need-enum-told
 enum-told c = search needs
 
 returns : tie.Need-returns
-returns c = let s = c .before .before .before .before in let g = s .args in brought-nowhere (g .h) (now (g .crumbs)) (now (g .line)) (g .now-ms) (c .enum-told .given .1) (s .pre .trail)
+returns c = let s = c .before .before .before .before in let g = s .args in
+    brought-nowhere (g .h) (now (g .crumbs)) (now (g .line)) (g .now-ms) (c .enum-told .given .1) (s .pre .trail)
 
 update-requires : tie.Need-update-requires
 update-requires c κs = search needs
@@ -24,7 +25,8 @@ returns-2 : tie.Need-returns-2
 returns-2 c =
     let g = c .before .before .before .before .before .before .before .before .before .before .args in
     let k = c .before .before .before .update in
-    brought-at (g .h) (now (g .crumbs)) (now (g .line)) (g .now-ms) (c .before .before .before .before .before .before .here .given .0 .0) (k .result) (k .last .1 .0) (c .before .before .before .before .before .before .here .given .1) (k .ensures)
+    brought-at (g .h) (now (g .crumbs)) (now (g .line)) (g .now-ms) (c .before .before .before .before .before .before .here .given .0 .0)
+    (k .result) (k .last .1 .0) (c .before .before .before .before .before .before .here .given .1) (k .ensures)
 
 pub brought-spec : {M : Type 1} → statement M
 brought-spec = tie.close (tie.spec enum-known-here enum-told returns update-requires same-length returns-2)

@@ -25,8 +25,10 @@ returns c =
     let g = c .before .before .before .before .before .before .before .args in
     let k = c .before .before .brought in
     let l = courseOf (g .h) (now (g .line)) in
-    decides-as (λ C. engagedOr (g .engaged) C l (g .now-ms)) (λ C. brought C l (g .now-ms)) (g .h) (now (g .crumbs)) (k .result) (k .last .1 .0)
-    (ap (λ (b : Bool). engagedOr b (capacity (length (now (g .crumbs)))) l (g .now-ms) (stateOf (g .h) (now (g .crumbs)))) (c .before .before .before .before .if1 .taken))
+    decides-as (λ C. engagedOr (g .engaged) C l (g .now-ms)) (λ C. brought C l (g .now-ms)) (g .h) (now (g .crumbs)) (k .result)
+    (k .last .1 .0)
+    (ap (λ (b : Bool). engagedOr b (capacity (length (now (g .crumbs)))) l (g .now-ms) (stateOf (g .h) (now (g .crumbs))))
+    (c .before .before .before .before .if1 .taken))
     (k .ensures)
 
 returns-2 : tie.Need-returns-2

@@ -19,7 +19,8 @@ enum-told c = search needs
 
 returns : tie.Need-returns
 unfolding nearHere
-returns c = let g = c .before .before .before .args in sym (ap (λ (x : Spot). nearHere x (courseOf (g .h) (now (g .line)))) (c .enum-told .given .1))
+returns c = let g = c .before .before .before .args in
+    sym (ap (λ (x : Spot). nearHere x (courseOf (g .h) (now (g .line)))) (c .enum-told .given .1))
 
 course-near-requires : tie.Need-course-near-requires
 course-near-requires c κs = search needs

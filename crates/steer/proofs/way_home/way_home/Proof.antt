@@ -24,7 +24,8 @@ engaged-or-requires c κs =
     let g = s .args in
     let k = c .before .before .before .before .before .before .flush in
     let e = c .before .before .engage in
-    home-fits (k .result) (e .result) (courseOf (k .result) (now (g .line))) (g .now-ms) (k .last .1 .0) (e .ensures) (length (now (g .line))) (k .ensures .fit)
+    home-fits (k .result) (e .result) (courseOf (k .result) (now (g .line))) (g .now-ms) (k .last .1 .0) (e .ensures)
+    (length (now (g .line))) (k .ensures .fit)
     (flushed-fits (g .h) (k .result) (now (g .crumbs)) (k .last .1 .0) (k .ensures) (length (now (g .line))) (s .pre .0 .course) .1)
     (idle-flushed (g .h) (k .result) (now (g .crumbs)) (k .last .1 .0) (k .ensures) (s .pre .1))
 
@@ -37,7 +38,8 @@ returns c =
     let f = c .before .before .before .before .before .before .before .before .before .flush in
     let e = c .before .before .before .before .before .engage in
     let k = c .before .before .engaged-or in
-    goes-home (g .h) (f .result) (e .result) (k .result) (now (g .crumbs)) (f .last .1 .0) (k .last .1 .1 .0) (now (g .line)) (g .now-ms) (f .ensures) (e .ensures) (k .ensures)
+    goes-home (g .h) (f .result) (e .result) (k .result) (now (g .crumbs)) (f .last .1 .0) (k .last .1 .1 .0) (now (g .line)) (g .now-ms)
+    (f .ensures) (e .ensures) (k .ensures)
 
 pub way-home-spec : {M : Type 1} → statement M
 way-home-spec = tie.close (tie.spec flush-requires engage-requires engaged-or-requires same-length returns)

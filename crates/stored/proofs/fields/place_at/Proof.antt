@@ -23,7 +23,9 @@ i32-at-requires-2 : tie.Need-i32-at-requires-2
 i32-at-requires-2 c κs = search needs
 
 returns : tie.Need-returns
-returns c = place-there _ _ (sym (c .before .before .before .flag-at .ensures) ∙ c .before .before .if1 .taken) (toZ-ofZ w32 _ (record { sfits = c .before .i32-at .ok }) ∙ c .before .i32-at .ensures) (toZ-ofZ w32 _ (record { sfits = c .i32-at2 .ok }) ∙ c .i32-at2 .ensures)
+returns c = place-there _ _ (sym (c .before .before .before .flag-at .ensures) ∙ c .before .before .if1 .taken)
+    (toZ-ofZ w32 _ (record { sfits = c .before .i32-at .ok }) ∙ c .before .i32-at .ensures)
+    (toZ-ofZ w32 _ (record { sfits = c .i32-at2 .ok }) ∙ c .i32-at2 .ensures)
 
 returns-2 : tie.Need-returns-2
 returns-2 c = place-missing _ _ (sym (c .before .flag-at .ensures) ∙ c .if1 .left)

@@ -40,7 +40,8 @@ loop-less : tie.Need-loop-less Inv-loop μ-loop
 loop-less c = search needs
 
 loop-again : tie.Need-loop-again Inv-loop μ-loop
-loop-again c = let l = c .before .before .loop in (l .inv .0, copied-on nan (l .inv .1) (omega (arith, l .inv .0, c .before .loop-test .taken)) (omega arith) refl)
+loop-again c = let l = c .before .before .loop in
+    (l .inv .0, copied-on nan (l .inv .1) (omega (arith, l .inv .0, c .before .loop-test .taken)) (omega arith) refl)
 
 same-length : tie.Need-same-length Inv-loop μ-loop
 same-length c = search needs

@@ -30,7 +30,14 @@ spot-at-requires c κs = search needs
 
 returns : tie.Need-returns
 unfolding courseAt
-returns c = simp (← c .before .before .before .before .before .before .before .usize-at .ensures, ← c .before .before .before .before .before .before .flag-at .ensures, ← c .before .before .before .before .before .flag-at2 .ensures, ← c .before .before .before .before .u8-at .ensures, ← c .before .before .before .usize-at2 .ensures, ← c .spot-at .ensures)
+returns c = simp (
+  ← c .before .before .before .before .before .before .before .usize-at .ensures,
+  ← c .before .before .before .before .before .before .flag-at .ensures,
+  ← c .before .before .before .before .before .flag-at2 .ensures,
+  ← c .before .before .before .before .u8-at .ensures,
+  ← c .before .before .before .usize-at2 .ensures,
+  ← c .spot-at .ensures,
+)
 
 pub course-at-spec : {M : Type 1} → statement M
 course-at-spec =

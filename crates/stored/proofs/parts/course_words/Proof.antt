@@ -21,7 +21,15 @@ spot-flag-requires : tie.Need-spot-flag-requires
 spot-flag-requires c κs = search needs
 
 returns : tie.Need-returns
-returns c = let len : c .before .before .before .before .args .c .«line_len» ≤ 18446744073709551615 = omega arith in let fixes : c .before .before .before .before .args .c .«join_fixes» ≤ 255 = omega arith in let end : c .before .before .before .before .args .c .«join_end» ≤ 18446744073709551615 = omega arith in (cons refl (cons (c .before .before .before .flag .ensures) (cons (c .before .before .flag2 .ensures) (cons refl (cons refl (cons (c .spot-flag .ensures) refl))))), (and-in len (and-in (flag-most (c .before .before .before .before .args .c .unplaced)) (and-in (flag-most (c .before .before .before .before .args .c .held)) (and-in fixes (and-in end (and-in (spot-most (c .before .before .before .before .args .c .fix)) none-left)))))) .ok)
+returns c = let len : c .before .before .before .before .args .c .«line_len» ≤ 18446744073709551615 = omega arith in
+    let fixes : c .before .before .before .before .args .c .«join_fixes» ≤ 255 = omega arith in
+    let end : c .before .before .before .before .args .c .«join_end» ≤ 18446744073709551615 = omega arith in (
+      cons refl (cons (c .before .before .before .flag .ensures)
+          (cons (c .before .before .flag2 .ensures) (cons refl (cons refl (cons (c .spot-flag .ensures) refl))))),
+      (and-in len (and-in (flag-most
+          (c .before .before .before .before .args .c .unplaced)) (and-in (flag-most (c .before .before .before .before .args .c .held))
+          (and-in fixes (and-in end (and-in (spot-most (c .before .before .before .before .args .c .fix)) none-left)))))) .ok,
+    )
 
 pub course-words-spec : {M : Type 1} → statement M
 course-words-spec =

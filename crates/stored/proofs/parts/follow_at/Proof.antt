@@ -24,7 +24,12 @@ shared-slice-read-t10 c = search needs
 
 returns : tie.Need-returns
 unfolding followAt
-returns c = simp (← c .before .before .before .before .line-of .ensures, ← c .before .before .before .usize-at .ensures, ← c .before .before .spot-at .ensures, ← c .before .flag-at .ensures)
+returns c = simp (
+  ← c .before .before .before .before .line-of .ensures,
+  ← c .before .before .before .usize-at .ensures,
+  ← c .before .before .spot-at .ensures,
+  ← c .before .flag-at .ensures,
+)
 
 pub follow-at-spec : {M : Type 1} → statement M
 follow-at-spec =

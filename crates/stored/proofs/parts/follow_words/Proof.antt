@@ -18,7 +18,15 @@ flag-requires : tie.Need-flag-requires
 flag-requires c κs = search needs
 
 returns : tie.Need-returns
-returns c = let at : c .before .before .before .args .f .segment ≤ 18446744073709551615 = omega arith in let ms : c .before .before .before .args .f .«reminded_ms» ≤ 18446744073709551615 = omega arith in (cons (c .before .before .line-tag .ensures) (cons refl (cons (c .before .spot-flag .ensures) (cons (c .flag .ensures) (cons refl refl)))), (and-in (line-most (c .before .before .before .args .f .line)) (and-in at (and-in (spot-most (c .before .before .before .args .f .matched)) (and-in (flag-most (c .before .before .before .args .f .off)) (and-in ms none-left))))) .ok)
+returns c = let at : c .before .before .before .args .f .segment ≤ 18446744073709551615 = omega arith in
+    let ms : c .before .before .before .args .f .«reminded_ms» ≤ 18446744073709551615 = omega arith in (
+      cons (c .before .before .line-tag .ensures)
+          (cons refl (cons (c .before .spot-flag .ensures) (cons (c .flag .ensures) (cons refl refl)))),
+      (and-in
+          (line-most (c .before .before .before .args .f .line))
+          (and-in at (and-in (spot-most (c .before .before .before .args .f .matched))
+          (and-in (flag-most (c .before .before .before .args .f .off)) (and-in ms none-left))))) .ok,
+    )
 
 pub follow-words-spec : {M : Type 1} → statement M
 follow-words-spec = tie.close (tie.spec line-tag-requires spot-flag-requires flag-requires returns)

@@ -36,7 +36,17 @@ heading-at-requires c κs = search needs
 
 returns : tie.Need-returns
 unfolding guideRead
-returns c = simp (← c .before .before .before .before .before .before .before .before .mode-of .ensures, ← c .before .before .before .before .before .before .before .flag-at .ensures, ← c .before .before .before .before .before .before .flag-at2 .ensures, ← c .before .before .before .before .before .flag-at3 .ensures, ← c .before .before .before .before .u32-at .ensures, ← c .before .before .before .u32-at2 .ensures, ← c .before .before .u32-at3 .ensures, ← c .before .u16-at .ensures, ← c .heading-at .ensures)
+returns c = simp (
+  ← c .before .before .before .before .before .before .before .before .mode-of .ensures,
+  ← c .before .before .before .before .before .before .before .flag-at .ensures,
+  ← c .before .before .before .before .before .before .flag-at2 .ensures,
+  ← c .before .before .before .before .before .flag-at3 .ensures,
+  ← c .before .before .before .before .u32-at .ensures,
+  ← c .before .before .before .u32-at2 .ensures,
+  ← c .before .before .u32-at3 .ensures,
+  ← c .before .u16-at .ensures,
+  ← c .heading-at .ensures,
+)
 
 pub guide-at-spec : {M : Type 1} → statement M
 guide-at-spec =

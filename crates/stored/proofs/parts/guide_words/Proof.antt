@@ -43,7 +43,25 @@ array-read-t19 : tie.Need-array-read-t19
 array-read-t19 c = search needs
 
 returns : tie.Need-returns
-returns c = let direct : c .before .before .before .before .before .before .before .before .before .args .g .«direct_m» ≤ 4294967295 = omega arith in let track : c .before .before .before .before .before .before .before .before .before .args .g .«track_m» ≤ 4294967295 = omega arith in let off : c .before .before .before .before .before .before .before .before .before .args .g .«off_m» ≤ 4294967295 = omega arith in let bearing : c .before .before .before .before .before .before .before .before .before .args .g .bearing ≤ 65535 = omega arith in (cons (c .before .before .before .before .before .before .before .mode-tag .ensures) (cons (c .before .before .before .before .before .before .flag .ensures) (cons (c .before .before .before .before .before .flag2 .ensures) (cons (c .before .before .before .before .flag3 .ensures) (cons refl (cons refl (cons refl (cons refl (cons (ap (λ l. getD l 0 0) (c .before .before .before .before .before .before .before .before .heading-words .ensures .0)) (cons (ap (λ l. getD l 1 0) (c .before .before .before .before .before .before .before .before .heading-words .ensures .0)) refl))))))))), (and-in (mode-most (c .before .before .before .before .before .before .before .before .before .args .g .mode)) (and-in (flag-most (c .before .before .before .before .before .before .before .before .before .args .g .following)) (and-in (flag-most (c .before .before .before .before .before .before .before .before .before .args .g .course)) (and-in (flag-most (c .before .before .before .before .before .before .before .before .before .args .g .«course_near»)) (and-in direct (and-in track (and-in off (and-in bearing (record { ok = c .before .before .before .before .before .before .before .before .heading-words .ensures .1 }))))))))) .ok)
+returns c = let direct : c .before .before .before .before .before .before .before .before .before .args .g .«direct_m» ≤ 4294967295 =
+    omega arith in
+    let track : c .before .before .before .before .before .before .before .before .before .args .g .«track_m» ≤ 4294967295 = omega arith in
+    let off : c .before .before .before .before .before .before .before .before .before .args .g .«off_m» ≤ 4294967295 = omega arith in
+    let bearing : c .before .before .before .before .before .before .before .before .before .args .g .bearing ≤ 65535 = omega arith in (
+      cons (c .before .before .before .before .before .before .before .mode-tag .ensures) (cons
+          (c .before .before .before .before .before .before .flag .ensures)
+          (cons (c .before .before .before .before .before .flag2 .ensures)
+          (cons (c .before .before .before .before .flag3 .ensures) (cons refl (cons refl (cons refl (cons refl
+          (cons (ap (λ l. getD l 0 0) (c .before .before .before .before .before .before .before .before .heading-words .ensures .0)) (cons
+          (ap (λ l. getD l 1 0) (c .before .before .before .before .before .before .before .before .heading-words .ensures .0))
+          refl))))))))),
+      (and-in (mode-most (c .before .before .before .before .before .before .before .before .before .args .g .mode))
+          (and-in (flag-most (c .before .before .before .before .before .before .before .before .before .args .g .following))
+          (and-in (flag-most (c .before .before .before .before .before .before .before .before .before .args .g .course))
+          (and-in (flag-most (c .before .before .before .before .before .before .before .before .before .args .g .«course_near»))
+          (and-in direct (and-in track (and-in off (and-in bearing
+          (record { ok = c .before .before .before .before .before .before .before .before .heading-words .ensures .1 }))))))))) .ok,
+    )
 
 pub guide-words-spec : {M : Type 1} → statement M
 guide-words-spec =

@@ -19,7 +19,10 @@ cast-t4 : tie.Need-cast-t4
 cast-t4 c = search needs
 
 returns : tie.Need-returns
-returns c = let at : headingIn (c .before .before .args .h) ≤ 65535 = omega (arith, c .heading-in .ok, c .heading-in .ensures) in (cons (c .before .heading-flag .ensures) (cons (c .heading-in .ensures) refl), (and-in (heading-most (c .before .before .args .h)) (and-in at none-left)) .ok)
+returns c = let at : headingIn (c .before .before .args .h) ≤ 65535 = omega (arith, c .heading-in .ok, c .heading-in .ensures) in (
+  cons (c .before .heading-flag .ensures) (cons (c .heading-in .ensures) refl),
+  (and-in (heading-most (c .before .before .args .h)) (and-in at none-left)) .ok,
+)
 
 pub heading-words-spec : {M : Type 1} → statement M
 heading-words-spec = tie.close (tie.spec heading-flag-requires heading-in-requires cast-t4 returns)

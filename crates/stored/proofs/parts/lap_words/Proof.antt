@@ -16,7 +16,12 @@ flag-requires : tie.Need-flag-requires
 flag-requires c κs = search needs
 
 returns : tie.Need-returns
-returns c = (cons (c .before .before .pass-tag .ensures) (cons (c .before .spot-flag .ensures) (cons (c .flag .ensures) refl)), (and-in (stage-most (c .before .before .before .before .args .l .pass .stage)) (and-in (spot-most (c .before .before .before .before .args .l .start)) (and-in (flag-most (c .before .before .before .before .args .l .passed)) none-left))) .ok)
+returns c = (
+  cons (c .before .before .pass-tag .ensures) (cons (c .before .spot-flag .ensures) (cons (c .flag .ensures) refl)),
+  (and-in (stage-most
+      (c .before .before .before .before .args .l .pass .stage)) (and-in (spot-most (c .before .before .before .before .args .l .start))
+      (and-in (flag-most (c .before .before .before .before .args .l .passed)) none-left))) .ok,
+)
 
 pub lap-words-spec : {M : Type 1} → statement M
 lap-words-spec = tie.close (tie.spec pass-tag-requires spot-flag-requires flag-requires returns)

@@ -23,7 +23,12 @@ array-read-t12 : tie.Need-array-read-t12
 array-read-t12 c = search needs
 
 returns : tie.Need-returns
-returns c = let ms : c .before .before .args .m .«heading_ms» ≤ 18446744073709551615 = omega arith in (cons (c .spot-flag .ensures) (cons (ap (λ l. getD l 0 0) (c .before .heading-words .ensures .0)) (cons (ap (λ l. getD l 1 0) (c .before .heading-words .ensures .0)) (cons refl refl))), (and-in (spot-most (c .before .before .args .m .from)) (and-part headingMosts (headingWords (c .before .before .args .m .heading)) refl (c .before .heading-words .ensures .1) (and-in ms none-left))) .ok)
+returns c = let ms : c .before .before .args .m .«heading_ms» ≤ 18446744073709551615 = omega arith in (
+  cons (c .spot-flag .ensures) (cons (ap (λ l. getD l 0 0) (c .before .heading-words .ensures .0))
+      (cons (ap (λ l. getD l 1 0) (c .before .heading-words .ensures .0)) (cons refl refl))),
+  (and-in (spot-most (c .before .before .args .m .from)) (and-part headingMosts (headingWords (c .before .before .args .m .heading)) refl
+      (c .before .heading-words .ensures .1) (and-in ms none-left))) .ok,
+)
 
 pub motion-words-spec : {M : Type 1} → statement M
 motion-words-spec =

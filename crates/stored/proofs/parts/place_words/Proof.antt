@@ -24,7 +24,11 @@ unsigned-requires-2 : tie.Need-unsigned-requires-2
 unsigned-requires-2 c κs = search needs
 
 returns : tie.Need-returns
-returns c = place-words-there (c .before .before .before .before .before .args .p) (c .before .before .before .before .place-flag .ensures) (c .before .before .unsigned .ensures) (c .before .before .before .lat-in .ensures) (record { sfits = c .before .before .before .lat-in .ok }) (c .unsigned2 .ensures) (c .before .lon-in .ensures) (record { sfits = c .before .lon-in .ok })
+returns c = place-words-there (c .before .before .before .before .before .args .p) (c .before .before .before .before .place-flag .ensures)
+    (c .before .before .unsigned .ensures) (c .before .before .before .lat-in .ensures) (record {
+      sfits =
+          c .before .before .before .lat-in .ok;
+    }) (c .unsigned2 .ensures) (c .before .lon-in .ensures) (record { sfits = c .before .lon-in .ok })
 
 pub place-words-spec : {M : Type 1} → statement M
 place-words-spec =

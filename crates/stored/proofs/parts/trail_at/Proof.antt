@@ -21,7 +21,12 @@ usize-at-requires-3 c κs = search needs
 
 returns : tie.Need-returns
 unfolding trailAt
-returns c = simp (← c .usize-at3 .ensures, ← c .before .u8-at .ensures, ← c .before .before .usize-at2 .ensures, ← c .before .before .before .before .usize-at .ensures)
+returns c = simp (
+  ← c .usize-at3 .ensures,
+  ← c .before .u8-at .ensures,
+  ← c .before .before .usize-at2 .ensures,
+  ← c .before .before .before .before .usize-at .ensures,
+)
 
 pub trail-at-spec : {M : Type 1} → statement M
 trail-at-spec =

@@ -41,7 +41,9 @@ loop-less : tie.Need-loop-less Inv-loop μ-loop
 loop-less c = search needs
 
 loop-again : tie.Need-loop-again Inv-loop μ-loop
-loop-again c = let l = c .before .before .loop in let n = now (c .before .before .before .args .numbers) in copied-on nan (l .inv) (omega (arith, part-long n (c .before .before .before .pre), c .before .loop-test .taken)) (omega arith) (part-at n (l .i) (c .before .loop-test .taken))
+loop-again c = let l = c .before .before .loop in let n = now (c .before .before .before .args .numbers) in
+    copied-on nan (l .inv) (omega (arith, part-long n (c .before .before .before .pre), c .before .loop-test .taken)) (omega arith)
+    (part-at n (l .i) (c .before .loop-test .taken))
 
 returns : tie.Need-returns Inv-loop μ-loop
 returns c = part-end (now (c .before .before .args .numbers)) (c .before .before .pre) refl (c .before .loop .inv) (c .loop-test .left)

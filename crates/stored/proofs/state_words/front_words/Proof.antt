@@ -78,7 +78,42 @@ array-read-t65 c = search needs
 
 returns : tie.Need-returns
 unfolding wordsOf
-returns c = let len : c .before .before .before .before .before .before .before .before .before .before .args .h .trail .len ≤ 18446744073709551615 = omega arith in let waiting : c .before .before .before .before .before .before .before .before .before .before .args .h .trail .«window_len» ≤ 18446744073709551615 = omega arith in let retrace : c .before .before .before .before .before .before .before .before .before .before .args .h .trail .retrace ≤ 255 = omega arith in let before : c .before .before .before .before .before .before .before .before .before .before .args .h .trail .«retrace_len» ≤ 18446744073709551615 = omega arith in let ms : c .before .before .before .before .before .before .before .before .before .before .args .h .«here_ms» ≤ 18446744073709551615 = omega (arith, c .before .before .before .before .before .before .before .before .before .before .good .0 .1 .1 .1 .1 .1 .1 .1 .0 .1) in (cons refl (cons refl (cons refl (cons refl (cons refl (cons (ap (λ l. getD l 0 0) (c .before .before .before .before .before .before .before .place-words .ensures .0)) (cons (ap (λ l. getD l 1 0) (c .before .before .before .before .before .before .before .place-words .ensures .0)) (cons (ap (λ l. getD l 2 0) (c .before .before .before .before .before .before .before .place-words .ensures .0)) (cons (ap (λ l. getD l 0 0) (c .before .before .before .before .before .before .place-words2 .ensures .0)) (cons (ap (λ l. getD l 1 0) (c .before .before .before .before .before .before .place-words2 .ensures .0)) (cons (ap (λ l. getD l 2 0) (c .before .before .before .before .before .before .place-words2 .ensures .0)) (cons (c .spot-flag .ensures) (cons refl (cons (ap (λ l. getD l 0 0) (c .before .before .before .before .motion-words .ensures .0)) (cons (ap (λ l. getD l 1 0) (c .before .before .before .before .motion-words .ensures .0)) (cons (ap (λ l. getD l 2 0) (c .before .before .before .before .motion-words .ensures .0)) (cons (ap (λ l. getD l 3 0) (c .before .before .before .before .motion-words .ensures .0)) (cons (ap (λ l. getD l 0 0) (c .before .before .follow-words .ensures .0)) (cons (ap (λ l. getD l 1 0) (c .before .before .follow-words .ensures .0)) (cons (ap (λ l. getD l 2 0) (c .before .before .follow-words .ensures .0)) (cons (ap (λ l. getD l 3 0) (c .before .before .follow-words .ensures .0)) (cons (ap (λ l. getD l 4 0) (c .before .before .follow-words .ensures .0)) refl))))))))))))))))))))), front-fits (c .before .before .before .before .before .before .before .before .before .before .args .h) len waiting retrace before (c .before .before .before .before .before .before .before .place-words .ensures .1) (c .before .before .before .before .before .before .place-words2 .ensures .1) ms (c .before .before .before .before .motion-words .ensures .1) (c .before .before .follow-words .ensures .1), c .before .before .before .before .before .before .before .place-words .ensures .2, c .before .before .before .before .before .before .place-words2 .ensures .2, window-long (c .before .before .before .before .before .before .before .before .before .before))
+returns c = let len : c .before .before .before .before .before .before .before .before .before .before .args .h .trail .len
+    ≤ 18446744073709551615 = omega arith in
+    let waiting : c .before .before .before .before .before .before .before .before .before .before .args .h .trail .«window_len»
+    ≤ 18446744073709551615 = omega arith in
+    let retrace : c .before .before .before .before .before .before .before .before .before .before .args .h .trail .retrace ≤ 255 =
+    omega arith in
+    let before : c .before .before .before .before .before .before .before .before .before .before .args .h .trail .«retrace_len»
+    ≤ 18446744073709551615 = omega arith in
+    let ms : c .before .before .before .before .before .before .before .before .before .before .args .h .«here_ms» ≤ 18446744073709551615 =
+    omega
+    (arith, c .before .before .before .before .before .before .before .before .before .before .good .0 .1 .1 .1 .1 .1 .1 .1 .0 .1) in (
+      cons refl (cons refl (cons refl
+          (cons refl
+          (cons refl (cons (ap (λ l. getD l 0 0) (c .before .before .before .before .before .before .before .place-words .ensures .0))
+          (cons (ap (λ l. getD l 1 0) (c .before .before .before .before .before .before .before .place-words .ensures .0))
+          (cons (ap (λ l. getD l 2 0) (c .before .before .before .before .before .before .before .place-words .ensures .0))
+          (cons (ap (λ l. getD l 0 0) (c .before .before .before .before .before .before .place-words2 .ensures .0))
+          (cons (ap (λ l. getD l 1 0) (c .before .before .before .before .before .before .place-words2 .ensures .0))
+          (cons (ap (λ l. getD l 2 0) (c .before .before .before .before .before .before .place-words2 .ensures .0))
+          (cons (c .spot-flag .ensures)
+          (cons refl (cons (ap (λ l. getD l 0 0) (c .before .before .before .before .motion-words .ensures .0))
+          (cons (ap (λ l. getD l 1 0) (c .before .before .before .before .motion-words .ensures .0))
+          (cons (ap (λ l. getD l 2 0) (c .before .before .before .before .motion-words .ensures .0))
+          (cons (ap (λ l. getD l 3 0) (c .before .before .before .before .motion-words .ensures .0))
+          (cons (ap (λ l. getD l 0 0) (c .before .before .follow-words .ensures .0))
+          (cons (ap (λ l. getD l 1 0) (c .before .before .follow-words .ensures .0)) (cons (ap (λ l. getD l 2 0)
+          (c .before .before .follow-words .ensures .0)) (cons (ap (λ l. getD l 3 0) (c .before .before .follow-words .ensures .0))
+          (cons (ap (λ l. getD l 4 0) (c .before .before .follow-words .ensures .0)) refl))))))))))))))))))))),
+      front-fits (c .before .before .before .before .before .before .before .before .before .before .args .h) len waiting retrace before
+          (c .before .before .before .before .before .before .before .place-words .ensures .1)
+          (c .before .before .before .before .before .before .place-words2 .ensures .1) ms
+          (c .before .before .before .before .motion-words .ensures .1) (c .before .before .follow-words .ensures .1),
+      c .before .before .before .before .before .before .before .place-words .ensures .2,
+      c .before .before .before .before .before .before .place-words2 .ensures .2,
+      window-long (c .before .before .before .before .before .before .before .before .before .before),
+    )
 
 pub front-words-spec : {M : Type 1} → statement M
 front-words-spec =

@@ -27,7 +27,19 @@ utc-in-requires c κs = search needs
 
 returns : tie.Need-returns
 unfolding rebuildWords
-returns c = let recovered : c .before .before .before .before .before .before .args .r .recovered ≤ 4294967295 = omega arith in let slot : c .before .before .before .before .before .before .args .r .walk .slot ≤ 18446744073709551615 = omega arith in let clock : c .before .before .before .before .before .before .args .r .«clock_ms» ≤ 18446744073709551615 = omega arith in let same : c .utc-in .result ≡ utcIn (pendingIn (c .before .before .before .before .before .before .args .r .stage)) = c .utc-in .ensures ∙ ap utcIn (c .before .before .before .before .before .pending-in .ensures) in let time : utcIn (pendingIn (c .before .before .before .before .before .before .args .r .stage)) ≤ 18446744073709551615 = omega (arith, same, c .utc-in .ok) in (cons refl (cons refl (cons refl (cons (c .before .before .pending-flag .ensures) (cons (c .before .utc-flag .ensures ∙ ap utcFlag (c .before .before .before .before .before .pending-in .ensures)) (cons (same) (cons refl refl)))))), (and-in (rebuild-mark-most) (and-in recovered (and-in slot (and-in (pending-most (c .before .before .before .before .before .before .args .r .stage)) (and-in (utc-most (pendingIn (c .before .before .before .before .before .before .args .r .stage))) (and-in time (and-in clock none-left))))))) .ok)
+returns c = let recovered : c .before .before .before .before .before .before .args .r .recovered ≤ 4294967295 = omega arith in
+    let slot : c .before .before .before .before .before .before .args .r .walk .slot ≤ 18446744073709551615 = omega arith in
+    let clock : c .before .before .before .before .before .before .args .r .«clock_ms» ≤ 18446744073709551615 = omega arith in
+    let same : c .utc-in .result ≡ utcIn (pendingIn (c .before .before .before .before .before .before .args .r .stage)) =
+    c .utc-in .ensures ∙ ap utcIn (c .before .before .before .before .before .pending-in .ensures) in
+    let time : utcIn (pendingIn (c .before .before .before .before .before .before .args .r .stage)) ≤ 18446744073709551615 =
+    omega (arith, same, c .utc-in .ok) in (
+      cons refl (cons refl (cons refl (cons (c .before .before .pending-flag .ensures) (cons (c .before .utc-flag .ensures
+          ∙ ap utcFlag (c .before .before .before .before .before .pending-in .ensures)) (cons (same) (cons refl refl)))))),
+      (and-in (rebuild-mark-most) (and-in recovered
+          (and-in slot (and-in (pending-most (c .before .before .before .before .before .before .args .r .stage)) (and-in (utc-most
+          (pendingIn (c .before .before .before .before .before .before .args .r .stage))) (and-in time (and-in clock none-left))))))) .ok,
+    )
 
 pub rebuild-words-spec : {M : Type 1} → statement M
 rebuild-words-spec =
