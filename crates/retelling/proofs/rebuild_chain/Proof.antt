@@ -23,9 +23,14 @@ same-length : tie.Need-same-length
 same-length c = search needs
 
 returns : tie.Need-returns
-returns c = rebuilds _ (c .before .before .before .before .before .before .before .before .before .before .before .pre)
-    (c .before .before .before .before .before .before .before .new .ensures .fresh _) (c .before .before .before .before .new2 .ensures
-    ∙ ap newRebuild (c .before .before .before .before .before .recovered .ensures)) (c .before .before .step .ensures)
+returns c =
+    let new2 = c .before .before .before .before in
+    let recovered = new2 .before in
+    let new = recovered .before .before in
+    let start = new .before .before .before .before in
+    rebuilds _ (start .pre)
+    (new .new .ensures .fresh _) (new2 .new2 .ensures
+    ∙ ap newRebuild (recovered .recovered .ensures)) (c .before .before .step .ensures)
 
 pub rebuild-chain-spec : {M : Type 1} → statement M
 rebuild-chain-spec =

@@ -17,9 +17,12 @@ same-length c = search needs
 returns : tie.Need-returns
 unfolding callOf numbered
 returns c =
-    let s = c .before .before .before .before .before .before .before .before .args in
-    by-number (s .clock) (s .line .now) (fixes (s .lats .now) (s .lons .now)) (c .before .before .before .before .before .if1 .taken)
-    (c .before .before .before .set-auto-follow .ensures .called)
+    let set-auto-follow = c .before .before .before in
+    let first = set-auto-follow .before .before in
+    let start = first .before .before .before in
+    let s = start .args in
+    by-number (s .clock) (s .line .now) (fixes (s .lats .now) (s .lons .now)) (first .if1 .taken)
+    (set-auto-follow .set-auto-follow .ensures .called)
 
 set-auto-follow-requires-2 : tie.Need-set-auto-follow-requires-2
 set-auto-follow-requires-2 c κs = search needs
@@ -30,9 +33,12 @@ same-length-2 c = search needs
 returns-2 : tie.Need-returns-2
 unfolding callOf numbered
 returns-2 c =
-    let s = c .before .before .before .before .before .before .before .before .before .args in
-    by-number (s .clock) (s .line .now) (fixes (s .lats .now) (s .lons .now)) (c .before .before .before .before .before .if2 .taken)
-    (c .before .before .before .set-auto-follow2 .ensures .called)
+    let set-auto-follow2 = c .before .before .before in
+    let second = set-auto-follow2 .before .before in
+    let start = second .before .before .before .before in
+    let s = start .args in
+    by-number (s .clock) (s .line .now) (fixes (s .lats .now) (s .lons .now)) (second .if2 .taken)
+    (set-auto-follow2 .set-auto-follow2 .ensures .called)
 
 place-in-requires : tie.Need-place-in-requires
 place-in-requires c κs = search needs
@@ -46,10 +52,14 @@ same-length-3 c = search needs
 returns-3 : tie.Need-returns-3
 unfolding callOf numbered
 returns-3 c =
-    let s = c .before .before .before .before .before .before .before .before .before .before .before .args in
+    let observe = c .before .before .before in
+    let place-in = observe .before in
+    let third = place-in .before .before in
+    let start = third .before .before .before .before .before in
+    let s = start .args in
     by-number (s .clock) (s .line .now) (fixes (s .lats .now) (s .lons .now))
-    (c .before .before .before .before .before .before .if3 .taken)
-    (at-place (c .before .before .before .before .place-in .ensures) (c .before .before .before .observe .ensures .called))
+    (third .if3 .taken)
+    (at-place (place-in .place-in .ensures) (observe .observe .ensures .called))
 
 replay-requires : tie.Need-replay-requires
 replay-requires c κs = search needs
@@ -60,8 +70,10 @@ same-length-4 c = search needs
 returns-4 : tie.Need-returns-4
 unfolding callOf numbered
 returns-4 c =
-    let s = c .before .before .before .before .before .before .before .before .before .before .args in
-    by-number (s .clock) (s .line .now) (fixes (s .lats .now) (s .lons .now)) (c .before .before .before .before .if4 .taken)
+    let if4 = c .before .before .before .before in
+    let start = if4 .before .before .before .before .before .before in
+    let s = start .args in
+    by-number (s .clock) (s .line .now) (fixes (s .lats .now) (s .lons .now)) (if4 .if4 .taken)
     (c .before .before .replay .ensures)
 
 set-following-requires : tie.Need-set-following-requires
@@ -73,9 +85,12 @@ same-length-5 c = search needs
 returns-5 : tie.Need-returns-5
 unfolding callOf numbered
 returns-5 c =
-    let s = c .before .before .before .before .before .before .before .before .before .before .before .before .args in
-    by-number (s .clock) (s .line .now) (fixes (s .lats .now) (s .lons .now)) (c .before .before .before .before .before .if5 .taken)
-    (c .before .before .before .set-following .ensures .called)
+    let set-following = c .before .before .before in
+    let if5 = set-following .before .before in
+    let start = if5 .before .before .before .before .before .before .before in
+    let s = start .args in
+    by-number (s .clock) (s .line .now) (fixes (s .lats .now) (s .lons .now)) (if5 .if5 .taken)
+    (set-following .set-following .ensures .called)
 
 set-following-requires-2 : tie.Need-set-following-requires-2
 set-following-requires-2 c κs = search needs
@@ -86,9 +101,12 @@ same-length-6 c = search needs
 returns-6 : tie.Need-returns-6
 unfolding callOf numbered
 returns-6 c =
-    let s = c .before .before .before .before .before .before .before .before .before .before .before .before .before .args in
-    by-number (s .clock) (s .line .now) (fixes (s .lats .now) (s .lons .now)) (c .before .before .before .before .before .if6 .taken)
-    (c .before .before .before .set-following2 .ensures .called)
+    let set-following2 = c .before .before .before in
+    let if6 = set-following2 .before .before in
+    let start = if6 .before .before .before .before .before .before .before .before in
+    let s = start .args in
+    by-number (s .clock) (s .line .now) (fixes (s .lats .now) (s .lons .now)) (if6 .if6 .taken)
+    (set-following2 .set-following2 .ensures .called)
 
 ask-lent-requires : tie.Need-ask-lent-requires
 ask-lent-requires c κs = search needs
@@ -98,16 +116,22 @@ same-length-7 c = search needs
 
 returns-7 : tie.Need-returns-7
 returns-7 c =
-    let s = c .before .before .before .before .before .before .before .before .before .before .args in
+    let if5 = c .before .before .before in
+    let if4 = if5 .before in
+    let third = if4 .before in
+    let second = third .before in
+    let first = second .before in
+    let start = first .before .before .before in
+    let s = start .args in
     let beyond : 9 ≤ s .op =
     not-least
     (not-least
     (not-least
-    (not-least (not-least (not-least (c .before .before .before .before .before .before .before .before .before .before .pre)
-    (c .before .before .before .before .before .before .before .if1 .left))
-    (c .before .before .before .before .before .before .if2 .left)) (c .before .before .before .before .before .if3 .left))
-    (c .before .before .before .before .if4 .left))
-    (c .before .before .before .if5 .left))
+    (not-least (not-least (not-least (start .pre)
+    (first .if1 .left))
+    (second .if2 .left)) (third .if3 .left))
+    (if4 .if4 .left))
+    (if5 .if5 .left))
     (c .before .before .if6 .left) in
     left-alone (callOf (s .op) (s .clock) (s .line .now) (fixes (s .lats .now) (s .lons .now))) (s .h) (s .crumbs .now)
     (answering (s .op) (s .clock) (s .line .now) (fixes (s .lats .now) (s .lons .now)) beyond)

@@ -81,10 +81,13 @@ returns c =
 
 add-end : tie.Need-add-end Inv-loop μ-loop
 add-end c =
-    let t = there (c .before .before .before .before .before .loop .inv) (c .before .before .before .before .loop-test .taken)
+    let tested = c .before .before .before .before in
+    let looping = tested .before in
+    let start = looping .before .before .before .before .before .before .before .before .before .before in
+    let t = there (looping .loop .inv) (tested .loop-test .taken)
     (c .before .readable .ensures) (c .if1 .left) .line in omega (
       arith,
-      c .before .before .before .before .before .before .before .before .before .before .before .before .before .before .before .good .1 .1 .1 .1 .1 .1 .1 .0 .0,
+      start .good .1 .1 .1 .1 .1 .1 .1 .0 .0,
     )
 
 add-last : tie.Need-add-last Inv-loop μ-loop
@@ -110,11 +113,15 @@ slice-aggregate-step c =
 
 mul-step : tie.Need-mul-step Inv-loop μ-loop
 mul-step c =
-    let t = there (c .before .before .before .before .before .before .before .loop .inv)
-    (c .before .before .before .before .before .before .loop-test .taken)
-    (c .before .before .before .readable .ensures) (c .before .before .if1 .left) .line in omega (
+    let readable = c .before .before .before in
+    let tested = readable .before .before .before in
+    let looping = tested .before in
+    let start = looping .before .before .before .before .before .before .before .before .before .before in
+    let t = there (looping .loop .inv)
+    (tested .loop-test .taken)
+    (readable .readable .ensures) (c .before .before .if1 .left) .line in omega (
       arith,
-      c .before .before .before .before .before .before .before .before .before .before .before .before .before .before .before .before .before .good .1 .1 .1 .1 .1 .1 .1 .0 .1,
+      start .good .1 .1 .1 .1 .1 .1 .1 .0 .1,
     )
 
 sub-step : tie.Need-sub-step Inv-loop μ-loop
@@ -137,109 +144,165 @@ part-step-end c =
 
 mul-step-2 : tie.Need-mul-step-2 Inv-loop μ-loop
 mul-step-2 c =
-    let t = there (c .before .before .before .before .before .before .before .before .loop .inv)
-    (c .before .before .before .before .before .before .before .loop-test .taken)
-    (c .before .before .before .before .readable .ensures) (c .before .before .before .if1 .left) .lats in omega (
+    let first = c .before .before .before in
+    let readable = first .before in
+    let tested = readable .before .before .before in
+    let looping = tested .before in
+    let start = looping .before .before .before .before .before .before .before .before .before .before in
+    let t = there (looping .loop .inv)
+    (tested .loop-test .taken)
+    (readable .readable .ensures) (first .if1 .left) .lats in omega (
       arith,
-      c .before .before .before .before .before .before .before .before .before .before .before .before .before .before .before .before .before .before .good .1 .1 .1 .1 .1 .1 .1 .1 .0 .1,
+      start .good .1 .1 .1 .1 .1 .1 .1 .1 .0 .1,
     )
 
 sub-step-2 : tie.Need-sub-step-2 Inv-loop μ-loop
 sub-step-2 c =
-    let t = there (c .before .before .before .before .before .before .before .before .loop .inv)
-    (c .before .before .before .before .before .before .before .loop-test .taken)
-    (c .before .before .before .before .readable .ensures) (c .before .before .before .if1 .left) in
+    let first = c .before .before .before in
+    let readable = first .before in
+    let tested = readable .before .before .before in
+    let looping = tested .before in
+    let t = there (looping .loop .inv)
+    (tested .loop-test .taken)
+    (readable .readable .ensures) (first .if1 .left) in
     omega arith
 
 part-step-start-2 : tie.Need-part-step-start-2 Inv-loop μ-loop
 part-step-start-2 c =
-    let t = there (c .before .before .before .before .before .before .before .before .loop .inv)
-    (c .before .before .before .before .before .before .before .loop-test .taken)
-    (c .before .before .before .before .readable .ensures) (c .before .before .before .if1 .left) in
+    let first = c .before .before .before in
+    let readable = first .before in
+    let tested = readable .before .before .before in
+    let looping = tested .before in
+    let t = there (looping .loop .inv)
+    (tested .loop-test .taken)
+    (readable .readable .ensures) (first .if1 .left) in
     omega arith
 
 part-step-end-2 : tie.Need-part-step-end-2 Inv-loop μ-loop
 part-step-end-2 c =
-    let t = there (c .before .before .before .before .before .before .before .before .loop .inv)
-    (c .before .before .before .before .before .before .before .loop-test .taken)
-    (c .before .before .before .before .readable .ensures) (c .before .before .before .if1 .left) in
+    let first = c .before .before .before in
+    let readable = first .before in
+    let tested = readable .before .before .before in
+    let looping = tested .before in
+    let t = there (looping .loop .inv)
+    (tested .loop-test .taken)
+    (readable .readable .ensures) (first .if1 .left) in
     omega arith
 
 mul-step-3 : tie.Need-mul-step-3 Inv-loop μ-loop
 mul-step-3 c =
-    let t = there (c .before .before .before .before .before .before .before .before .before .loop .inv)
-    (c .before .before .before .before .before .before .before .before .loop-test .taken)
-    (c .before .before .before .before .before .readable .ensures) (c .before .before .before .before .if1 .left) .lons in omega (
+    let first = c .before .before .before .before in
+    let readable = first .before in
+    let tested = readable .before .before .before in
+    let looping = tested .before in
+    let start = looping .before .before .before .before .before .before .before .before .before .before in
+    let t = there (looping .loop .inv)
+    (tested .loop-test .taken)
+    (readable .readable .ensures) (first .if1 .left) .lons in omega (
       arith,
-      c .before .before .before .before .before .before .before .before .before .before .before .before .before .before .before .before .before .before .before .good .1 .1 .1 .1 .1 .1 .1 .1 .1 .0 .1,
+      start .good .1 .1 .1 .1 .1 .1 .1 .1 .1 .0 .1,
     )
 
 sub-step-3 : tie.Need-sub-step-3 Inv-loop μ-loop
 sub-step-3 c =
-    let t = there (c .before .before .before .before .before .before .before .before .before .loop .inv)
-    (c .before .before .before .before .before .before .before .before .loop-test .taken)
-    (c .before .before .before .before .before .readable .ensures) (c .before .before .before .before .if1 .left) in
+    let first = c .before .before .before .before in
+    let readable = first .before in
+    let tested = readable .before .before .before in
+    let looping = tested .before in
+    let t = there (looping .loop .inv)
+    (tested .loop-test .taken)
+    (readable .readable .ensures) (first .if1 .left) in
     omega arith
 
 part-step-start-3 : tie.Need-part-step-start-3 Inv-loop μ-loop
 part-step-start-3 c =
-    let t = there (c .before .before .before .before .before .before .before .before .before .loop .inv)
-    (c .before .before .before .before .before .before .before .before .loop-test .taken)
-    (c .before .before .before .before .before .readable .ensures) (c .before .before .before .before .if1 .left) in
+    let first = c .before .before .before .before in
+    let readable = first .before in
+    let tested = readable .before .before .before in
+    let looping = tested .before in
+    let t = there (looping .loop .inv)
+    (tested .loop-test .taken)
+    (readable .readable .ensures) (first .if1 .left) in
     omega arith
 
 part-step-end-3 : tie.Need-part-step-end-3 Inv-loop μ-loop
 part-step-end-3 c =
-    let t = there (c .before .before .before .before .before .before .before .before .before .loop .inv)
-    (c .before .before .before .before .before .before .before .before .loop-test .taken)
-    (c .before .before .before .before .before .readable .ensures) (c .before .before .before .before .if1 .left) in
+    let first = c .before .before .before .before in
+    let readable = first .before in
+    let tested = readable .before .before .before in
+    let looping = tested .before in
+    let t = there (looping .loop .inv)
+    (tested .loop-test .taken)
+    (readable .readable .ensures) (first .if1 .left) in
     omega arith
 
 shared-slice-read-step : tie.Need-shared-slice-read-step Inv-loop μ-loop
-shared-slice-read-step c = written (c .before .before .before .before .before .before .before .before .before .before .before .loop .inv)
-    (c .before .before .before .before .before .before .before .before .before .before .loop-test .taken) .op
+shared-slice-read-step c =
+    let tested = c .before .before .before .before .before .before .before .before .before .before in
+    let looping = tested .before in
+    written (looping .loop .inv)
+    (tested .loop-test .taken) .op
 
 mul-step-4 : tie.Need-mul-step-4 Inv-loop μ-loop
 mul-step-4 c =
-    let w = written (c .before .before .before .before .before .before .before .before .before .before .before .loop .inv)
-    (c .before .before .before .before .before .before .before .before .before .before .loop-test .taken) .clock in omega (
+    let tested = c .before .before .before .before .before .before .before .before .before .before in
+    let looping = tested .before in
+    let start = looping .before .before .before .before .before .before .before .before .before .before in
+    let w = written (looping .loop .inv)
+    (tested .loop-test .taken) .clock in omega (
       arith,
-      c .before .before .before .before .before .before .before .before .before .before .before .before .before .before .before .before .before .before .before .before .before .good .1 .1 .1 .1 .0 .1,
+      start .good .1 .1 .1 .1 .0 .1,
     )
 
 shared-slice-read-step-2 : tie.Need-shared-slice-read-step-2 Inv-loop μ-loop
 shared-slice-read-step-2 c =
-    written (c .before .before .before .before .before .before .before .before .before .before .before .before .loop .inv)
-    (c .before .before .before .before .before .before .before .before .before .before .before .loop-test .taken) .clock
+    let tested = c .before .before .before .before .before .before .before .before .before .before .before in
+    let looping = tested .before in
+    written (looping .loop .inv)
+    (tested .loop-test .taken) .clock
 
 step-requires : tie.Need-step-requires Inv-loop μ-loop
 step-requires c κs =
-    let t = there (c .before .before .before .before .before .before .before .before .before .before .before .before .loop .inv)
-    (c .before .before .before .before .before .before .before .before .before .before .before .loop-test .taken)
-    (c .before .before .before .before .before .before .before .before .readable .ensures)
-    (c .before .before .before .before .before .before .before .if1 .left) in
-    let r = c .before .before .before .before .before .before .before .before .before .before .before .before .loop .inv .room in
+    let first = c .before .before .before .before .before .before .before in
+    let readable = first .before in
+    let tested = readable .before .before .before in
+    let looping = tested .before in
+    let t = there (looping .loop .inv)
+    (tested .loop-test .taken)
+    (readable .readable .ensures)
+    (first .if1 .left) in
+    let r = looping .loop .inv .room in
     as-long _ _ _ _ (omega arith) (t .line)
 
 add-k : tie.Need-add-k Inv-loop μ-loop
 add-k c =
-    let w = written (c .before .before .before .before .before .before .before .before .before .before .before .before .before .before .before .before .before .loop .inv) (c .before .before .before .before .before .before .before .before .before .before .before .before .before .before .before .before .loop-test .taken) .op in omega (arith, c .before .before .before .before .before .before .before .before .before .before .before .before .before .before .before .before .before .before .before .before .before .before .before .before .before .before .before .good .1 .1 .1 .0 .0)
+    let tested = c .before .before .before .before .before .before .before .before .before .before .before .before .before .before .before .before in
+    let looping = tested .before in
+    let start = looping .before .before .before .before .before .before .before .before .before .before in
+    let w = written (looping .loop .inv) (tested .loop-test .taken) .op in omega (arith, start .good .1 .1 .1 .0 .0)
 
 loop-less : tie.Need-loop-less Inv-loop μ-loop
 loop-less c =
-    let more = c .before .before .before .before .before .before .before .before .before .before .before .before .before .before .before .before .loop-test .taken in
+    let tested = c .before .before .before .before .before .before .before .before .before .before .before .before .before .before .before .before in
+    let more = tested .loop-test .taken in
     omega arith
 
 loop-again : tie.Need-loop-again Inv-loop μ-loop
 loop-again c =
-    let k = c .before .before .before .before .before .before .before .before .before .before .before .before .before .before .before .before .before .loop .k in
-    let line = c .before .before .before .before .before .before .before .before .before .before .before .before .before .before .before .before .before .loop .line in
-    goes-on (c .before .before .before .before .before .before .before .before .before .before .before .before .before .before .before .before .before .loop .inv) (c .before .before .before .before .before .before .before .before .before .before .before .before .before .before .before .before .loop-test .taken)
-    (c .before .before .before .before .before .before .before .before .before .before .before .before .before .readable .ensures)
-    (c .before .before .before .before .before .before .before .before .before .before .before .before .if1 .left)
-    (length-front line (c .before .before .before .before .step .last .1 .1 .0) (getD
-    (c .before .before .before .before .before .before .before .before .before .before .before .before .before .before .before .before .before .before .before .before .before .before .before .before .before .before .before .args .sizes .now) k 0)
-    (c .before .before .before .before .step .kept .1 .1 .0)) (c .before .before .before .before .step .ensures)
+    let step = c .before .before .before .before in
+    let first = step .before .before .before .before .before .before .before .before in
+    let readable = first .before in
+    let tested = readable .before .before .before in
+    let looping = tested .before in
+    let start = looping .before .before .before .before .before .before .before .before .before .before in
+    let k = looping .loop .k in
+    let line = looping .loop .line in
+    goes-on (looping .loop .inv) (tested .loop-test .taken)
+    (readable .readable .ensures)
+    (first .if1 .left)
+    (length-front line (step .step .last .1 .1 .0) (getD
+    (start .args .sizes .now) k 0)
+    (step .step .kept .1 .1 .0)) (step .step .ensures)
 
 same-length-3 : tie.Need-same-length-3 Inv-loop μ-loop
 same-length-3 c = c .before .loop .inv .long

@@ -19,9 +19,13 @@ same-length c = search needs
 
 returns : tie.Need-returns
 returns c =
-    let s = c .before .before .before .before .before .before .before .before .args in
-    at-fix (sym (no-fix (s .lats .now) (s .lons .now) (sym (c .before .before .before .before .before .before .count .ensures)
-    ∙ c .before .before .before .before .before .if1 .taken))) (c .before .before .before .replay .ensures .called)
+    let replay = c .before .before .before in
+    let first = replay .before .before in
+    let count = first .before in
+    let start = count .before .before in
+    let s = start .args in
+    at-fix (sym (no-fix (s .lats .now) (s .lons .now) (sym (count .count .ensures)
+    ∙ first .if1 .taken))) (replay .replay .ensures .called)
 
 shared-slice-copy-out-replay : tie.Need-shared-slice-copy-out-replay
 shared-slice-copy-out-replay c = let s = c .before .before .before .before .args in
@@ -39,12 +43,18 @@ same-length-2 c = search needs
 
 returns-2 : tie.Need-returns-2
 returns-2 c =
-    let s = c .before .before .before .before .before .before .before .before .before .before .args in
+    let replay2 = c .before .before .before in
+    let replay-arg4 = replay2 .before in
+    let replay-arg3 = replay-arg4 .before in
+    let first = replay-arg3 .before .before in
+    let count = first .before in
+    let start = count .before .before in
+    let s = start .args in
     at-fix
-    (first-fix (s .lats .now) (s .lons .now) (λ none. c .before .before .before .before .before .before .before .if1 .left
-    (c .before .before .before .before .before .before .before .before .count .ensures ∙ none))
-    (c .before .before .before .before .before .replay-arg3 .given) (c .before .before .before .before .replay-arg4 .given))
-    (c .before .before .before .replay2 .ensures .called)
+    (first-fix (s .lats .now) (s .lons .now) (λ none. first .if1 .left
+    (count .count .ensures ∙ none))
+    (replay-arg3 .replay-arg3 .given) (replay-arg4 .replay-arg4 .given))
+    (replay2 .replay2 .ensures .called)
 
 pub replay-spec : {M : Type 1} → statement M
 replay-spec =

@@ -20,9 +20,13 @@ same-length-2 : tie.Need-same-length-2
 same-length-2 c = search needs
 
 returns : tie.Need-returns
-returns c = rides (c .before .before .before .before .before .before .before .before .before .new .ensures)
-    (c .before .before .before .before .before .before .before .enum-told .given .1) (c .before .before .before .before .perform .ensures)
-    (c .before .before .before .before .perform .kept .1 .1 .0)
+returns c =
+    let perform = c .before .before .before .before in
+    let enum-told = perform .before .before .before in
+    let new = enum-told .before .before in
+    rides (new .new .ensures)
+    (enum-told .enum-told .given .1) (perform .perform .ensures)
+    (perform .perform .kept .1 .1 .0)
 
 enum-told-2 : tie.Need-enum-told-2
 enum-told-2 c = search needs

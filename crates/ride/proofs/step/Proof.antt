@@ -40,12 +40,16 @@ same-length c = search needs
 returns-3 : tie.Need-returns-3
 unfolding callOf numbered
 returns-3 c =
+    let set-course = c .before .before .before in
+    let fill = set-course .before .before .before .before in
+    let third = fill .before .before in
+    let start = third .before .before .before .before .before .before in
     let s =
-    c .before .before .before .before .before .before .before .before .before .before .before .before .before .before .before .args in
+    start .args in
     by-number (s .clock) (s .from .now) (fixes (s .lats .now) (s .lons .now))
-    (c .before .before .before .before .before .before .before .before .before .if3 .taken)
-    (on-copy (c .before .before .before .before .before .before .before .fill .ensures)
-    (c .before .before .before .set-course .ensures .called (s .crumbs .now)))
+    (third .if3 .taken)
+    (on-copy (fill .fill .ensures)
+    (set-course .set-course .ensures .called (s .crumbs .now)))
 
 call-requires : tie.Need-call-requires
 call-requires c κs =

@@ -30,8 +30,11 @@ shared-slice-read-result : tie.Need-shared-slice-read-result
 shared-slice-read-result c = search needs
 
 returns-2 : tie.Need-returns-2
-returns-2 c = tested (now (c .before .before .before .before .before .before .before .before .args .words))
-    (c .before .before .before .before .before .before .before .if1 .left)
+returns-2 c =
+    let first = c .before .before .before .before .before .before .before in
+    let start = first .before in
+    tested (now (start .args .words))
+    (first .if1 .left)
 
 pub are-guide-spec : {M : Type 1} → statement M
 are-guide-spec =

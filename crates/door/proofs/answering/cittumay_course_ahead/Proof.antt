@@ -18,9 +18,13 @@ put-ahead-requires : tie.Need-put-ahead-requires
 put-ahead-requires c κs = search needs
 
 returns-2 : tie.Need-returns-2
-returns-2 c = handed (loaded (c .before .before .before .before .before .before .before .before .before .before .load .ensures)
-    (c .before .before .before .before .before .before .before .before .if1 .left)) _
-    (c .before .before .before .before .before .before .course-ahead .ensures) (c .put-ahead .ensures .0) (c .put-ahead .ensures .1)
+returns-2 c =
+    let course-ahead = c .before .before .before .before .before .before in
+    let first = course-ahead .before .before in
+    let load = first .before .before in
+    handed (loaded (load .load .ensures)
+    (first .if1 .left)) _
+    (course-ahead .course-ahead .ensures) (c .put-ahead .ensures .0) (c .put-ahead .ensures .1)
 
 pub cittumay-course-ahead-spec : {M : Type 1} → statement M
 cittumay-course-ahead-spec =

@@ -26,7 +26,9 @@ enum-known-answer : tie.Need-enum-known-answer
 enum-known-answer c = search needs
 
 put-guide-requires : tie.Need-put-guide-requires
-put-guide-requires c κs = c .before .before .before .before .before .before .before .before .before .if1 .left
+put-guide-requires c κs =
+    let first = c .before .before .before .before .before .before .before .before .before in
+    first .if1 .left
 
 enum-told : tie.Need-enum-told
 enum-told c = search needs
@@ -40,11 +42,16 @@ same-length c = search needs
 returns-3 : tie.Need-returns-3
 unfolding saysShowing showing numberOf
 returns-3 c =
-    answered-with (roomy _ (c .before .before .before .before .before .before .before .before .before .before .before .before .if1 .left)
-    (loaded (c .before .before .before .before .before .before .before .before .before .before .before .load .ensures)
-    (c .before .before .before .before .before .before .before .before .before .if2 .left)))
-    (c .before .before .before .before .before .before .before .guide .ensures)
-    (c .before .before .before .before .before .answer .given .1) (ap (guideValues 1) (c .before .before .put-guide .ensures))
+    let answer = c .before .before .before .before .before in
+    let guide = answer .before .before in
+    let second = guide .before .before in
+    let load = second .before .before in
+    let first = load .before in
+    answered-with (roomy _ (first .if1 .left)
+    (loaded (load .load .ensures)
+    (second .if2 .left)))
+    (guide .guide .ensures)
+    (answer .answer .given .1) (ap (guideValues 1) (c .before .before .put-guide .ensures))
 
 returns-4 : tie.Need-returns-4
 unfolding saysShowing showing numberOf
@@ -54,9 +61,14 @@ returns-4 c = answered (roomy _ (c .before .before .before .before .before .befo
 
 returns-5 : tie.Need-returns-5
 unfolding saysShowing numberOf
-returns-5 c = answered (roomy _ (c .before .before .before .before .before .before .before .before .if1 .left) (loaded
-    (c .before .before .before .before .before .before .before .load .ensures) (c .before .before .before .before .before .if2 .left)))
-    (c .before .before .before .guide .ensures) (c .before .answer2 .given .1)
+returns-5 c =
+    let guide = c .before .before .before in
+    let second = guide .before .before in
+    let load = second .before .before in
+    let first = load .before in
+    answered (roomy _ (first .if1 .left) (loaded
+    (load .load .ensures) (second .if2 .left)))
+    (guide .guide .ensures) (c .before .answer2 .given .1)
 
 pub cittumay-guide-spec : {M : Type 1} → statement M
 cittumay-guide-spec =

@@ -27,9 +27,14 @@ enum-known-answer-2 c = search needs
 
 returns-2 : tie.Need-returns-2
 unfolding saysRiding numberOf
-returns-2 c = answered-with (loaded (c .before .before .before .before .before .before .before .before .before .before .load .ensures)
-    (c .before .before .before .before .before .before .before .before .if1 .left))
-    (c .before .before .before .before .before .before .heading .ensures) (c .before .before .before .before .answer .given .1)
+returns-2 c =
+    let answer = c .before .before .before .before in
+    let heading = answer .before .before in
+    let first = heading .before .before in
+    let load = first .before .before in
+    answered-with (loaded (load .load .ensures)
+    (first .if1 .left))
+    (heading .heading .ensures) (answer .answer .given .1)
     (c .put-heading .ensures)
 
 returns-3 : tie.Need-returns-3

@@ -18,9 +18,13 @@ put-ahead-requires : tie.Need-put-ahead-requires
 put-ahead-requires c κs = search needs
 
 returns-2 : tie.Need-returns-2
-returns-2 c = handed (loaded (c .before .before .before .before .before .before .before .before .before .before .load .ensures)
-    (c .before .before .before .before .before .before .before .before .if1 .left)) _
-    (c .before .before .before .before .before .before .route-home .ensures) (c .put-ahead .ensures .0) (c .put-ahead .ensures .1)
+returns-2 c =
+    let route-home = c .before .before .before .before .before .before in
+    let first = route-home .before .before in
+    let load = first .before .before in
+    handed (loaded (load .load .ensures)
+    (first .if1 .left)) _
+    (route-home .route-home .ensures) (c .put-ahead .ensures .0) (c .put-ahead .ensures .1)
 
 pub cittumay-route-home-spec : {M : Type 1} → statement M
 cittumay-route-home-spec =

@@ -39,69 +39,83 @@ shared-slice-read-t5 c = omega (
 )
 
 shared-slice-read-t9 : tie.Need-shared-slice-read-t9
-shared-slice-read-t9 c = omega (
-  arith,
-  are-read (now (c .before .before .before .before .before .before .before .before .args .words))
-      (c .before .before .before .before .before .before .before .before .pre) .long,
-)
+shared-slice-read-t9 c =
+    let start = c .before .before .before .before .before .before .before .before in
+    omega (
+      arith,
+      are-read (now (start .args .words))
+          (start .pre) .long,
+    )
 
 shared-slice-read-t15 : tie.Need-shared-slice-read-t15
 shared-slice-read-t15 c =
+    let start = c .before .before .before .before .before .before .before .before .before in
     omega (
       arith,
-      are-read (now (c .before .before .before .before .before .before .before .before .before .args .words))
-          (c .before .before .before .before .before .before .before .before .before .pre) .long,
+      are-read (now (start .args .words))
+          (start .pre) .long,
     )
 
 shared-slice-read-t18 : tie.Need-shared-slice-read-t18
 shared-slice-read-t18 c =
+    let start = c .before .before .before .before .before .before .before .before .before .before in
     omega (
       arith,
-      are-read (now (c .before .before .before .before .before .before .before .before .before .before .args .words))
-          (c .before .before .before .before .before .before .before .before .before .before .pre) .long,
+      are-read (now (start .args .words))
+          (start .pre) .long,
     )
 
 shared-slice-read-t20 : tie.Need-shared-slice-read-t20
 shared-slice-read-t20 c =
+    let start = c .before .before .before .before .before .before .before .before .before .before .before in
     omega (
       arith,
-      are-read (now (c .before .before .before .before .before .before .before .before .before .before .before .args .words))
-          (c .before .before .before .before .before .before .before .before .before .before .before .pre) .long,
+      are-read (now (start .args .words))
+          (start .pre) .long,
     )
 
 shared-slice-read-t22 : tie.Need-shared-slice-read-t22
-shared-slice-read-t22 c = omega (
-  arith,
-  are-read (now (c .before .before .before .before .before .before .before .before .before .before .before .before .args .words))
-      (c .before .before .before .before .before .before .before .before .before .before .before .before .pre) .long,
-)
+shared-slice-read-t22 c =
+    let start = c .before .before .before .before .before .before .before .before .before .before .before .before in
+    omega (
+      arith,
+      are-read (now (start .args .words))
+          (start .pre) .long,
+    )
 
 shared-slice-read-t24 : tie.Need-shared-slice-read-t24
-shared-slice-read-t24 c = omega (
-  arith,
-  are-read (now (c .before .before .before .before .before .before .before .before .before .before .before .before .before .args .words))
-      (c .before .before .before .before .before .before .before .before .before .before .before .before .before .pre) .long,
-)
+shared-slice-read-t24 c =
+    let start = c .before .before .before .before .before .before .before .before .before .before .before .before .before in
+    omega (
+      arith,
+      are-read (now (start .args .words))
+          (start .pre) .long,
+    )
 
 cast-t10 : tie.Need-cast-t10
-cast-t10 c = record {
-  fits = omega (
-    arith,
-    are-read (now (c .before .before .before .before .before .before .before .before .before .before .before .before .before .args .words))
-        (c .before .before .before .before .before .before .before .before .before .before .before .before .before .pre) .bearing,
-  );
-}
+cast-t10 c =
+    let start = c .before .before .before .before .before .before .before .before .before .before .before .before .before in
+    record {
+      fits = omega (
+        arith,
+        are-read (now (start .args .words))
+            (start .pre) .bearing,
+      );
+    }
 
 returns : tie.Need-returns
 returns c =
-    let w = now (c .before .before .before .before .before .before .before .before .before .before .before .before .before .args .words) in
+    let heading-of = c .before .before .before .before .before .before .before in
+    let mode-of = heading-of .before .before .before in
+    let start = mode-of .before .before .before in
+    let w = now (start .args .words) in
     let known = c .shared-slice-known11 .given in
     simp (
-      c .before .before .before .before .before .before .before .before .before .before .mode-of .ensures,
-      c .before .before .before .before .before .before .before .heading-of .ensures,
+      mode-of .mode-of .ensures,
+      heading-of .heading-of .ensures,
     )
     (read-plain w
-    (are-read w (c .before .before .before .before .before .before .before .before .before .before .before .before .before .pre))
+    (are-read w (start .pre))
     (omega (arith, known 4)) (omega (arith, known 5)) (omega (arith, known 6)))
 
 pub guide-at-spec : {M : Type 1} → statement M

@@ -68,19 +68,27 @@ heading-word-requires : tie.Need-heading-word-requires
 heading-word-requires c κs = search needs
 
 slice-write-words-10 : tie.Need-slice-write-words-10
-slice-write-words-10 c = simp length-set (omega (arith, c .before .before .before .before .before .before .before .before .pre))
+slice-write-words-10 c =
+    let start = c .before .before .before .before .before .before .before .before in
+    simp length-set (omega (arith, start .pre))
 
 same-length : tie.Need-same-length
 same-length c = simp length-set
 
 returns : tie.Need-returns
-returns c = ten-written (now (c .before .before .before .before .before .before .before .before .args .words)) _ _ _ _ _ _ _ _ _ _
-    (c .before .before .before .before .before .before .before .before .pre)
+returns c =
+    let flag-of3 = c .before .before .before in
+    let flag-of2 = flag-of3 .before in
+    let flag-of = flag-of2 .before in
+    let mode-word = flag-of .before in
+    let start = mode-word .before .before in
+    ten-written (now (start .args .words)) _ _ _ _ _ _ _ _ _ _
+    (start .pre)
     ∙ simp (
-      c .before .before .before .before .before .before .mode-word .ensures,
-      c .before .before .before .before .before .flag-of .ensures,
-      c .before .before .before .before .flag-of2 .ensures,
-      c .before .before .before .flag-of3 .ensures,
+      mode-word .mode-word .ensures,
+      flag-of .flag-of .ensures,
+      flag-of2 .flag-of2 .ensures,
+      flag-of3 .flag-of3 .ensures,
       c .before .known-word .ensures,
       c .heading-word .ensures,
     )

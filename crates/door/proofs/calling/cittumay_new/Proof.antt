@@ -25,8 +25,11 @@ returns c = no-room (c .before .before .before .before .before .new .ensures) (c
     (c .no-state-with .ensures)
 
 keep-changed-requires : tie.Need-keep-changed-requires
-keep-changed-requires c κs = let g = c .before .before .before .before .before .before .before .before .before .before .args in
-    room-found (now (g .words)) (now (g .numbers)) (c .before .before .before .has-room .ensures) (c .before .before .if1 .left)
+keep-changed-requires c κs =
+    let has-room = c .before .before .before in
+    let start = has-room .before .before .before .before .before .before .before in
+    let g = start .args in
+    room-found (now (g .words)) (now (g .numbers)) (has-room .has-room .ensures) (c .before .before .if1 .left)
 
 same-length-3 : tie.Need-same-length-3
 same-length-3 c = search needs
@@ -35,10 +38,15 @@ same-length-4 : tie.Need-same-length-4
 same-length-4 c = search needs
 
 returns-2 : tie.Need-returns-2
-returns-2 c = with-room (c .before .before .before .before .before .before .before .before .before .before .before .new .ensures)
-    (c .before .before .before .before .before .before .before .before .has-room .ensures)
-    (c .before .before .before .before .before .before .before .if1 .left) (c .before .before .before .before .keep-changed .ensures .0)
-    (c .before .before .before .before .keep-changed .ensures .1)
+returns-2 c =
+    let keep-changed = c .before .before .before .before in
+    let first = keep-changed .before .before .before in
+    let has-room = first .before in
+    let new = has-room .before .before .before in
+    with-room (new .new .ensures)
+    (has-room .has-room .ensures)
+    (first .if1 .left) (keep-changed .keep-changed .ensures .0)
+    (keep-changed .keep-changed .ensures .1)
 
 pub cittumay-new-spec : {M : Type 1} → statement M
 cittumay-new-spec =

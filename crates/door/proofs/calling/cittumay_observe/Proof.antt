@@ -18,9 +18,11 @@ same-length-3 c = search needs
 
 returns : tie.Need-returns
 returns c =
-    let s = c .before .before .before .before .before .before .before .before .before .before .before .before .before .before .before in
+    let observe-place = c .before .before .before .before .before .before in
+    let there = observe-place .before .before .before .before .before .before .before .before .before in
+    let s = there in
     observed (s .args .lat) (s .args .lon) (s .fits .lat .sfits) (s .fits .lon .sfits)
-    (c .before .before .before .before .before .before .observe-place .ensures)
+    (observe-place .observe-place .ensures)
 
 pub cittumay-observe-spec : {M : Type 1} → statement M
 cittumay-observe-spec =

@@ -25,8 +25,11 @@ replay-requires : tie.Need-replay-requires
 replay-requires c κs = search needs
 
 keep-changed-requires : tie.Need-keep-changed-requires
-keep-changed-requires c κs = room-read (c .before .before .before .before .before .before .before .before .before .load .ensures)
-    (c .before .before .before .before .before .before .before .if1 .left)
+keep-changed-requires c κs =
+    let first = c .before .before .before .before .before .before .before in
+    let load = first .before .before in
+    room-read (load .load .ensures)
+    (first .if1 .left)
 
 same-length-3 : tie.Need-same-length-3
 same-length-3 c = search needs
@@ -39,12 +42,17 @@ same-length-5 c = search needs
 
 returns-2 : tie.Need-returns-2
 returns-2 c =
-    let kept = c .before .before .before .before .keep-changed .ensures in
-    let made = c .before .before .before .before .before .before .before .before .before .replay in
-    let s = c .before .before .before .before .before .before .before .before .before .before .before .before .before .before .before .before .before .before .before .before in
+    let keep-changed = c .before .before .before .before in
+    let replay = keep-changed .before .before .before .before .before in
+    let first = replay .before .before .before in
+    let load = first .before .before in
+    let there = load .before .before .before .before .before .before in
+    let kept = keep-changed .keep-changed .ensures in
+    let made = replay .replay in
+    let s = there in
     on-held
-    (c .before .before .before .before .before .before .before .before .before .before .before .before .before .before .load .ensures)
-    (c .before .before .before .before .before .before .before .before .before .before .before .before .if1 .left)
+    (load .load .ensures)
+    (first .if1 .left)
     (record {
       call = made .result;
       promised = replayed (s .args .lat) (s .args .lon) (s .fits .lat .sfits) (s .fits .lon .sfits)

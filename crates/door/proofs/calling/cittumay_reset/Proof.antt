@@ -32,10 +32,14 @@ same-length-4 c = search needs
 
 returns-2 : tie.Need-returns-2
 returns-2 c =
-    let kept = c .before .before .before .before .keep-changed .ensures in
-    let made = c .before .before .before .before .before .before .before .reset in
-    on-held (c .before .before .before .before .before .before .before .before .before .before .before .load .ensures)
-    (c .before .before .before .before .before .before .before .before .before .if1 .left)
+    let keep-changed = c .before .before .before .before in
+    let reset = keep-changed .before .before .before in
+    let first = reset .before .before in
+    let load = first .before .before in
+    let kept = keep-changed .keep-changed .ensures in
+    let made = reset .reset in
+    on-held (load .load .ensures)
+    (first .if1 .left)
     (record { call = made .result; promised = made .ensures; state = refl; refusal = kept .0 })
     (kept .1)
 

@@ -25,8 +25,11 @@ set-auto-follow-requires : tie.Need-set-auto-follow-requires
 set-auto-follow-requires c κs = search needs
 
 keep-changed-requires : tie.Need-keep-changed-requires
-keep-changed-requires c κs = room-read (c .before .before .before .before .before .before .before .before .before .load .ensures)
-    (c .before .before .before .before .before .before .before .if1 .left)
+keep-changed-requires c κs =
+    let first = c .before .before .before .before .before .before .before in
+    let load = first .before .before in
+    room-read (load .load .ensures)
+    (first .if1 .left)
 
 same-length-3 : tie.Need-same-length-3
 same-length-3 c = search needs
@@ -40,11 +43,15 @@ same-length-5 c = search needs
 returns-2 : tie.Need-returns-2
 unfolding isSet
 returns-2 c =
-    let kept = c .before .before .before .before .keep-changed .ensures in
-    let made = c .before .before .before .before .before .before .before .before .before .set-auto-follow in
+    let keep-changed = c .before .before .before .before in
+    let set-auto-follow = keep-changed .before .before .before .before .before in
+    let first = set-auto-follow .before .before .before in
+    let load = first .before .before in
+    let kept = keep-changed .keep-changed .ensures in
+    let made = set-auto-follow .set-auto-follow in
     on-held
-    (c .before .before .before .before .before .before .before .before .before .before .before .before .before .before .load .ensures)
-    (c .before .before .before .before .before .before .before .before .before .before .before .before .if1 .left)
+    (load .load .ensures)
+    (first .if1 .left)
     (record { call = made .result; promised = made .ensures; state = refl; refusal = kept .0 })
     (kept .1)
 

@@ -21,8 +21,11 @@ set-course-requires : tie.Need-set-course-requires
 set-course-requires c κs = search needs
 
 keep-changed-requires : tie.Need-keep-changed-requires
-keep-changed-requires c κs = room-read (c .before .before .before .before .before .before .before .before .before .load .ensures)
-    (c .before .before .before .before .before .before .before .if1 .left)
+keep-changed-requires c κs =
+    let first = c .before .before .before .before .before .before .before in
+    let load = first .before .before in
+    room-read (load .load .ensures)
+    (first .if1 .left)
 
 same-length-3 : tie.Need-same-length-3
 same-length-3 c = search needs
@@ -35,11 +38,15 @@ same-length-5 c = search needs
 
 returns-2 : tie.Need-returns-2
 returns-2 c =
-    let kept = c .before .before .before .before .keep-changed .ensures in
-    let made = c .before .before .before .before .before .before .before .before .before .set-course in
+    let keep-changed = c .before .before .before .before in
+    let set-course = keep-changed .before .before .before .before .before in
+    let first = set-course .before .before .before in
+    let load = first .before .before in
+    let kept = keep-changed .keep-changed .ensures in
+    let made = set-course .set-course in
     on-held
-    (c .before .before .before .before .before .before .before .before .before .before .before .before .before .before .load .ensures)
-    (c .before .before .before .before .before .before .before .before .before .before .before .before .if1 .left)
+    (load .load .ensures)
+    (first .if1 .left)
     (record { call = made .result; promised = made .ensures; state = refl; refusal = kept .0 })
     (kept .1)
 

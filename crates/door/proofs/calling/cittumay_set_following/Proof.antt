@@ -29,7 +29,8 @@ put-verdict-requires c κs = search needs
 
 keep-requires : tie.Need-keep-requires
 keep-requires c κs =
-    let answered = c .before .before .before .before .before .before .before .before .before .before in
+    let there = c .before .before .before .before .before .before .before .before .before .before in
+    let answered = there in
     room-read (answered .before .before .load .ensures) (answered .if1 .left)
 
 same-length-3 : tie.Need-same-length-3

@@ -31,8 +31,10 @@ number-of-sight-requires c κs = search needs
 
 keep-requires : tie.Need-keep-requires
 keep-requires c κs =
-    room-read (c .before .before .before .before .before .before .before .before .before .before .before .before .before .load .ensures)
-    (c .before .before .before .before .before .before .before .before .before .before .before .if1 .left)
+    let first = c .before .before .before .before .before .before .before .before .before .before .before in
+    let load = first .before .before in
+    room-read (load .load .ensures)
+    (first .if1 .left)
 
 same-length-3 : tie.Need-same-length-3
 same-length-3 c = search needs
@@ -45,15 +47,21 @@ same-length-5 c = search needs
 
 returns-2 : tie.Need-returns-2
 returns-2 c =
-    let kept = c .before .before .before .before .keep .ensures in
-    let made = c .before .before .before .before .before .before .before .before .before .before .before .before .before .observe in
-    on-held (c .before .before .before .before .before .before .before .before .before .before .before .before .before .before .before .before .before .before .load .ensures) (c .before .before .before .before .before .before .before .before .before .before .before .before .before .before .before .before .if1 .left)
+    let keep = c .before .before .before .before in
+    let number-of-sight = keep .before .before .before in
+    let event-written = number-of-sight .before in
+    let observe = event-written .before .before .before .before .before in
+    let first = observe .before .before .before in
+    let load = first .before .before in
+    let kept = keep .keep .ensures in
+    let made = observe .observe in
+    on-held (load .load .ensures) (first .if1 .left)
     (record {
       made = record {
         answer = made .result;
         promised = made .ensures;
-        told = kept .0 ∙ c .before .before .before .before .before .before .before .number-of-sight .ensures;
-        written = c .before .before .before .before .before .before .before .before .event-written .ensures;
+        told = kept .0 ∙ number-of-sight .number-of-sight .ensures;
+        written = event-written .event-written .ensures;
       };
       state = refl;
     })

@@ -41,14 +41,18 @@ number-of-reply-requires : tie.Need-number-of-reply-requires
 number-of-reply-requires c κs = search needs
 
 keep-both-requires : tie.Need-keep-both-requires
-keep-both-requires c κs = (
-  rebuild-has-room _ _ (begun
-      (c .before .before .before .before .before .before .before .before .before .before .before .before .before .before .before .before .before .load-rebuild .ensures)
-      (c .before .before .before .before .before .before .before .before .before .before .before .before .before .before .before .if1 .left)),
-  has-room _ _ _
-      (loaded (c .before .before .before .before .before .before .before .before .before .before .before .before .load .ensures)
-      (c .before .before .before .before .before .before .before .before .before .before .if2 .left)),
-)
+keep-both-requires c κs =
+    let second = c .before .before .before .before .before .before .before .before .before .before in
+    let load = second .before .before in
+    let first = load .before .before .before in
+    let load-rebuild = first .before .before in (
+      rebuild-has-room _ _ (begun
+          (load-rebuild .load-rebuild .ensures)
+          (first .if1 .left)),
+      has-room _ _ _
+          (loaded (load .load .ensures)
+          (second .if2 .left)),
+    )
 
 same-length-5 : tie.Need-same-length-5
 same-length-5 c = search needs
@@ -60,17 +64,26 @@ same-length-7 : tie.Need-same-length-7
 same-length-7 c = search needs
 
 returns-3 : tie.Need-returns-3
-returns-3 c = let kept = c .before .before .before .before .before .before .keep-both .ensures in with-both _ _ (begun
-    (c .before .before .before .before .before .before .before .before .before .before .before .before .before .before .before .before .before .before .before .before .before .before .before .before .load-rebuild .ensures) (c .before .before .before .before .before .before .before .before .before .before .before .before .before .before .before .before .before .before .before .before .before .before .if1 .left)) (loaded (c .before .before .before .before .before .before .before .before .before .before .before .before .before .before .before .before .before .before .before .load .ensures) (c .before .before .before .before .before .before .before .before .before .before .before .before .before .before .before .before .before .if2 .left))
+returns-3 c =
+    let keep-both = c .before .before .before .before .before .before in
+    let number-of-reply = keep-both .before .before .before .before in
+    let settle = number-of-reply .before .before .before in
+    let utc-of = settle .before in
+    let second = utc-of .before .before .before in
+    let load = second .before .before in
+    let first = load .before .before .before in
+    let load-rebuild = first .before .before in
+    let kept = keep-both .keep-both .ensures in with-both _ _ (begun
+    (load-rebuild .load-rebuild .ensures) (first .if1 .left)) (loaded (load .load .ensures) (second .if2 .left))
     (record {
       call =
-          c .before .before .before .before .before .before .before .before .before .before .before .before .before .settle .result;
+          settle .settle .result;
       promised =
           settled-at
-          (c .before .before .before .before .before .before .before .before .before .before .before .before .before .before .utc-of .ensures)
-          (c .before .before .before .before .before .before .before .before .before .before .before .before .before .settle .ensures);
+          (utc-of .utc-of .ensures)
+          (settle .settle .ensures);
       refusal =
-          kept .0 ∙ c .before .before .before .before .before .before .before .before .before .before .number-of-reply .ensures;
+          kept .0 ∙ number-of-reply .number-of-reply .ensures;
       rebuilt =
           kept .1 .0;
       state = kept .1 .1;

@@ -46,13 +46,17 @@ put-verdict-requires : tie.Need-put-verdict-requires
 put-verdict-requires c κs = search needs
 
 keep-both-requires : tie.Need-keep-both-requires
-keep-both-requires c κs = (
-  rebuild-has-room _ _ (begun
-      (c .before .before .before .before .before .before .before .before .before .before .before .before .before .before .before .before .before .before .before .before .load-rebuild .ensures) (c .before .before .before .before .before .before .before .before .before .before .before .before .before .before .before .before .before .before .if1 .left)),
-  has-room _ _ _ (loaded
-      (c .before .before .before .before .before .before .before .before .before .before .before .before .before .before .before .load .ensures)
-      (c .before .before .before .before .before .before .before .before .before .before .before .before .before .if2 .left)),
-)
+keep-both-requires c κs =
+    let second = c .before .before .before .before .before .before .before .before .before .before .before .before .before in
+    let load = second .before .before in
+    let first = load .before .before .before in
+    let load-rebuild = first .before .before in (
+      rebuild-has-room _ _ (begun
+          (load-rebuild .load-rebuild .ensures) (first .if1 .left)),
+      has-room _ _ _ (loaded
+          (load .load .ensures)
+          (second .if2 .left)),
+    )
 
 same-length-5 : tie.Need-same-length-5
 same-length-5 c = search needs
@@ -67,15 +71,23 @@ same-length-8 : tie.Need-same-length-8
 same-length-8 c = search needs
 
 returns-3 : tie.Need-returns-3
-returns-3 c = let kept = c .before .before .before .before .before .before .keep-both .ensures in with-both _ _ (begun
-    (c .before .before .before .before .before .before .before .before .before .before .before .before .before .before .before .before .before .before .before .before .before .before .before .before .before .before .before .load-rebuild .ensures) (c .before .before .before .before .before .before .before .before .before .before .before .before .before .before .before .before .before .before .before .before .before .before .before .before .before .if1 .left)) (loaded (c .before .before .before .before .before .before .before .before .before .before .before .before .before .before .before .before .before .before .before .before .before .before .load .ensures) (c .before .before .before .before .before .before .before .before .before .before .before .before .before .before .before .before .before .before .before .before .if2 .left)) (record {
+returns-3 c =
+    let keep-both = c .before .before .before .before .before .before in
+    let put-verdict = keep-both .before .before .before .before .before .before in
+    let step = put-verdict .before .before .before .before in
+    let second = step .before .before .before .before in
+    let load = second .before .before in
+    let first = load .before .before .before in
+    let load-rebuild = first .before .before in
+    let kept = keep-both .keep-both .ensures in with-both _ _ (begun
+    (load-rebuild .load-rebuild .ensures) (first .if1 .left)) (loaded (load .load .ensures) (second .if2 .left)) (record {
       made = record {
-        answer = c .before .before .before .before .before .before .before .before .before .before .before .before .before .before .before .before .step .result;
-        promised = c .before .before .before .before .before .before .before .before .before .before .before .before .before .before .before .before .step .ensures;
+        answer = step .step .result;
+        promised = step .step .ensures;
         told =
-            kept .0 ∙ c .before .before .before .before .before .before .before .before .before .before .before .before .put-verdict .ensures .0;
+            kept .0 ∙ put-verdict .put-verdict .ensures .0;
         written =
-            c .before .before .before .before .before .before .before .before .before .before .before .before .put-verdict .ensures .1;
+            put-verdict .put-verdict .ensures .1;
       };
       rebuilt = kept .1 .0;
       state = kept .1 .1;

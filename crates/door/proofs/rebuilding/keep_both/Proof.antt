@@ -24,13 +24,16 @@ same-length-3 : tie.Need-same-length-3
 same-length-3 c = search needs
 
 returns-2 : tie.Need-returns-2
-returns-2 c = (
-  sym (c .before .before .before .before .before .before .before .before .before .before .before .if1 .left),
-  (
-    rebuild-kept (c .before .before .before .before .before .before .before .before .before .store-rebuild .ensures),
-    state-kept (c .before .before .before .before .store .ensures),
-  ),
-)
+returns-2 c =
+    let store = c .before .before .before .before in
+    let store-rebuild = store .before .before .before .before .before in
+    let first = store-rebuild .before .before in (
+      sym (first .if1 .left),
+      (
+        rebuild-kept (store-rebuild .store-rebuild .ensures),
+        state-kept (store .store .ensures),
+      ),
+    )
 
 pub keep-both-spec : {M : Type 1} → statement M
 keep-both-spec =

@@ -21,9 +21,11 @@ same-length c = search needs
 
 returns : tie.Need-returns
 returns c =
+    let at-thin = c .before .before .before .before .before in
+    let start = at-thin .before .before .before in
     let told = c .before .answer .given .1 in
-    let thin = c .before .before .before .before .before .thin in
-    let g = c .before .before .before .before .before .before .before .before .args in
+    let thin = at-thin .thin in
+    let g = start .args in
     record {
       answer = thin .result;
       thins = thin .ensures;
@@ -38,9 +40,11 @@ same-length-2 c = search needs
 
 returns-2 : tie.Need-returns-2
 returns-2 c =
+    let at-thin = c .before .before .before .before .before in
+    let start = at-thin .before .before .before in
     let told = c .before .answer2 .given .1 in
-    let thin = c .before .before .before .before .before .thin in
-    let g = c .before .before .before .before .before .before .before .before .args in
+    let thin = at-thin .thin in
+    let g = start .args in
     record {
       answer = thin .result;
       thins = thin .ensures;

@@ -28,10 +28,16 @@ same-length c = search needs
 
 returns : tie.Need-returns
 unfolding crumbLine
-returns c = writes-then (writes-then (writes-then (writes-then (writes-then
-    (c .before .before .before .before .before .before .before .before .before .before .before .before .before .before .before .before .before .before .before .before .before .before .put-pattern .ensures) (c .before .before .before .before .before .before .before .before .before .before .before .before .before .before .before .before .before .before .put-byte .ensures)) (c .before .before .before .before .before .before .before .before .before .before .before .before .before .before .put-pattern2 .ensures))
-    (c .before .before .before .before .before .before .before .before .before .before .put-byte2 .ensures))
-    (c .before .before .before .before .before .before .put-pattern3 .ensures)) (c .before .before .put-byte3 .ensures)
+returns c =
+    let put-pattern3 = c .before .before .before .before .before .before in
+    let put-byte2 = put-pattern3 .before .before .before .before in
+    let put-pattern2 = put-byte2 .before .before .before .before in
+    let put-byte = put-pattern2 .before .before .before .before in
+    let put-pattern = put-byte .before .before .before .before in
+    writes-then (writes-then (writes-then (writes-then (writes-then
+    (put-pattern .put-pattern .ensures) (put-byte .put-byte .ensures)) (put-pattern2 .put-pattern2 .ensures))
+    (put-byte2 .put-byte2 .ensures))
+    (put-pattern3 .put-pattern3 .ensures)) (c .before .before .put-byte3 .ensures)
 
 pub put-crumb-spec : {M : Type 1} → statement M
 put-crumb-spec =

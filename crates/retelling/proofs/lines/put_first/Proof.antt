@@ -40,10 +40,17 @@ same-length c = search needs
 
 returns : tie.Need-returns
 unfolding firstLine
-returns c = writes-then (writes-then (writes-then (writes-then (writes-then (writes-then
-    (c .before .before .before .before .before .before .before .before .before .before .before .before .before .before .before .before .before .before .before .before .before .before .before .before .before .before .before .before .put-word .ensures) (c .before .before .before .before .before .before .before .before .before .before .before .before .before .before .before .before .before .before .before .before .before .before .before .before .put-decimal .ensures)) (c .before .before .before .before .before .before .before .before .before .before .before .before .before .before .before .before .before .before .before .put-word2 .ensures)) (c .before .before .before .before .before .before .before .before .before .before .before .before .before .before .before .put-decimal2 .ensures))
-    (c .before .before .before .before .before .before .before .before .before .before .put-word3 .ensures))
-    (c .before .before .before .before .before .before .put-stage .ensures)) (c .before .before .put-byte .ensures)
+returns c =
+    let put-stage = c .before .before .before .before .before .before in
+    let put-word3 = put-stage .before .before .before .before in
+    let put-decimal2 = put-word3 .before .before .before .before .before in
+    let put-word2 = put-decimal2 .before .before .before .before in
+    let put-decimal = put-word2 .before .before .before .before .before in
+    let put-word = put-decimal .before .before .before .before in
+    writes-then (writes-then (writes-then (writes-then (writes-then (writes-then
+    (put-word .put-word .ensures) (put-decimal .put-decimal .ensures)) (put-word2 .put-word2 .ensures)) (put-decimal2 .put-decimal2 .ensures))
+    (put-word3 .put-word3 .ensures))
+    (put-stage .put-stage .ensures)) (c .before .before .put-byte .ensures)
 
 pub put-first-spec : {M : Type 1} → statement M
 put-first-spec =

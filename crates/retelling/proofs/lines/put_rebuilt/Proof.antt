@@ -15,8 +15,11 @@ same-length : tie.Need-same-length
 same-length c = search needs
 
 returns : tie.Need-returns
-returns c = tells-first _ _ _ _ (c .before .before .before .before .before .before .before .before .before .before .pre .1) (omega arith)
-    (c .before .before .before .before .before .before .put-first .ensures) (c .before .before .put-crumbs .ensures)
+returns c =
+    let put-first = c .before .before .before .before .before .before in
+    let start = put-first .before .before .before .before in
+    tells-first _ _ _ _ (start .pre .1) (omega arith)
+    (put-first .put-first .ensures) (c .before .before .put-crumbs .ensures)
 
 pub put-rebuilt-spec : {M : Type 1} → statement M
 put-rebuilt-spec = tie.close (tie.spec put-first-requires put-crumbs-requires same-length returns)

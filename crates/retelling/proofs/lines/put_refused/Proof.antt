@@ -24,9 +24,12 @@ same-length c = search needs
 
 returns : tie.Need-returns
 unfolding refusedText
-returns c = tells-number _ (omega arith)
-    (writes-then (writes-then (c .before .before .before .before .before .before .before .before .before .before .put-word .ensures)
-    (c .before .before .before .before .before .before .put-decimal .ensures)) (c .before .before .put-byte .ensures))
+returns c =
+    let put-decimal = c .before .before .before .before .before .before in
+    let put-word = put-decimal .before .before .before .before in
+    tells-number _ (omega arith)
+    (writes-then (writes-then (put-word .put-word .ensures)
+    (put-decimal .put-decimal .ensures)) (c .before .before .put-byte .ensures))
 
 pub put-refused-spec : {M : Type 1} → statement M
 put-refused-spec =
