@@ -31,6 +31,8 @@ use Rattle.state.specs.State.{withMotion, withLap}
 use Rattle.follow.specs.Record.{addIn, afterThinning}
 use Rattle.follow.proofs.Recording.{taken-over}
 use Rattle.fix.specs.Pass.{passing}
+use Rattle.fix.specs.declared.Ridden.{Ridden}
+use Rattle.fix.specs.Ridden.{ridden, parts}
 use Rattle.follow.specs.View.{HomingFit, Changes, Follows}
 use Rattle.course.specs.Fix.{Fix, located, framed}
 use Rattle.calls.specs.Fix.{fixLostMs, isAt, cleared, missing, headed, passOnly, replay}
@@ -55,7 +57,8 @@ fixAt lat lon = record { lat = lat; lon = lon }
 
 -- a fix that is handed on by its bits is the same
 pub handed-fix : (lat lon : ℤ) → mag lat < 2 ^ 31 → mag lon < 2 ^ 31 → fixAt (handed lat) (handed lon) ≡ fixAt lat lon
-handed-fix lat lon a b = ap (λ (c : ℤ). fixAt c (handed lon)) (toZ-ofZ w32 lat (record { sfits = a })) ∙ ap (λ (d : ℤ). fixAt lat d) (toZ-ofZ w32 lon (record { sfits = b }))
+handed-fix lat lon a b = ap (λ (c : ℤ). fixAt c (handed lon)) (toZ-ofZ w32 lat (record { sfits = a }))
+    ∙ ap (λ (d : ℤ). fixAt lat d) (toZ-ofZ w32 lon (record { sfits = b }))
 
 -- ---- a fix from before a restart
 module _ (h on grown r : Homing) (x : Fix) (now : ℕ) (f : Frame) (p : Point) (there : Homing) (entry exit : List Float) where
@@ -79,22 +82,24 @@ module _ (h on grown r : Homing) (x : Fix) (now : ℕ) (f : Frame) (p : Point) (
         size = d .size;
         beyond =
             subst (λ (t : Trail). behind (max (h .trail .len) (t .len)) exit ≡ behind (max (h .trail .len) (t .len)) entry) (sym (e .trail))
-            (subst (λ (t : Trail). behind (max (t .len) (grown .trail .len)) exit ≡ behind (max (t .len) (grown .trail .len)) entry) ton (d .beyond));
+            (subst (λ (t : Trail). behind (max (t .len) (grown .trail .len)) exit ≡ behind (max (t .len) (grown .trail .len)) entry) ton
+            (d .beyond));
       }
 
 -- the same, each group of the state by itself
-module _ (h : Homing) (x : Fix) (now : ℕ) (f : Frame) (p : Point) (m : Motion) (k : Recorded) (w : List Float) (n : Follow) (l : Lap) (entry exit : List Float) where
+module _ (h : Homing) (x : Fix) (now : ℕ) (f : Frame) (p : Point) (m : Motion) (k : Recorded) (w : List Float) (n : Follow) (l : Lap)
+    (entry exit : List Float) where
   abbrev there : Homing
-  there = record { trail = h .trail; window = h .window; frame = f; fed = h .fed; here = h .here; «here_ms» = h .«here_ms»; motion = h .motion; follow = h .follow; course = h .course; «auto_follow» = h .«auto_follow»; arrived = h .arrived; lap = h .lap; «updated_ms» = h .«updated_ms»; guide = h .guide }
+  there = ridden (record { frame = f; motion = h .motion; trail = h .trail; follow = h .follow; lap = h .lap }) (h .window) h
 
   abbrev on : Homing
-  on = record { trail = h .trail; window = h .window; frame = f; fed = h .fed; here = h .here; «here_ms» = h .«here_ms»; motion = m; follow = h .follow; course = h .course; «auto_follow» = h .«auto_follow»; arrived = h .arrived; lap = h .lap; «updated_ms» = h .«updated_ms»; guide = h .guide }
+  on = ridden (record { frame = f; motion = m; trail = h .trail; follow = h .follow; lap = h .lap }) (h .window) h
 
   abbrev grown : Homing
-  grown = record { trail = k .trail; window = w; frame = f; fed = h .fed; here = h .here; «here_ms» = h .«here_ms»; motion = m; follow = n; course = h .course; «auto_follow» = h .«auto_follow»; arrived = h .arrived; lap = h .lap; «updated_ms» = h .«updated_ms»; guide = h .guide }
+  grown = ridden (record { frame = f; motion = m; trail = k .trail; follow = n; lap = h .lap }) w h
 
   abbrev pub whole : Homing
-  whole = record { trail = k .trail; window = w; frame = f; fed = h .fed; here = h .here; «here_ms» = h .«here_ms»; motion = m; follow = n; course = h .course; «auto_follow» = h .«auto_follow»; arrived = h .arrived; lap = l; «updated_ms» = h .«updated_ms»; guide = h .guide }
+  whole = ridden (record { frame = f; motion = m; trail = k .trail; follow = n; lap = l }) w h
 
   on-it : m ≡ trackHeading (h .motion) p now → Changes (headed p now) there on
   unfolding headed
@@ -109,6 +114,16 @@ module _ (h : Homing) (x : Fix) (now : ℕ) (f : Frame) (p : Point) (m : Motion)
   unfolding passOnly passing
   passes e = record { same = λ b. ap (λ (n : Lap). withLap n (stateOf grown b)) e; trail = refl }
 
-  pub replays-parts : f ≡ located x (h .frame) → p ≡ framed f x → m ≡ trackHeading (h .motion) p now → Records (λ C. trails.add C p) (h .trail) (h .window) entry k w exit
+  pub replays-parts : f ≡ located x (h .frame) → p ≡ framed f x → m ≡ trackHeading (h .motion) p now
+      → Records (λ C. trails.add C p) (h .trail) (h .window) entry k w exit
       → n ≡ afterThinning (k .thinned) (h .follow) → l ≡ passing p (m .heading) (h .lap) → Follows (λ C. replay C x now) h entry whole exit
-  replays-parts ef ep em did ew el = replays h on grown whole x now f p there entry exit ef ep (λ b. refl) refl (on-it em) (grows did ew) (passes el)
+  replays-parts ef ep em did ew el =
+      replays h on grown whole x now f p there entry exit ef ep (λ b. refl) refl (on-it em) (grows did ew) (passes el)
+
+-- the groups are those of a state, and are put together to another
+pub replays-whole : {h r : Homing} {x y : Fix} (now : ℕ) {g n : Ridden} {w entry exit : List Float} → x ≡ y → g ≡ parts h → r ≡ ridden n w h
+    → Follows (λ C. replay C x now) (ridden g (h .window) h) entry (ridden n w h) exit → Follows (λ C. replay C y now) h entry r exit
+replays-whole {h = h} {r = r} {x = x} {y = y} now {n = n} {w = w} {entry = entry} {exit = exit} at apart together f =
+    subst (λ (z : Fix). Follows (λ C. replay C z now) h entry r exit) at
+    (subst (λ (t : Homing). Follows (λ C. replay C x now) h entry t exit) (sym together)
+    (subst (λ (k : Ridden). Follows (λ C. replay C x now) (ridden k (h .window) h) entry (ridden n w h) exit) apart f))

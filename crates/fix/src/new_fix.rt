@@ -17,7 +17,8 @@ ghost use Rattle.fix.specs.Ready.{Ready};
 fn may_retrace(h: Homing, crumbs: &mut [f32], line: &[f32], p: Point, now_ms: u64) -> Told
     requires { ⌜ Ready h (length (now crumbs)) (length (now line)) ⌝ }
     requires { ⌜ h .follow .line ≡ lines.Nothing ⌝ }
-    ensures { λ r. ⌜ Updates (λ C. mayRetrace (h .«auto_follow») C (courseOf h (now (line .entry))) p «now_ms») h (now (crumbs .entry)) r (now (crumbs .exit)) ⌝ }
+    ensures { λ r. ⌜ Updates (λ C. mayRetrace (h .«auto_follow») C (courseOf h (now (line .entry))) p «now_ms») h (now (crumbs .entry)) r
+        (now (crumbs .exit)) ⌝ }
 {
     if h.auto_follow {
         let t = h.trail;
@@ -39,7 +40,8 @@ fn may_retrace(h: Homing, crumbs: &mut [f32], line: &[f32], p: Point, now_ms: u6
 fn unfollowed(h: Homing, crumbs: &mut [f32], line: &[f32], p: Point, now_ms: u64) -> Told
     requires { ⌜ Ready h (length (now crumbs)) (length (now line)) ⌝ }
     requires { ⌜ h .follow .line ≡ lines.Nothing ⌝ }
-    ensures { λ r. ⌜ Updates (λ C. fixOn lines.Nothing C (courseOf h (now (line .entry))) p «now_ms») h (now (crumbs .entry)) r (now (crumbs .exit)) ⌝ }
+    ensures { λ r. ⌜ Updates (λ C. fixOn lines.Nothing C (courseOf h (now (line .entry))) p «now_ms») h (now (crumbs .entry)) r
+        (now (crumbs .exit)) ⌝ }
 {
     let c = h.course;
     let m = h.motion;
@@ -57,7 +59,8 @@ fn unfollowed(h: Homing, crumbs: &mut [f32], line: &[f32], p: Point, now_ms: u64
 // By the line that is followed: the breadcrumb is frozen while it is.
 pub fn fix_on(h: Homing, crumbs: &mut [f32], line: &[f32], p: Point, now_ms: u64) -> Told
     requires { ⌜ Ready h (length (now crumbs)) (length (now line)) ⌝ }
-    ensures { λ r. ⌜ Updates (λ C. fixOn (h .follow .line) C (courseOf h (now (line .entry))) p «now_ms») h (now (crumbs .entry)) r (now (crumbs .exit)) ⌝ }
+    ensures { λ r. ⌜ Updates (λ C. fixOn (h .follow .line) C (courseOf h (now (line .entry))) p «now_ms») h (now (crumbs .entry)) r
+        (now (crumbs .exit)) ⌝ }
 {
     let f = h.follow;
     let on = f.line;

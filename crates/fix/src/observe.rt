@@ -33,7 +33,8 @@ fn same_fix(fed: Place, lat: i32, lon: i32) -> bool
 // Time still passes, for the heading and the reminders, but nothing is recorded.
 fn still_at(h: Homing, crumbs: &mut [f32], line: &[f32], here: Spot, now_ms: u64) -> Told
     requires { ⌜ HomingFit h (length (now crumbs)) (length (now line)) ⌝ }
-    ensures { λ r. ⌜ Updates (λ C. stillAt here C (courseOf h (now (line .entry))) «now_ms») h (now (crumbs .entry)) r (now (crumbs .exit)) ⌝ }
+    ensures { λ r. ⌜ Updates (λ C. stillAt here C (courseOf h (now (line .entry))) «now_ms») h (now (crumbs .entry)) r
+        (now (crumbs .exit)) ⌝ }
 {
     let Spot::At(p) = here else {
         return Told {
@@ -56,7 +57,8 @@ fn still_at(h: Homing, crumbs: &mut [f32], line: &[f32], here: Spot, now_ms: u64
 // The fix is the new place, seen now, in the frame that the ride's first fix gave, and the heading goes by it.
 fn new_fix(h: Homing, crumbs: &mut [f32], line: &[f32], lat: i32, lon: i32, now_ms: u64) -> Told
     requires { ⌜ Ready h (length (now crumbs)) (length (now line)) ⌝ }
-    ensures { λ r. ⌜ Updates (λ C s. newFix C (courseOf h (now (line .entry))) (record { lat = lat; lon = lon }) «now_ms» (withHereMs «now_ms» s)) h
+    ensures { λ r. ⌜ Updates
+        (λ C s. newFix C (courseOf h (now (line .entry))) (record { lat = lat; lon = lon }) «now_ms» (withHereMs «now_ms» s)) h
         (now (crumbs .entry)) r (now (crumbs .exit)) ⌝ }
 {
     let was = h.frame;
@@ -78,7 +80,8 @@ fn new_fix(h: Homing, crumbs: &mut [f32], line: &[f32], lat: i32, lon: i32, now_
 // A fix that is there: repeated, or new.
 pub fn seen(h: Homing, crumbs: &mut [f32], line: &[f32], lat: i32, lon: i32, now_ms: u64) -> Told
     requires { ⌜ Ready h (length (now crumbs)) (length (now line)) ⌝ }
-    ensures { λ r. ⌜ Updates (λ C. seen C (courseOf h (now (line .entry))) (record { lat = lat; lon = lon }) «now_ms») h (now (crumbs .entry)) r (now (crumbs .exit)) ⌝ }
+    ensures { λ r. ⌜ Updates (λ C. seen C (courseOf h (now (line .entry))) (record { lat = lat; lon = lon }) «now_ms») h
+        (now (crumbs .entry)) r (now (crumbs .exit)) ⌝ }
 {
     let fed = h.fed;
     if same_fix(fed, lat, lon) {

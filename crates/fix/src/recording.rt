@@ -19,7 +19,8 @@ ghost use Rattle.fix.specs.Ready.{Grows, TurnsBack};
 pub fn add_update(h: Homing, crumbs: &mut [f32], line: &[f32], p: Point, now_ms: u64) -> Told
     requires { ⌜ HomingFit h (length (now crumbs)) (length (now line)) ⌝ }
     requires { ⌜ Grows h ⌝ }
-    ensures { λ r. ⌜ Updates (λ C. addUpdate C (courseOf h (now (line .entry))) p «now_ms») h (now (crumbs .entry)) r (now (crumbs .exit)) ⌝ }
+    ensures { λ r. ⌜ Updates (λ C. addUpdate C (courseOf h (now (line .entry))) p «now_ms») h (now (crumbs .entry)) r
+        (now (crumbs .exit)) ⌝ }
 {
     let grown = follow::add(h, crumbs, p);
     update::update(grown, crumbs, line, p, now_ms)
@@ -29,7 +30,8 @@ pub fn add_update(h: Homing, crumbs: &mut [f32], line: &[f32], p: Point, now_ms:
 pub fn joined_course(h: Homing, crumbs: &mut [f32], line: &[f32], p: Point, now_ms: u64) -> Told
     requires { ⌜ HomingFit h (length (now crumbs)) (length (now line)) ⌝ }
     requires { ⌜ (1 ≤ h .course .«join_end») × (h .course .«join_end» < h .course .«line_len») ⌝ }
-    ensures { λ r. ⌜ Updates (λ C. joinedCourse C (courseOf h (now (line .entry))) p «now_ms») h (now (crumbs .entry)) r (now (crumbs .exit)) ⌝ }
+    ensures { λ r. ⌜ Updates (λ C. joinedCourse C (courseOf h (now (line .entry))) p «now_ms») h (now (crumbs .entry)) r
+        (now (crumbs .exit)) ⌝ }
 {
     let on = follow::engage_at(h, line, Line::Course, h.course.join_end, now_ms);
     let t = add_update(on, crumbs, line, p, now_ms);
@@ -56,7 +58,8 @@ fn turned_back(h: Homing) -> Homing
 pub fn retraced(h: Homing, crumbs: &mut [f32], line: &[f32], p: Point, now_ms: u64) -> Told
     requires { ⌜ HomingFit h (length (now crumbs)) (length (now line)) ⌝ }
     requires { ⌜ (h .trail .«retrace_len» ≤ h .trail .len) × (h .follow .line ≡ lines.Nothing) ⌝ }
-    ensures { λ r. ⌜ Updates (λ C. retraced true C (courseOf h (now (line .entry))) p «now_ms») h (now (crumbs .entry)) r (now (crumbs .exit)) ⌝ }
+    ensures { λ r. ⌜ Updates (λ C. retraced true C (courseOf h (now (line .entry))) p «now_ms») h (now (crumbs .entry)) r
+        (now (crumbs .exit)) ⌝ }
 {
     let back = turned_back(h);
     let e = follow::engage(back, crumbs, line, now_ms);

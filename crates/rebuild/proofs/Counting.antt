@@ -1,4 +1,5 @@
--- None of the calls that a rebuild makes of a guide's own state is refused, where the places it reads are in range: it counts as those calls. Assumes nothing.
+-- None of the calls that a rebuild makes of a guide's own state is refused, where the places it reads are in range: it counts as those
+-- calls. Assumes nothing.
 use mathlib.Core.Path.{_≡_, refl}
 use Prim.Native.Nat.{ℕ, zero, suc}
 use mathlib.Core.Bool.{Bool, true, false, cond}
@@ -27,7 +28,8 @@ use Rattle.rebuild.specs.declared.Stage.the-variants as stage
 use Rattle.rebuild.specs.declared.Rebuild.{Rebuild}
 use Rattle.rebuild.specs.Made.{quiet, _then_, perform}
 use Rattle.log.specs.Entry.{used}
-use Rattle.rebuild.specs.Rebuild.{ticked, carriesOn, decide, skips, beforeReplay, replays, visitFix, visitPlace, visitSample, visitSamples, isLater, visitKind, visit, caughtUp, look, pastSlot, walk, settleFrom, settle}
+use Rattle.rebuild.specs.Rebuild.{ticked, carriesOn, decide, skips, beforeReplay, replays, visitFix, visitPlace, visitSample}
+use Rattle.rebuild.specs.Rebuild.{visitSamples, isLater, visitKind, visit, caughtUp, look, pastSlot, walk, settleFrom, settle}
 use Rattle.rebuild.proofs.Keeping.{oneOf}
 use Rattle.rebuild.proofs.Theorems.{journal-same}
 
@@ -42,7 +44,8 @@ module _ (size : ℕ) (room : question1 size ≡ true) where
   pub none-refused : {s : State} {l : List Crumb} {cs : List Call} → Own size s l → Rebuilding cs → NoneRefused size s cs
   none-refused own nothing = tt
   none-refused own (reset m) = (taken size room _ _ own Reset tt tt, none-refused (called own Reset tt tt) m)
-  none-refused own (replay x now on m) = (taken size room _ _ own (Replay x now) tt (on, tt), none-refused (called own (Replay x now) tt (on, tt)) m)
+  none-refused own (replay x now on m) =
+      (taken size room _ _ own (Replay x now) tt (on, tt), none-refused (called own (Replay x now) tt (on, tt)) m)
 
 -- ---- a rebuild makes no others
 both : {xs ys : List Call} → Rebuilding xs → Rebuilding ys → Rebuilding (xs ++ ys)
@@ -114,13 +117,16 @@ look-makes (some e) r on = by (leb (r .recovered) (e .ride))
     by true = visit-makes e r on
     by false = nothing
 
-pub walk-makes : (budget upper : ℕ) (slots : ℕ → Option Entry) (r : Rebuild) → ((k : ℕ) → SlotOnGlobe (slots k)) → Rebuilding (walk budget upper slots r .calls)
+pub walk-makes : (budget upper : ℕ) (slots : ℕ → Option Entry) (r : Rebuild) → ((k : ℕ) → SlotOnGlobe (slots k))
+    → Rebuilding (walk budget upper slots r .calls)
 unfolding walk
 walk-makes zero upper slots r on = nothing
-walk-makes (suc budget) upper slots r on = by (caughtUp upper r) (walk-makes budget upper slots (pastSlot (look (slots (r .walk .slot)) r .rebuild)) on)
+walk-makes (suc budget) upper slots r on =
+    by (caughtUp upper r) (walk-makes budget upper slots (pastSlot (look (slots (r .walk .slot)) r .rebuild)) on)
   where
     by : (b : Bool) → Rebuilding (walk budget upper slots (pastSlot (look (slots (r .walk .slot)) r .rebuild)) .calls)
-        → Rebuilding (oneOf b (quiet r) (look (slots (r .walk .slot)) r then λ next. quiet (pastSlot next) then λ next. walk budget upper slots next) .calls)
+        → Rebuilding (oneOf b (quiet r)
+        (look (slots (r .walk .slot)) r then λ next. quiet (pastSlot next) then λ next. walk budget upper slots next) .calls)
     by true rest = nothing
     by false rest = both (look-makes (slots (r .walk .slot)) r (on (r .walk .slot))) rest
 
@@ -137,7 +143,8 @@ settle-makes t r = settle-from-makes (r .stage) t r
 module _ (size : ℕ) (room : question1 size ≡ true) {s : State} {l : List Crumb} (own : Own size s l) where
   pub walk-counts : (budget upper : ℕ) (slots : ℕ → Option Entry) (r : Rebuild) → ((k : ℕ) → SlotOnGlobe (slots k))
       → run size (walk budget upper slots r .calls) s ≡ perform (capacity size) (walk budget upper slots r .calls) s
-  walk-counts budget upper slots r on = journal-same size (walk budget upper slots r .calls) s (none-refused size room own (walk-makes budget upper slots r on))
+  walk-counts budget upper slots r on =
+      journal-same size (walk budget upper slots r .calls) s (none-refused size room own (walk-makes budget upper slots r on))
 
   pub settle-counts : (t : Utc) (r : Rebuild) → run size (settle t r .calls) s ≡ perform (capacity size) (settle t r .calls) s
   settle-counts t r = journal-same size (settle t r .calls) s (none-refused size room own (settle-makes t r))

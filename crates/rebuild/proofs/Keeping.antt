@@ -17,7 +17,8 @@ use Rattle.rebuild.specs.declared.Stage.the-variants as stage
 use Rattle.rebuild.specs.declared.Rebuild.{Rebuild}
 use Rattle.rebuild.specs.Made.{Made, quiet, _then_}
 use Rattle.log.specs.Entry.{used}
-use Rattle.rebuild.specs.Rebuild.{ticked, decide, skips, beforeReplay, replays, visitFix, visitPlace, visitSample, visitSamples, isLater, visitKind, visit, look}
+use Rattle.rebuild.specs.Rebuild.{ticked, decide, skips, beforeReplay, replays, visitFix, visitPlace, visitSample, visitSamples}
+use Rattle.rebuild.specs.Rebuild.{isLater, visitKind, visit, look}
 
 pub record Keeps (r n : Rebuild) : Type 0 where
   pub walk : n .walk ≡ r .walk

@@ -24,7 +24,7 @@ use Rattle.rebuild.specs.declared.Rebuild.{Rebuild}
 use Rattle.rebuild.specs.declared.Visited.{Visited}
 use Rattle.rebuild.specs.Made.{Made, making, quiet, _then_, perform, mostHeld}
 use Rattle.rebuild.specs.Rebuild.{withStage, carriesOn, decide, beforeReplay, replays, settleFrom}
-use Rattle.rebuild.specs.Inner.{startsAnew, stageBehind}
+use Rattle.rebuild.specs.Inner.{startsAnew, stageBehind, resetIf}
 use Rattle.rebuild.specs.View.{Makes, Settles}
 use Rattle.rebuild.proofs.Performing.{performed-both, most-front, most-rest}
 
@@ -37,7 +37,8 @@ unfolding perform
 settles-quiet r h = record { rebuilt = refl; same = λ C b. refl; fit = λ size f. f }
 
 -- ---- what writes to no buffer, on the buffer at hand
-pub settled : (rule : Made) (h : Homing) (b : List Float) (v : Visited) → trail.TrailFit (h .trail) (length b) → Settles rule h v → Makes rule h b v b
+pub settled : (rule : Made) (h : Homing) (b : List Float) (v : Visited) → trail.TrailFit (h .trail) (length b) → Settles rule h v
+    → Makes rule h b v b
 settled rule h b v f s =
     record { rebuilt = s .rebuilt; same = s .same (capacity (length b)) b; fit = s .fit (length b) f; size = refl; beyond = refl }
 
@@ -45,10 +46,6 @@ pub makes-quiet : (r : Rebuild) (h : Homing) (b : List Float) → trail.TrailFit
 makes-quiet r h b f = settled (quiet r) h b (visited r h) f (settles-quiet r h)
 
 -- ---- what a fix decides before it is replayed
--- the calls that makes: the guide is reset, or nothing is done
-abbrev pub resetIf : Bool → List Call
-resetIf anew = cond anew (Reset ∷ []) []
-
 turned-round : (t : Bool) → cond t [] (Reset ∷ []) ≡ resetIf (not t)
 turned-round true = refl
 turned-round false = refl
@@ -74,7 +71,8 @@ decides-live stage.Decided t r e = ap (λ (s : Stage). quiet (withStage s r)) e
 
 module _ {m : Made} {anew : Bool} {on : Rebuild} (h : Homing) (is : m ≡ making (resetIf anew) on) where
   pub carried-on : anew ≡ false → Settles m h (visited on h)
-  carried-on e = subst (λ (x : Made). Settles x h (visited on h)) (sym (is ∙ ap (λ (b : Bool). making (resetIf b) on) e)) (settles-quiet on h)
+  carried-on e =
+      subst (λ (x : Made). Settles x h (visited on h)) (sym (is ∙ ap (λ (b : Bool). making (resetIf b) on) e)) (settles-quiet on h)
 
   pub begun-anew : (n : Homing) → anew ≡ true → Resets h n → Settles m h (visited on n)
   unfolding perform performs
@@ -117,9 +115,11 @@ module _ (m : Made) (next : Rebuild → Made) (h : Homing) (entry mid exit : Lis
       let s = stateOf h entry in
       let b : Makes n (v .homing) mid w exit = subst (λ (r : Rebuild). Makes (next r) (v .homing) mid w exit) (a .rebuilt) b₀ in
       let room : capacity (length mid) ≡ C = ap (λ (k : ℕ). capacity k) (a .size) in
-      let from : mostHeld (capacity (length mid)) (n .calls) (stateOf (v .homing) mid) ≡ mostHeld C (n .calls) (perform C (m .calls) s .state) =
+      let from : mostHeld (capacity (length mid)) (n .calls) (stateOf (v .homing) mid)
+      ≡ mostHeld C (n .calls) (perform C (m .calls) s .state) =
       ap₂ (λ (k : ℕ) (t : State). mostHeld k (n .calls) t) room (a .same) in
-      let far : behind (mostHeld C (n .calls) (perform C (m .calls) s .state)) exit ≡ behind (mostHeld C (n .calls) (perform C (m .calls) s .state)) mid =
+      let far : behind (mostHeld C (n .calls) (perform C (m .calls) s .state)) exit
+      ≡ behind (mostHeld C (n .calls) (perform C (m .calls) s .state)) mid =
       subst (λ (k : ℕ). behind k exit ≡ behind k mid) from (b .beyond) in
       record {
         rebuilt = b .rebuilt;

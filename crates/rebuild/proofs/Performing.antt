@@ -15,7 +15,8 @@ use Rattle.rebuild.specs.Made.{perform, mostHeld}
 abbrev following : {A : Type 0} → List Note → Done A → Done A
 following notes d = record { answer = d .answer; state = d .state; notes = notes ++ d .notes }
 
-pub performed-both : (C : ℕ) (xs ys : List Call) (s : State) → perform C (xs ++ ys) s ≡ andThen (perform C xs s) λ _ after. perform C ys after
+pub performed-both : (C : ℕ) (xs ys : List Call) (s : State)
+    → perform C (xs ++ ys) s ≡ andThen (perform C xs s) λ _ after. perform C ys after
 unfolding perform
 performed-both C [] ys s = refl
 performed-both C (c ∷ xs) ys s =
@@ -23,7 +24,8 @@ performed-both C (c ∷ xs) ys s =
     let mid = perform C xs (d .state) in
     let last = perform C ys (mid .state) in
     ap (following (d .notes)) (performed-both C xs ys (d .state))
-    ∙ ap (λ (notes : List Note). record { answer = last .answer; state = last .state; notes = notes }) (sym (append-assoc (d .notes) (mid .notes) (last .notes)))
+    ∙ ap (λ (notes : List Note). record { answer = last .answer; state = last .state; notes = notes })
+    (sym (append-assoc (d .notes) (mid .notes) (last .notes)))
 
 -- ---- the most crumbs held
 max-same-left : (a b c : ℕ) → b ≤ c → max a b ≤ max a c

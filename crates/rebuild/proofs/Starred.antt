@@ -17,10 +17,12 @@ use Rattle.log.specs.declared.Entry.{Entry}
 use Rattle.rebuild.specs.declared.Stage.the-variants as stage
 use Rattle.rebuild.specs.declared.Rebuild.{Rebuild}
 use Rattle.log.specs.Entry.{used}
-use Rattle.rebuild.specs.Rebuild.{continueMs, newRebuild, ticked, apart, carriesOn, decide, knownOr, skips, beforeReplay, replays, visitFix, visitPlace, visitSample, visitSamples, isLater, visitKind, visit}
+use Rattle.rebuild.specs.Rebuild.{continueMs, newRebuild, ticked, apart, carriesOn, decide, knownOr, skips, beforeReplay, replays}
+use Rattle.rebuild.specs.Rebuild.{visitFix, visitPlace, visitSample, visitSamples, isLater, visitKind, visit}
 
 -- ---- "UTC 1,800,000 ms apart carries on; 1,800,001 resets", whichever of the two is the later
-called : (r : Rebuild) (last first : ℕ) (b : Bool) → leb (apart last first) continueMs ≡ b → decide (utc.At last) (utc.At first) r .calls ≡ cond b [] (Reset ∷ [])
+called : (r : Rebuild) (last first : ℕ) (b : Bool) → leb (apart last first) continueMs ≡ b
+    → decide (utc.At last) (utc.At first) r .calls ≡ cond b [] (Reset ∷ [])
 unfolding decide carriesOn
 called r last first b e = ap (λ (t : Bool). cond t [] (Reset ∷ [])) e
 
@@ -59,7 +61,8 @@ twice = record { ride = 5; kind = kind.Samples; count = 2; samples = at-origin �
 abbrev pub origin : Fix
 origin = record { lat = pos 0; lon = pos 0 }
 
-pub clock-2000 : visit twice (newRebuild 5) .rebuild ≡ record { recovered = 5; walk = record { slot = 0 }; stage = stage.Pending utc.Unknown; «clock_ms» = 2000 }
+pub clock-2000 : visit twice (newRebuild 5) .rebuild
+    ≡ record { recovered = 5; walk = record { slot = 0 }; stage = stage.Pending utc.Unknown; «clock_ms» = 2000 }
 unfolding newRebuild ticked knownOr skips beforeReplay replays visitFix visitPlace visitSample visitSamples used isLater visitKind visit
 clock-2000 = refl
 

@@ -1,4 +1,5 @@
--- What a rebuild does to the guide is what its calls do, and a journal that is fed those calls notes the same; and how far a walk comes. Assumes nothing.
+-- What a rebuild does to the guide is what its calls do, and a journal that is fed those calls notes the same; and how far a walk comes.
+-- Assumes nothing.
 use mathlib.Core.Path.{_≡_, refl, sym, ap, _∙_}
 use Prim.Native.Nat.{ℕ, zero, suc, _+_, _≤_, _<_, min}
 use native.Mathlib.Omega.{arith}
@@ -28,10 +29,12 @@ use Rattle.rebuild.proofs.Keeping.{oneOf, look-keeps}
 
 -- ---- the rules in the guide's own writer
 -- one rule and then another
-pub effect-then : (m : Made) (next : Rebuild → Made) (C : ℕ) (s : State) → effect (m then next) C s ≡ andThen (effect m C s) λ r after. effect (next r) C after
+pub effect-then : (m : Made) (next : Rebuild → Made) (C : ℕ) (s : State)
+    → effect (m then next) C s ≡ andThen (effect m C s) λ r after. effect (next r) C after
 effect-then m next C s =
     let n = next (m .rebuild) in
-    ap (λ (d : Done (Unit {0})). record { answer = n .rebuild; state = d .state; notes = d .notes }) (performed-both C (m .calls) (n .calls) s)
+    ap (λ (d : Done (Unit {0})). record { answer = n .rebuild; state = d .state; notes = d .notes })
+    (performed-both C (m .calls) (n .calls) s)
 
 -- the guide is reset where the later ride does not carry on
 pub effect-decide : (last first : Utc) (r : Rebuild) (C : ℕ) (s : State)
@@ -61,19 +64,24 @@ unfolding afterCall
 one-turn size c s e = picked (performs (capacity size) c s) (done tt s) _ (eq-eqb _ _ e)
 
 -- the journal that is fed the calls, none of which is refused, has the same state and the same notes
-pub journal-same : (size : ℕ) (calls : List Call) (s : State) → NoneRefused size s calls → run size calls s ≡ perform (capacity size) calls s
+pub journal-same : (size : ℕ) (calls : List Call) (s : State) → NoneRefused size s calls
+    → run size calls s ≡ perform (capacity size) calls s
 unfolding run perform
 journal-same size [] s t = refl
 journal-same size (c ∷ calls) s t =
     let first = afterCall size c s in
-    ap (λ (d : Done (Unit {0})). record { answer = d .answer; state = d .state; notes = first .notes ++ d .notes }) (journal-same size calls (first .state) (t .1))
+    ap (λ (d : Done (Unit {0})). record { answer = d .answer; state = d .state; notes = first .notes ++ d .notes })
+    (journal-same size calls (first .state) (t .1))
     ∙ ap (λ (d : Done (Unit {0})). andThen d λ _ after. perform (capacity size) calls after) (one-turn size c s (t .0))
 
 -- so a rule of the rebuild has the effect of running its calls
-pub effect-run : (m : Made) (size : ℕ) (s : State) → NoneRefused size s (m .calls) → effect m (capacity size) s ≡ andThen (run size (m .calls) s) λ _ after. done (m .rebuild) after
+pub effect-run : (m : Made) (size : ℕ) (s : State) → NoneRefused size s (m .calls)
+    → effect m (capacity size) s ≡ andThen (run size (m .calls) s) λ _ after. done (m .rebuild) after
 effect-run m size s t =
-    ap (λ (d : Done (Unit {0})). record { answer = m .rebuild; state = d .state; notes = d .notes }) (sym (journal-same size (m .calls) s t))
-    ∙ ap (λ notes. record { answer = m .rebuild; state = run size (m .calls) s .state; notes = notes }) (sym (append-nil (run size (m .calls) s .notes)))
+    ap (λ (d : Done (Unit {0})). record { answer = m .rebuild; state = d .state; notes = d .notes })
+    (sym (journal-same size (m .calls) s t))
+    ∙ ap (λ notes. record { answer = m .rebuild; state = run size (m .calls) s .state; notes = notes })
+    (sym (append-nil (run size (m .calls) s .notes)))
 
 -- ---- how far a walk comes
 past : (upper : ℕ) (r : Rebuild) → caughtUp upper r ≡ true → upper ≤ r .walk .slot
@@ -98,8 +106,10 @@ unfolding walk
 walk-slot zero upper slots r few = omega arith
 walk-slot (suc budget) upper slots r few = by (caughtUp upper r) refl (walk-slot budget upper slots (seen slots r))
   where
-    by : (b : Bool) → caughtUp upper r ≡ b → (seen slots r .walk .slot ≤ upper → walk budget upper slots (seen slots r) .rebuild .walk .slot ≡ min (seen slots r .walk .slot + budget) upper)
-        → oneOf b (quiet r) (look (slots (r .walk .slot)) r then λ next. quiet (pastSlot next) then λ on. walk budget upper slots on) .rebuild .walk .slot
+    by : (b : Bool) → caughtUp upper r ≡ b → (seen slots r .walk .slot ≤ upper
+        → walk budget upper slots (seen slots r) .rebuild .walk .slot ≡ min (seen slots r .walk .slot + budget) upper)
+        → oneOf b (quiet r)
+        (look (slots (r .walk .slot)) r then λ next. quiet (pastSlot next) then λ on. walk budget upper slots on) .rebuild .walk .slot
         ≡ min (r .walk .slot + suc budget) upper
     by true e rest = omega (arith, past upper r e, few)
     by false e rest =
@@ -112,7 +122,8 @@ pub not-caught-up : (recovered upper : ℕ) → 0 < upper → caughtUp upper (ne
 unfolding caughtUp newRebuild
 not-caught-up recovered upper some = lt-leb upper 0 some
 
-pub caught-up : (budget upper : ℕ) (slots : ℕ → Option Entry) (recovered : ℕ) → upper ≤ budget → caughtUp upper (walk budget upper slots (newRebuild recovered) .rebuild) ≡ true
+pub caught-up : (budget upper : ℕ) (slots : ℕ → Option Entry) (recovered : ℕ) → upper ≤ budget
+    → caughtUp upper (walk budget upper slots (newRebuild recovered) .rebuild) ≡ true
 unfolding caughtUp newRebuild
 caught-up budget upper slots recovered enough =
     let first : newRebuild recovered .walk .slot ≤ upper = omega arith in

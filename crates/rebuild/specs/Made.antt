@@ -1,5 +1,5 @@
--- What a rule of the rebuild gives. Document 01, "Journal": "A call of `Rebuild` counts as the guide's calls it makes": a rule gives those calls, and
--- what it does to the guide is what they do.
+-- What a rule of the rebuild gives. Document 01, "Journal": "A call of `Rebuild` counts as the guide's calls it makes": a rule gives those
+-- calls, and what it does to the guide is what they do.
 use Prim.Native.Nat.{ℕ, max}
 use mathlib.Core.List.{List, [], _∷_, _++_}
 use lib.ListN.{length}

@@ -54,7 +54,8 @@ ticked r =
 abbrev pub apart : ℕ → ℕ → ℕ
 apart a b = (a - b) + (b - a)
 
--- "The later ride carries on if both UTC times are known and at most 1,800,000 ms apart": the recovered ride's last and the later ride's first
+-- "The later ride carries on if both UTC times are known and at most 1,800,000 ms apart": the recovered ride's last and the later ride's
+-- first
 unfoldable pub carriesOn : Utc → Utc → Bool
 carriesOn (utc.At last) (utc.At first) = leb (apart last first) continueMs
 carriesOn (utc.At last) utc.Unknown = false
@@ -75,7 +76,8 @@ unfoldable pub skips : Stage → Bool → Bool
 skips (stage.Pending last) later = false
 skips stage.Decided later = not later
 
--- what a fix decides before it is replayed: the later ride's first whether that ride carries on, one of the recovered ride when it was last fixed
+-- what a fix decides before it is replayed: the later ride's first whether that ride carries on, one of the recovered ride when it was last
+-- fixed
 unfoldable pub beforeReplay : Stage → Bool → Utc → Rebuild → Made
 beforeReplay (stage.Pending last) true t r = decide last t r
 beforeReplay (stage.Pending last) false t r = quiet (withStage (stage.Pending (knownOr t last)) r)

@@ -17,8 +17,8 @@ pub record Makes (rule : Made) (h : Homing) (entry : List Float) (r : Visited) (
   pub same : stateOf (r .homing) exit ≡ effect rule (capacity (length entry)) (stateOf h entry) .state
   pub fit : trail.TrailFit (r .homing .trail) (length exit)
   pub size : length exit ≡ length entry
-  -- The numbers behind the most crumbs held on the way are unchanged. Free are those behind the crumbs held after, where more were held on the way,
-  -- and the numbers of the window that belong to no waiting place.
+  -- The numbers behind the most crumbs held on the way are unchanged. Free are those behind the crumbs held after, where more were held on
+  -- the way, and the numbers of the window that belong to no waiting place.
   pub beyond : behind (mostHeld (capacity (length entry)) (rule .calls) (stateOf h entry)) exit
       ≡ behind (mostHeld (capacity (length entry)) (rule .calls) (stateOf h entry)) entry
 

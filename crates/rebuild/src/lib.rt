@@ -5,6 +5,7 @@
 // decides whether it carries on: at most `CONTINUE_MS` from the recovered ride's last fix it does; farther
 // apart, or without the time of either, the breadcrumb starts again from it.
 
+use fix::Ridden;
 use log::Entry;
 use log::Kind;
 use log::Sample;
@@ -15,9 +16,12 @@ ghost use mathlib.Core.Path.{_≡_};
 ghost use Prim.Native.Nat.{_≤_};
 ghost use lib.ListN.{length};
 ghost use Rattle.trail.specs.View as trail;
+ghost use Rattle.state.specs.declared.Homing.{Homing};
+ghost use Rattle.fix.specs.Ridden.{ridden};
 ghost use Rattle.log.specs.Entry.{used};
-ghost use Rattle.rebuild.specs.Rebuild.{newRebuild, ticked, apart, carriesOn, knownOr, skips, visitSample, isLater, visitSamples, visit, caughtUp, isDecided, settle};
-ghost use Rattle.rebuild.specs.Inner.{startsAnew, stageBehind};
+ghost use Rattle.rebuild.specs.Rebuild.{newRebuild, ticked, apart, carriesOn, knownOr, skips, visitSample, isLater, visitSamples};
+ghost use Rattle.rebuild.specs.Rebuild.{visit, caughtUp, isDecided, settle};
+ghost use Rattle.rebuild.specs.Inner.{startsAnew, stageBehind, replaysAt, heardMakes};
 ghost use Rattle.rebuild.specs.View.{Makes, Settles};
 
 // The later ride carries on if its first fix is this soon after the recovered ride's last.
@@ -59,6 +63,13 @@ pub struct Rebuild {
 pub struct Visited {
     pub rebuild: Rebuild,
     pub homing: Homing,
+}
+
+// What a sample says: the rebuild after it, whether the guide starts anew, and the fix to replay behind that.
+struct Heard {
+    rebuild: Rebuild,
+    anew: bool,
+    place: Place,
 }
 
 // Read ride `recovered` and the ride after it back from a log whose slots below `_upper` are written. The
@@ -179,41 +190,53 @@ fn stage_behind(stage: Stage, later: bool, utc: Utc) -> Stage
 }
 
 // A sample of the recovered ride, or of the later one. The clock goes on with each, located or not.
-fn visit_sample(r: Rebuild, h: Homing, crumbs: &mut [f32], later: bool, sample: Sample) -> Visited
-    requires { ⌜ trail.TrailFit (h .trail) (length (now crumbs)) ⌝ }
-    ensures { λ v. ⌜ Makes (visitSample later sample r) h (now (crumbs .entry)) v (now (crumbs .exit)) ⌝ }
+fn hear(r: Rebuild, later: bool, sample: Sample) -> Heard
+    ensures { λ x. ⌜ visitSample later sample r ≡ heardMakes x ⌝ }
 {
     let on = ticked(r);
-    let clock_ms = on.clock_ms;
+    let nothing = Heard {
+        rebuild: on,
+        anew: false,
+        place: Place::Missing,
+    };
     let place = sample.place;
-    let Place::At(lat, lon) = place else {
-        return Visited {
-            rebuild: on,
-            homing: h,
-        };
+    let Place::At(_, _) = place else {
+        return nothing;
     };
     let was = on.stage;
     if skips(was, later) {
-        return Visited {
-            rebuild: on,
-            homing: h,
-        };
+        return nothing;
     }
     let utc = sample.utc;
     let stage = stage_behind(was, later, utc);
     let rebuild = Rebuild { stage, ..on };
-    if starts_anew(was, later, utc) {
-        let anew = steer::reset(h);
-        let homing = fix::replay(anew, crumbs, lat, lon, clock_ms);
-        return Visited { rebuild, homing };
+    let anew = starts_anew(was, later, utc);
+    Heard {
+        rebuild,
+        anew,
+        place,
     }
-    let homing = fix::replay(h, crumbs, lat, lon, clock_ms);
-    Visited { rebuild, homing }
+}
+
+// The fix of a sample, where there is one, replayed on the parts of the guide that it changes.
+fn replay_heard(x: Heard, g: Ridden, window: &mut [f32; 96], crumbs: &mut [f32]) -> Ridden
+    requires { ⌜ (length (now window) ≡ 96) × (trail.TrailFit (g .trail) (length (now crumbs))) ⌝ }
+    ensures { λ n. ⌜ ((h : Homing) → Makes (replaysAt (x .place) (x .rebuild)) (ridden g (now (window .entry)) h) (now (crumbs .entry))
+        (record { rebuild = x .rebuild; homing = ridden n (now (window .exit)) h }) (now (crumbs .exit))) ⌝ }
+    ensures { λ n. ⌜ length (now (window .exit)) ≡ 96 ⌝ }
+{
+    let place = x.place;
+    let Place::At(lat, lon) = place else {
+        return g;
+    };
+    let clock_ms = x.rebuild.clock_ms;
+    fix::replay_parts(g, window, crumbs, lat, lon, clock_ms)
 }
 
 // ---- an entry
 
-// Of the four samples the first `count`.
+// Of the four samples the first `count`. On the way `parts` has the groups of the guide that a fix changes; where the guide starts
+// anew they are put into the whole of it first.
 fn visit_samples(r: Rebuild, h: Homing, crumbs: &mut [f32], e: Entry) -> Visited
     requires { ⌜ trail.TrailFit (h .trail) (length (now crumbs)) ⌝ }
     requires { ⌜ e .count ≤ 4 ⌝ }
@@ -223,14 +246,21 @@ fn visit_samples(r: Rebuild, h: Homing, crumbs: &mut [f32], e: Entry) -> Visited
     let count = e.count as usize;
     let mut rebuild = r;
     let mut homing = h;
+    let mut parts = fix::taken_apart(h);
     let mut i = 0;
     while i < count {
         let sample = e.samples[i];
-        let v = visit_sample(rebuild, homing, crumbs, later, sample);
-        rebuild = v.rebuild;
-        homing = v.homing;
+        let x = hear(rebuild, later, sample);
+        if x.anew {
+            let whole = fix::put_together(homing, parts);
+            homing = steer::reset(whole);
+            parts = fix::taken_apart(homing);
+        }
+        rebuild = x.rebuild;
+        parts = replay_heard(x, parts, &mut homing.window, crumbs);
         i += 1;
     }
+    let homing = fix::put_together(homing, parts);
     Visited { rebuild, homing }
 }
 

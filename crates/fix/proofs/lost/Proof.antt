@@ -19,7 +19,8 @@ returns : tie.Need-returns
 returns c =
     let g = c .before .before .before .args in
     ap (λ (n : ℕ). ltb fixLostMs n) (c .elapsed .ensures)
-    ∙ sym (ap (λ (x : Bool). x && ltb fixLostMs (elapsed (g .now-ms) (g .h .«here_ms»))) (sym (c .before .before .is-at .ensures) ∙ c .before .if1 .taken))
+    ∙ sym (ap (λ (x : Bool). x && ltb fixLostMs (elapsed (g .now-ms) (g .h .«here_ms»)))
+    (sym (c .before .before .is-at .ensures) ∙ c .before .if1 .taken))
 
 returns-2 : tie.Need-returns-2
 returns-2 c =

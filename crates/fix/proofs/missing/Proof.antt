@@ -12,7 +12,8 @@ cleared-requires : tie.Need-cleared-requires
 cleared-requires c κs = search needs
 
 returns : tie.Need-returns
-returns c = let g = c .before .before .before .args in misses (g .now-ms) (g .h) (c .cleared .result) (sym (c .before .before .lost .ensures) ∙ c .before .if1 .taken) (c .cleared .ensures)
+returns c = let g = c .before .before .before .args in
+    misses (g .now-ms) (g .h) (c .cleared .result) (sym (c .before .before .lost .ensures) ∙ c .before .if1 .taken) (c .cleared .ensures)
 
 returns-2 : tie.Need-returns-2
 returns-2 c = let g = c .before .before .args in waits (g .now-ms) (g .h) (g .h) (sym (c .before .lost .ensures) ∙ c .if1 .left)

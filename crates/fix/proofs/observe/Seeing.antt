@@ -101,7 +101,8 @@ arrives h x now {f} {p} {m} ef ep em =
     record {
       same = λ b.
           let s = withHereMs now (stateOf h b) in
-          let at : Frame → Point → State = λ g q. headed q now (withHere (spot.At q) (withFrame g (withFed (place.At (x .lat) (x .lon)) s))) in
+          let at : Frame → Point → State =
+          λ g q. headed q now (withHere (spot.At q) (withFrame g (withFed (place.At (x .lat) (x .lon)) s))) in
           ap (λ (n : Motion). withMotion n (withHere (spot.At p) (withFrame f (withFed (place.At (x .lat) (x .lon)) s)))) em
           ∙ ap (λ (q : Point). at f q) ep
           ∙ ap (λ (g : Frame). at g (framed g x)) ef;
@@ -118,9 +119,11 @@ module _ (fed : Place) (x : Fix) where
     unfolding sameFix
     told = ap (λ (f : Place). sameFix f x) e
 
-    pub same-lat : mag lat < 2 ^ 31 → mag lon < 2 ^ 31 → mag (x .lat) < 2 ^ 31 → mag (x .lon) < 2 ^ 31 → ofZ w32 lat ≡ ofZ w32 (x .lat) → eqb (ofZ w32 lon) (ofZ w32 (x .lon)) ≡ sameFix fed x
+    pub same-lat : mag lat < 2 ^ 31 → mag lon < 2 ^ 31 → mag (x .lat) < 2 ^ 31 → mag (x .lon) < 2 ^ 31 → ofZ w32 lat ≡ ofZ w32 (x .lat)
+        → eqb (ofZ w32 lon) (ofZ w32 (x .lon)) ≡ sameFix fed x
     same-lat f g i j a =
-        words-eq lon (x .lon) g j ∙ sym (told ∙ ap (λ (b : Bool). b && eqZ lon (x .lon)) (eqZ-same lat (x .lat) (words-same lat (x .lat) f i a)))
+        words-eq lon (x .lon) g j
+        ∙ sym (told ∙ ap (λ (b : Bool). b && eqZ lon (x .lon)) (eqZ-same lat (x .lat) (words-same lat (x .lat) f i a)))
 
     pub other-lat : (ofZ w32 lat ≡ ofZ w32 (x .lat) → ⊥) → false ≡ sameFix fed x
     other-lat a = sym (told ∙ ap (λ (b : Bool). b && eqZ lon (x .lon)) (eqZ-other lat (x .lat) (λ e. a (ap (λ z. ofZ w32 z) e))))
@@ -147,14 +150,17 @@ module _ (here : Spot) (C : ℕ) (course : List Crumb) (now : ℕ) (s : State) w
 module _ (C : ℕ) (course : List Crumb) (x : Fix) (now : ℕ) (s : State) where
   pub seen-again : sameFix (s .fed) x ≡ true → seen C course x now s ≡ stillAt (s .here) C course now (withHereMs now s)
   unfolding seen
-  seen-again t = picked (stillAt (s .here) C course now (withHereMs now s)) (newFix C course x now (withHereMs now s)) (sameFix (s .fed) x) t
+  seen-again t =
+      picked (stillAt (s .here) C course now (withHereMs now s)) (newFix C course x now (withHereMs now s)) (sameFix (s .fed) x) t
 
   pub seen-new : sameFix (s .fed) x ≡ false → seen C course x now s ≡ newFix C course x now (withHereMs now s)
   unfolding seen
-  seen-new t = passed-by (stillAt (s .here) C course now (withHereMs now s)) (newFix C course x now (withHereMs now s)) (sameFix (s .fed) x) t
+  seen-new t =
+      passed-by (stillAt (s .here) C course now (withHereMs now s)) (newFix C course x now (withHereMs now s)) (sameFix (s .fed) x) t
 
 -- ---- a change of what neither the trail nor a following goes by
-module _ (rule : State → State) (h r : Homing) (c : Changes rule h r) (same-follow : (s : State) → rule s .follow ≡ s .follow) (same-course : (s : State) → rule s .course ≡ s .course) where
+module _ (rule : State → State) (h r : Homing) (c : Changes rule h r) (same-follow : (s : State) → rule s .follow ≡ s .follow)
+    (same-course : (s : State) → rule s .course ≡ s .course) where
   pub changed-follow : r .follow ≡ h .follow
   changed-follow = ap (λ (s : State). s .follow) (c .same []) ∙ same-follow (stateOf h [])
 

@@ -57,7 +57,8 @@ held-fit t r size e f =
 other : lines.Breadcrumb ≡ lines.Course → ⊥
 other e = let z : _≡_ {A = ℕ} 0 1 = cc in omega (arith, z)
 
-pub fit-held : (h r : Homing) (room lineRoom : ℕ) → HomingFit h room lineRoom → SameHeld (h .trail) (r .trail) → r .follow ≡ h .follow → r .course .«line_len» ≡ h .course .«line_len» → HomingFit r room lineRoom
+pub fit-held : (h r : Homing) (room lineRoom : ℕ) → HomingFit h room lineRoom → SameHeld (h .trail) (r .trail) → r .follow ≡ h .follow
+    → r .course .«line_len» ≡ h .course .«line_len» → HomingFit r room lineRoom
 fit-held h r room lineRoom f t w c =
     record {
       trail = held-fit (h .trail) (r .trail) room t (f .trail);
@@ -91,7 +92,8 @@ module _ (course : List Crumb) (p : Point) where
       by true f = joined-end course p heading end f
       by false f = let z : _≡_ {A = ℕ} 0 1 = cc in absurd (omega arith)
 
-  joins-on : (s : State) → joining course p s .answer ≡ true → (1 ≤ joining course p s .state .course .«join_end») × (joining course p s .state .course .«join_end» < length course)
+  joins-on : (s : State) → joining course p s .answer ≡ true
+      → (1 ≤ joining course p s .state .course .«join_end») × (joining course p s .state .course .«join_end» < length course)
   unfolding joining
   joins-on s said = on-course (joinWith (s .motion .heading) course p s) s said (λ end e. with-heading (s .motion .heading) s end e)
 
@@ -186,19 +188,23 @@ module _ (h : Homing) (b line : List Float) (p : Point) (r : Answered) (a : Asks
   pub joined-at : r .yes ≡ true → (1 ≤ r .homing .course .«join_end») × (r .homing .course .«join_end» < r .homing .course .«line_len»)
   joined-at said =
       let on = joins-on (courseOf h line) p (stateOf h b) (sym (a .answered) ∙ said) in
-      let end : r .homing .course .«join_end» ≡ joining (courseOf h line) p (stateOf h b) .state .course .«join_end» = ap (λ (s : State). s .course .«join_end») (a .same) in
-      let long : length (courseOf h line) ≡ r .homing .course .«line_len» = length-crumbs (h .course .«line_len») line ∙ sym join-length in (
+      let end : r .homing .course .«join_end» ≡ joining (courseOf h line) p (stateOf h b) .state .course .«join_end» =
+      ap (λ (s : State). s .course .«join_end») (a .same) in
+      let long : length (courseOf h line) ≡ r .homing .course .«line_len» =
+      length-crumbs (h .course .«line_len») line ∙ sym join-length in (
         subst (λ (n : ℕ). 1 ≤ n) (sym end) (on .0),
         subst (λ (n : ℕ). r .homing .course .«join_end» < n) long (subst (λ (n : ℕ). n < length (courseOf h line)) (sym end) (on .1)),
       )
 
   join-retrace : r .homing .trail .retrace ≡ h .trail .retrace
   unfolding track
-  join-retrace = ap (λ (s : State). s .track .retrace) (a .same) ∙ ap (λ (t : Track). t .retrace) (joining-track (courseOf h line) p (stateOf h b))
+  join-retrace =
+      ap (λ (s : State). s .track .retrace) (a .same) ∙ ap (λ (t : Track). t .retrace) (joining-track (courseOf h line) p (stateOf h b))
 
   join-retrace-len : r .homing .trail .«retrace_len» ≡ h .trail .«retrace_len»
   unfolding track
-  join-retrace-len = ap (λ (s : State). s .track .retraceLen) (a .same) ∙ ap (λ (t : Track). t .retraceLen) (joining-track (courseOf h line) p (stateOf h b))
+  join-retrace-len = ap (λ (s : State). s .track .retraceLen) (a .same)
+      ∙ ap (λ (t : Track). t .retraceLen) (joining-track (courseOf h line) p (stateOf h b))
 
   pub join-ready : (lineRoom : ℕ) → Ready h (length b) lineRoom → Ready (r .homing) (length b) lineRoom
   join-ready lineRoom q =
@@ -221,7 +227,8 @@ before-few t back = by (eqb (t .retrace) 0) refl
 
 module _ (p : Point) (s : State) where
   by-riding : (P : Done Bool → Type 0)
-      → P (done (leb retraceFixes (s .track .retrace + 1)) (withTrack (withRetrace (s .track .retrace + 1) (lenBefore (s .track)) (s .track)) s))
+      → P (done (leb retraceFixes (s .track .retrace + 1))
+      (withTrack (withRetrace (s .track .retrace + 1) (lenBefore (s .track)) (s .track)) s))
       → P (done false (withTrack (withRetrace 0 (s .track .retraceLen) (s .track)) s)) → P (retracing p s)
   by-riding P back on = pick (ridesBack (s .motion .heading) (s .track .crumbs) p) refl
     where
@@ -235,10 +242,12 @@ module _ (p : Point) (s : State) where
   retracing-line : retracing p s .state .course .«line_len» ≡ s .course .«line_len»
   retracing-line = by-riding (λ d. d .state .course .«line_len» ≡ s .course .«line_len») refl refl
 
-  retracing-few : ((s .track .retrace ≡ 0 → ⊥) → s .track .retraceLen ≤ length (s .track .crumbs)) → retracing p s .answer ≡ true → retracing p s .state .track .retraceLen ≤ length (s .track .crumbs)
+  retracing-few : ((s .track .retrace ≡ 0 → ⊥) → s .track .retraceLen ≤ length (s .track .crumbs)) → retracing p s .answer ≡ true
+      → retracing p s .state .track .retraceLen ≤ length (s .track .crumbs)
   unfolding withRetrace
   retracing-few back =
-      by-riding (λ d. d .answer ≡ true → d .state .track .retraceLen ≤ length (s .track .crumbs)) (λ _. before-few (s .track) back) (λ e. absurd (false≢true e))
+      by-riding (λ d. d .answer ≡ true → d .state .track .retraceLen ≤ length (s .track .crumbs)) (λ _. before-few (s .track) back)
+      (λ e. absurd (false≢true e))
 
 module _ (h : Homing) (b : List Float) (p : Point) (r : Answered) (a : Asks (retracing p) h b r) where
   pub retrace-follows : r .homing .follow ≡ h .follow
@@ -253,21 +262,26 @@ module _ (h : Homing) (b : List Float) (p : Point) (r : Answered) (a : Asks (ret
   pub retrace-fit : (lineRoom : ℕ) → HomingFit h (length b) lineRoom → HomingFit (r .homing) (length b) lineRoom
   retrace-fit lineRoom f = fit-held h (r .homing) (length b) lineRoom f (a .held) retrace-follows retrace-length
 
-  pub retrace-few : r .yes ≡ true → ((h .trail .retrace ≡ 0 → ⊥) → h .trail .«retrace_len» ≤ h .trail .len) → r .homing .trail .«retrace_len» ≤ r .homing .trail .len
+  pub retrace-few : r .yes ≡ true → ((h .trail .retrace ≡ 0 → ⊥) → h .trail .«retrace_len» ≤ h .trail .len)
+      → r .homing .trail .«retrace_len» ≤ r .homing .trail .len
   unfolding track
   retrace-few said back =
       let long = length-crumbs (h .trail .len) b in
-      let few = retracing-few p (stateOf h b) (λ never. subst (λ (n : ℕ). h .trail .«retrace_len» ≤ n) (sym long) (back never)) (sym (a .answered) ∙ said) in
-      let is : r .homing .trail .«retrace_len» ≡ retracing p (stateOf h b) .state .track .retraceLen = ap (λ (s : State). s .track .retraceLen) (a .same) in
+      let few = retracing-few p (stateOf h b) (λ never. subst (λ (n : ℕ). h .trail .«retrace_len» ≤ n) (sym long) (back never))
+      (sym (a .answered) ∙ said) in
+      let is : r .homing .trail .«retrace_len» ≡ retracing p (stateOf h b) .state .track .retraceLen =
+      ap (λ (s : State). s .track .retraceLen) (a .same) in
       subst (λ (n : ℕ). r .homing .trail .«retrace_len» ≤ n) (sym (a .held .len))
-      (subst (λ (n : ℕ). r .homing .trail .«retrace_len» ≤ n) long (subst (λ (n : ℕ). n ≤ length (stateOf h b .track .crumbs)) (sym is) few))
+      (subst (λ (n : ℕ). r .homing .trail .«retrace_len» ≤ n) long
+      (subst (λ (n : ℕ). n ≤ length (stateOf h b .track .crumbs)) (sym is) few))
 
 -- ---- following the breadcrumb
 module _ (course : List Crumb) (now : ℕ) (s : State) where
   abbrev engaged : State
   engaged = engageAt course lines.Breadcrumb (length (s .track .crumbs) - 1) now s
 
-  by-leading : (P : Done Bool → Type 0) → (leads (s .track .crumbs) ≡ true → P (done true engaged)) → P (done false s) → P (engage course now s)
+  by-leading : (P : Done Bool → Type 0) → (leads (s .track .crumbs) ≡ true → P (done true engaged)) → P (done false s)
+      → P (engage course now s)
   unfolding engage
   by-leading P said never = pick (leads (s .track .crumbs)) refl
     where
@@ -276,7 +290,8 @@ module _ (course : List Crumb) (now : ℕ) (s : State) where
       pick false e = never
 
   engage-yes : engage course now s .answer ≡ true → (leads (s .track .crumbs) ≡ true) × (engage course now s .state ≡ engaged)
-  engage-yes = by-leading (λ d. d .answer ≡ true → (leads (s .track .crumbs) ≡ true) × (d .state ≡ engaged)) (λ e _. (e, refl)) (λ e. absurd (false≢true e))
+  engage-yes = by-leading (λ d. d .answer ≡ true → (leads (s .track .crumbs) ≡ true) × (d .state ≡ engaged)) (λ e _. (e, refl))
+      (λ e. absurd (false≢true e))
 
   engage-no : engage course now s .answer ≡ false → engage course now s .state ≡ s
   engage-no = by-leading (λ d. d .answer ≡ false → d .state ≡ s) (λ _ e. absurd (true≢false e)) (λ _. refl)
@@ -295,13 +310,16 @@ module _ (h : Homing) (b line : List Float) (now : ℕ) (r : Answered) (a : Asks
   pub engage-course : courseOf (r .homing) line ≡ courseOf h line
   engage-course = ap (λ (n : ℕ). crumbs n line) engage-length
 
-  pub engaged-fit : (lineRoom : ℕ) → r .yes ≡ true → trail.TrailFit (h .trail) (length b) → h .course .«line_len» ≤ capacity lineRoom → HomingFit (r .homing) (length b) lineRoom
+  pub engaged-fit : (lineRoom : ℕ) → r .yes ≡ true → trail.TrailFit (h .trail) (length b) → h .course .«line_len» ≤ capacity lineRoom
+      → HomingFit (r .homing) (length b) lineRoom
   unfolding engageAt track
   engaged-fit lineRoom said f few =
       let on = engage-yes (courseOf h line) now (stateOf h b) (sym (a .answered) ∙ said) in
       let two = leads-some (h .trail .len) b (on .0) in
-      let is : r .homing .follow ≡ engageAt (courseOf h line) lines.Breadcrumb (length (crumbs (h .trail .len) b) - 1) now (stateOf h b) .follow = ap (λ (s : State). s .follow) (a .same ∙ on .1) in
-      let segment : r .homing .follow .segment ≡ h .trail .len - 1 = ap (λ (x : Follow). x .segment) is ∙ ap (λ (n : ℕ). n - 1) (length-crumbs (h .trail .len) b) in
+      let is : r .homing .follow ≡ engageAt (courseOf h line) lines.Breadcrumb (length (crumbs (h .trail .len) b) - 1) now
+      (stateOf h b) .follow = ap (λ (s : State). s .follow) (a .same ∙ on .1) in
+      let segment : r .homing .follow .segment ≡ h .trail .len - 1 =
+      ap (λ (x : Follow). x .segment) is ∙ ap (λ (n : ℕ). n - 1) (length-crumbs (h .trail .len) b) in
       let lined : r .homing .follow .line ≡ lines.Breadcrumb = ap (λ (x : Follow). x .line) is in
       let bounds = two-less (h .trail .len) two in
       record {
@@ -309,14 +327,17 @@ module _ (h : Homing) (b line : List Float) (now : ℕ) (r : Answered) (a : Asks
         course = subst (λ (n : ℕ). n ≤ capacity lineRoom) (sym engage-length) few;
         onTrail = λ _. (
           subst (λ (n : ℕ). 1 ≤ n) (sym segment) (bounds .0),
-          subst (λ (n : ℕ). r .homing .follow .segment < n) (sym (a .held .len)) (subst (λ (n : ℕ). n < h .trail .len) (sym segment) (bounds .1)),
+          subst (λ (n : ℕ). r .homing .follow .segment < n) (sym (a .held .len))
+              (subst (λ (n : ℕ). n < h .trail .len) (sym segment) (bounds .1)),
         );
         onCourse = λ e. absurd (other (sym lined ∙ e));
       }
 
   pub unengaged-fit : (lineRoom : ℕ) → r .yes ≡ false → HomingFit h (length b) lineRoom → HomingFit (r .homing) (length b) lineRoom
   unengaged-fit lineRoom never f =
-      fit-held h (r .homing) (length b) lineRoom f (a .held) (ap (λ (s : State). s .follow) (a .same ∙ engage-no (courseOf h line) now (stateOf h b) (sym (a .answered) ∙ never))) engage-length
+      fit-held h (r .homing) (length b) lineRoom f (a .held) (ap (λ (s : State). s .follow)
+      (a .same ∙ engage-no (courseOf h line) now (stateOf h b) (sym (a .answered) ∙ never))) engage-length
 
   pub unengaged-follow : r .yes ≡ false → r .homing .follow ≡ h .follow
-  unengaged-follow never = ap (λ (s : State). s .follow) (a .same ∙ engage-no (courseOf h line) now (stateOf h b) (sym (a .answered) ∙ never))
+  unengaged-follow never =
+      ap (λ (s : State). s .follow) (a .same ∙ engage-no (courseOf h line) now (stateOf h b) (sym (a .answered) ∙ never))

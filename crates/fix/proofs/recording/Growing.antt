@@ -69,7 +69,8 @@ module _ (h r : Homing) (p : Point) (entry mid : List Float) (grows : Grows h) (
         onCourse = λ e.
             let on = fit .onCourse (ap (λ (x : Follow). x .line) (sym grown-follow) ∙ e) in (
               subst (λ (x : Follow). 1 ≤ x .segment) (sym grown-follow) (on .0),
-              subst (λ (c : Course). r .follow .segment < c .«line_len») (sym grown-course) (subst (λ (x : Follow). x .segment < h .course .«line_len») (sym grown-follow) (on .1)),
+              subst (λ (c : Course). r .follow .segment < c .«line_len») (sym grown-course)
+                  (subst (λ (x : Follow). x .segment < h .course .«line_len») (sym grown-follow) (on .1)),
             );
       }
 
@@ -79,7 +80,8 @@ module _ (h r : Homing) (p : Point) (entry mid : List Float) (grows : Grows h) (
   same-max : (b c : ℕ) → c ≡ b → (a : ℕ) → max b c ≤ max a c
   same-max b c e a = omega (arith, e)
 
-  pub grown-updated : (line : List Float) (now : ℕ) (t : Told) (exit : List Float) → Updates (λ C. update C (courseOf r line) p now) r mid t exit
+  pub grown-updated : (line : List Float) (now : ℕ) (t : Told) (exit : List Float)
+      → Updates (λ C. update C (courseOf r line) p now) r mid t exit
       → Updates (λ C. addUpdate C (courseOf h line) p now) h entry t exit
   unfolding addUpdate
   grown-updated line now t exit u =
@@ -87,7 +89,8 @@ module _ (h r : Homing) (p : Point) (entry mid : List Float) (grows : Grows h) (
       let room : capacity (length mid) ≡ C = ap (λ (n : ℕ). capacity n) (f .size) in
       let course : courseOf r line ≡ courseOf h line = ap (λ (c : Course). crumbs (c .«line_len») line) grown-course in
       let len = update-len (courseOf r line) p now r mid t exit (λ e. absurd (grown-off e)) u in
-      let whole : update (capacity (length mid)) (courseOf r line) p now (stateOf r mid) ≡ update C (courseOf h line) p now (addIn C p (stateOf h entry) .state) =
+      let whole : update (capacity (length mid)) (courseOf r line) p now (stateOf r mid)
+      ≡ update C (courseOf h line) p now (addIn C p (stateOf h entry) .state) =
       ap (λ (n : ℕ). update n (courseOf r line) p now (stateOf r mid)) room
       ∙ ap (λ (l : List Crumb). update C l p now (stateOf r mid)) course
       ∙ ap (λ (s : State). update C (courseOf h line) p now s) (f .same) in
@@ -100,7 +103,9 @@ module _ (h r : Homing) (p : Point) (entry mid : List Float) (grows : Grows h) (
               fit = u .follows .fit;
               size = u .follows .size ∙ f .size;
               beyond =
-                  behind-more (max (r .trail .len) (t .homing .trail .len)) m exit mid (same-max (r .trail .len) (t .homing .trail .len) len (h .trail .len)) (u .follows .beyond)
-                  ∙ behind-more (max (h .trail .len) (r .trail .len)) m mid entry (between-max (h .trail .len) (r .trail .len) (t .homing .trail .len) len) (f .beyond);
+                  behind-more (max (r .trail .len) (t .homing .trail .len)) m exit mid
+                  (same-max (r .trail .len) (t .homing .trail .len) len (h .trail .len)) (u .follows .beyond)
+                  ∙ behind-more (max (h .trail .len) (r .trail .len)) m mid entry
+                  (between-max (h .trail .len) (r .trail .len) (t .homing .trail .len) len) (f .beyond);
             };
       }

@@ -80,13 +80,15 @@ module _ (h r : Homing) (line : List Float) (end now : ℕ) (c : Changes (engage
         );
       }
 
-pub joined-on : (h r : Homing) (line entry exit : List Float) (p : Point) (now : ℕ) (t : Told) → Changes (engageAt (courseOf h line) lines.Course (h .course .«join_end») now) h r
+pub joined-on : (h r : Homing) (line entry exit : List Float) (p : Point) (now : ℕ) (t : Told)
+    → Changes (engageAt (courseOf h line) lines.Course (h .course .«join_end») now) h r
     → Updates (λ C. addUpdate C (courseOf r line) p now) r entry t exit
     → Updates (λ C. joinedCourse C (courseOf h line) p now) h entry (record { homing = t .homing; event = event.Following }) exit
 unfolding joinedCourse
 joined-on h r line entry exit p now t c u =
     let C = capacity (length entry) in
-    updates-after (λ C. joinedCourse C (courseOf h line) p now) (λ C s. tellFollowing (addUpdate C (courseOf r line) p now s)) h r entry exit _ (same-len h r (c .trail))
+    updates-after (λ C. joinedCourse C (courseOf h line) p now)
+    (λ C s. tellFollowing (addUpdate C (courseOf r line) p now s)) h r entry exit _ (same-len h r (c .trail))
     (sym
     (ap (λ (l : List Crumb). tellFollowing (addUpdate C l p now (stateOf r entry))) (on-course h r line (h .course .«join_end») now c)
     ∙ ap (λ (s : State). tellFollowing (addUpdate C (courseOf h line) p now s)) (c .same entry)))
@@ -121,27 +123,33 @@ module _ (h back : Homing) (turns : TurnsBack h back) where
   back-course line = ap (λ (n : ℕ). crumbs n line) back-length
 
   pub turned-on : (line entry exit : List Float) (p : Point) (now : ℕ) (t : Told)
-      → Updates (λ C s. andThen (engage (courseOf back line) now s) λ b after. engagedBack b C (courseOf back line) p now after) back entry t exit
+      → Updates
+      (λ C s. andThen (engage (courseOf back line) now s) λ b after. engagedBack b C (courseOf back line) p now after) back entry t exit
       → Updates (λ C. retraced true C (courseOf h line) p now) h entry t exit
   unfolding retraced
   turned-on line entry exit p now t u =
       let C = capacity (length entry) in
       let by : List Crumb → State → Done Event = λ l s. andThen (engage l now s) λ b after. engagedBack b C l p now after in
-      updates-after (λ C. retraced true C (courseOf h line) p now) (λ C s. andThen (engage (courseOf back line) now s) λ b after. engagedBack b C (courseOf back line) p now after) h back entry exit t (turns .fewer)
-      (sym (ap (λ (l : List Crumb). by l (stateOf back entry)) (back-course line) ∙ ap (λ (s : State). by (courseOf h line) s) (turns .same entry)))
+      updates-after (λ C. retraced true C (courseOf h line) p now) (λ C s. andThen (engage (courseOf back line) now s) λ b after.
+      engagedBack b C (courseOf back line) p now after) h back entry exit t (turns .fewer)
+      (sym (ap (λ (l : List Crumb). by l (stateOf back entry)) (back-course line)
+      ∙ ap (λ (s : State). by (courseOf h line) s) (turns .same entry)))
       u
 
 -- by whether what is left leads anywhere
-module _ (h : Homing) (line entry exit : List Float) (p : Point) (now : ℕ) (r : Answered) (a : Asks (engage (courseOf h line) now) h entry r) (t : Told) where
+module _ (h : Homing) (line entry exit : List Float) (p : Point) (now : ℕ) (r : Answered)
+    (a : Asks (engage (courseOf h line) now) h entry r) (t : Told) where
   abbrev next : Bool → ℕ → State → Done Event
   next b C s = engagedBack b C (courseOf h line) p now s
 
   pub engaged-on : r .yes ≡ true → Updates (λ C. update C (courseOf (r .homing) line) p now) (r .homing) entry t exit
-      → Updates (λ C s. andThen (engage (courseOf h line) now s) λ b after. engagedBack b C (courseOf h line) p now after) h entry (record { homing = t .homing; event = event.Following }) exit
+      → Updates (λ C s. andThen (engage (courseOf h line) now s) λ b after. engagedBack b C (courseOf h line) p now after) h entry
+      (record { homing = t .homing; event = event.Following }) exit
   unfolding engagedBack
   engaged-on e u =
       updates-asked (engage (courseOf h line) now) next h entry exit r true _ a e
-      (subst (λ (l : List Crumb). Updates (λ C s. tellFollowing (update C l p now s)) (r .homing) entry (record { homing = t .homing; event = event.Following }) exit) (engage-course h entry line now r a)
+      (subst (λ (l : List Crumb). Updates (λ C s. tellFollowing (update C l p now s)) (r .homing) entry
+      (record { homing = t .homing; event = event.Following }) exit) (engage-course h entry line now r a)
       (updates-following (λ C. update C (courseOf (r .homing) line) p now) (r .homing) entry t exit u))
 
   pub unengaged-on : r .yes ≡ false → Updates (λ C. addUpdate C (courseOf (r .homing) line) p now) (r .homing) entry t exit
@@ -152,30 +160,37 @@ module _ (h : Homing) (line entry exit : List Float) (p : Point) (now : ℕ) (r 
       (subst (λ (l : List Crumb). Updates (λ C. addUpdate C l p now) (r .homing) entry t exit) (engage-course h entry line now r a) u)
 
 -- ---- back along the breadcrumb, or not
-module _ (h : Homing) (line entry exit : List Float) (p : Point) (now : ℕ) (r : Answered) (a : Asks (retracing p) h entry r) (t : Told) where
+module _ (h : Homing) (line entry exit : List Float) (p : Point) (now : ℕ) (r : Answered) (a : Asks (retracing p) h entry r)
+    (t : Told) where
   abbrev onward : Bool → ℕ → State → Done Event
   onward b C s = retraced b C (courseOf h line) p now s
 
-  auto : h .«auto_follow» ≡ true → (C : ℕ) (s : State) → mayRetrace (h .«auto_follow») C (courseOf h line) p now s ≡ (andThen (retracing p s) λ b after. retraced b C (courseOf h line) p now after)
+  auto : h .«auto_follow» ≡ true → (C : ℕ) (s : State) → mayRetrace (h .«auto_follow») C (courseOf h line) p now s
+      ≡ (andThen (retracing p s) λ b after. retraced b C (courseOf h line) p now after)
   unfolding mayRetrace
   auto e C s = ap (λ (x : Bool). mayRetrace x C (courseOf h line) p now s) e
 
-  pub turned-round : h .«auto_follow» ≡ true → r .yes ≡ true → Updates (λ C. retraced true C (courseOf (r .homing) line) p now) (r .homing) entry t exit
+  pub turned-round : h .«auto_follow» ≡ true → r .yes ≡ true
+      → Updates (λ C. retraced true C (courseOf (r .homing) line) p now) (r .homing) entry t exit
       → Updates (λ C. mayRetrace (h .«auto_follow») C (courseOf h line) p now) h entry t exit
   turned-round m e u =
-      updates-as (λ C. mayRetrace (h .«auto_follow») C (courseOf h line) p now) (λ C s. andThen (retracing p s) λ b after. retraced b C (courseOf h line) p now after) h entry t exit (auto m _ _)
+      updates-as (λ C. mayRetrace (h .«auto_follow») C (courseOf h line) p now)
+      (λ C s. andThen (retracing p s) λ b after. retraced b C (courseOf h line) p now after) h entry t exit (auto m _ _)
       (updates-asked (retracing p) onward h entry exit r true t a e
       (subst (λ (l : List Crumb). Updates (λ C. retraced true C l p now) (r .homing) entry t exit) (retrace-course h entry p r a line) u))
 
-  pub rode-on : h .«auto_follow» ≡ true → r .yes ≡ false → Updates (λ C. addUpdate C (courseOf (r .homing) line) p now) (r .homing) entry t exit
+  pub rode-on : h .«auto_follow» ≡ true → r .yes ≡ false
+      → Updates (λ C. addUpdate C (courseOf (r .homing) line) p now) (r .homing) entry t exit
       → Updates (λ C. mayRetrace (h .«auto_follow») C (courseOf h line) p now) h entry t exit
   unfolding retraced
   rode-on m e u =
-      updates-as (λ C. mayRetrace (h .«auto_follow») C (courseOf h line) p now) (λ C s. andThen (retracing p s) λ b after. retraced b C (courseOf h line) p now after) h entry t exit (auto m _ _)
+      updates-as (λ C. mayRetrace (h .«auto_follow») C (courseOf h line) p now)
+      (λ C s. andThen (retracing p s) λ b after. retraced b C (courseOf h line) p now after) h entry t exit (auto m _ _)
       (updates-asked (retracing p) onward h entry exit r false t a e
       (subst (λ (l : List Crumb). Updates (λ C. addUpdate C l p now) (r .homing) entry t exit) (retrace-course h entry p r a line) u))
 
-pub never-turned : (h : Homing) (line entry exit : List Float) (p : Point) (now : ℕ) (t : Told) → h .«auto_follow» ≡ false → Updates (λ C. addUpdate C (courseOf h line) p now) h entry t exit
+pub never-turned : (h : Homing) (line entry exit : List Float) (p : Point) (now : ℕ) (t : Told) → h .«auto_follow» ≡ false
+    → Updates (λ C. addUpdate C (courseOf h line) p now) h entry t exit
     → Updates (λ C. mayRetrace (h .«auto_follow») C (courseOf h line) p now) h entry t exit
 unfolding mayRetrace
 never-turned h line entry exit p now t e u =
@@ -183,24 +198,33 @@ never-turned h line entry exit p now t e u =
     (ap (λ (x : Bool). mayRetrace x (capacity (length entry)) (courseOf h line) p now (stateOf h entry)) e) u
 
 -- ---- along the course, or not
-module _ (h : Homing) (line entry exit : List Float) (p : Point) (now : ℕ) (r : Answered) (a : Asks (joining (courseOf h line) p) h entry r) (t : Told) where
+module _ (h : Homing) (line entry exit : List Float) (p : Point) (now : ℕ) (r : Answered) (a : Asks (joining (courseOf h line) p) h entry r)
+    (t : Told) where
   abbrev further : Bool → ℕ → State → Done Event
   further b C s = joinedOrNot b C (courseOf h line) p now s
 
-  pub joined-up : r .yes ≡ true → Updates (λ C. joinedCourse C (courseOf (r .homing) line) p now) (r .homing) entry t exit → Updates (λ C. fixOn lines.Nothing C (courseOf h line) p now) h entry t exit
+  pub joined-up : r .yes ≡ true → Updates (λ C. joinedCourse C (courseOf (r .homing) line) p now) (r .homing) entry t exit
+      → Updates (λ C. fixOn lines.Nothing C (courseOf h line) p now) h entry t exit
   unfolding fixOn joinedOrNot
   joined-up e u =
       updates-asked (joining (courseOf h line) p) further h entry exit r true t a e
       (subst (λ (l : List Crumb). Updates (λ C. joinedCourse C l p now) (r .homing) entry t exit) (join-course h entry line p r a) u)
 
-  pub rode-by : r .yes ≡ false → Updates (λ C. mayRetrace (r .homing .«auto_follow») C (courseOf (r .homing) line) p now) (r .homing) entry t exit
+  pub rode-by : r .yes ≡ false
+      → Updates (λ C. mayRetrace (r .homing .«auto_follow») C (courseOf (r .homing) line) p now) (r .homing) entry t exit
       → Updates (λ C. fixOn lines.Nothing C (courseOf h line) p now) h entry t exit
   unfolding fixOn joinedOrNot
   rode-by e u =
-      let u2 = subst (λ (l : List Crumb). Updates (λ C. mayRetrace (r .homing .«auto_follow») C l p now) (r .homing) entry t exit) (join-course h entry line p r a) u in
-      updates-asked (joining (courseOf h line) p) further h entry exit r false t a e (record { told = u2 .told; follows = record { same = u2 .follows .same; fit = u2 .follows .fit; size = u2 .follows .size; beyond = u2 .follows .beyond } })
+      let u2 = subst (λ (l : List Crumb). Updates (λ C. mayRetrace (r .homing .«auto_follow») C l p now) (r .homing) entry t exit)
+      (join-course h entry line p r a) u in
+      updates-asked (joining (courseOf h line) p) further h entry exit r false t a e (record {
+        told = u2 .told;
+        follows =
+            record { same = u2 .follows .same; fit = u2 .follows .fit; size = u2 .follows .size; beyond = u2 .follows .beyond };
+      })
 
 -- ---- by the line that is followed
-pub by-line : (h : Homing) (on : Line) (line entry exit : List Float) (p : Point) (now : ℕ) (t : Told) → h .follow .line ≡ on → Updates (λ C. fixOn on C (courseOf h line) p now) h entry t exit
+pub by-line : (h : Homing) (on : Line) (line entry exit : List Float) (p : Point) (now : ℕ) (t : Told) → h .follow .line ≡ on
+    → Updates (λ C. fixOn on C (courseOf h line) p now) h entry t exit
     → Updates (λ C. fixOn (h .follow .line) C (courseOf h line) p now) h entry t exit
 by-line h on line entry exit p now t e u = subst (λ (x : Line). Updates (λ C. fixOn x (C) (courseOf h line) p now) h entry t exit) (sym e) u

@@ -1,60 +1,39 @@
 -- `fix::replay` meets its contract. Assumes nothing.
 use denote.Ref.{now}
-use mathlib.Core.Path.{ap, _∙_}
-use Rattle.course.specs.Fix.{Fix, located, framed}
-use Rattle.fix.proofs.Arriving.{handed-fix, replays-parts}
-use borrow.Author.Needs.{needs}
+use mathlib.Core.Path.{_≡_, sym, subst}
+use lib.ListN.{length}
+use Rattle.trail.specs.View as trail
+use Rattle.fix.specs.declared.Ridden.{Ridden}
+use Rattle.fix.proofs.Arriving.{handed-fix, replays-whole}
+use borrow.Author.Needs.{needs, length-unmapped}
 use Rattle.fix.proofs.replay.Statement.{statement}
 use Rattle.fix.proofs.replay.Tie as tie
 
-located-requires : tie.Need-located-requires
-located-requires c κs = search needs
+taken-apart-requires : tie.Need-taken-apart-requires
+taken-apart-requires c κs = search needs
 
-framed-requires : tie.Need-framed-requires
-framed-requires c κs = search needs
+replay-parts-requires : tie.Need-replay-parts-requires
+replay-parts-requires c κs =
+    let apart = c .before .before in
+    let s = apart .before .before in
+    let long : length (s .args .h .window) ≡ 96 = length-unmapped _ (s .args .h .window) 96 (s .good .0 .1 .1 .1 .0 .1 .0 .1) in
+    (long, subst (λ (g : Ridden). trail.TrailFit (g .trail) (length (now (s .args .crumbs)))) (sym (apart .taken-apart .ensures)) (s .pre))
 
-track-heading-requires : tie.Need-track-heading-requires
-track-heading-requires c κs = search needs
-
-add-requires : tie.Need-add-requires
-add-requires c κs = search needs
-
-after-thinning-requires : tie.Need-after-thinning-requires
-after-thinning-requires c κs = search needs
-
-passing-requires : tie.Need-passing-requires
-passing-requires c κs = search needs
+put-together-requires : tie.Need-put-together-requires
+put-together-requires c κs = search needs
 
 same-length : tie.Need-same-length
 same-length c = search needs
 
 returns : tie.Need-returns
 returns c =
-    let thinned = c .before in
-    let added = thinned .before .before .before .before in
-    let headed = added .before .before .before .before .before .before in
-    let placed = headed .before .before in
-    let framed-at = placed .before in
-    let s = framed-at .before .before .before in
-    let g = s .args in
-    let x : Fix = record { lat = g .lat; lon = g .lon } in
-    let same = handed-fix (g .lat) (g .lon) (s .fits .lat .sfits) (s .fits .lon .sfits) in
-    let f = framed-at .located .result in
-    replays-parts (g .h) x (g .now-ms) f (placed .framed .result) (headed .track-heading .result) (added .add .result) _
-    (thinned .after-thinning .result) (c .passing .result) (now (g .crumbs)) _
-    (framed-at .located .ensures ∙ ap (λ (y : Fix). located y (g .h .frame)) same)
-    (placed .framed .ensures ∙ ap (λ (y : Fix). framed f y) same) (headed .track-heading .ensures) (added .add .ensures)
-    (thinned .after-thinning .ensures) (c .passing .ensures)
+    let ridden-on = c .before .before .before in
+    let apart = ridden-on .before .before .before in
+    let s = apart .before .before in
+    let a = s .args in
+    replays-whole (a .now-ms) (handed-fix (a .lat) (a .lon) (s .fits .lat .sfits) (s .fits .lon .sfits)) (apart .taken-apart .ensures)
+    (c .put-together .ensures)
+    (ridden-on .replay-parts .ensures .0 (a .h))
 
 pub replay-spec : {M : Type 1} → statement M
-replay-spec =
-    tie.close
-    (tie.spec
-    located-requires
-    framed-requires
-    track-heading-requires
-    add-requires
-    after-thinning-requires
-    passing-requires
-    same-length
-    returns)
+replay-spec = tie.close (tie.spec taken-apart-requires replay-parts-requires put-together-requires same-length returns)

@@ -38,8 +38,10 @@ returns-3 : tie.Need-returns-3
 unfolding carriesOn
 returns-3 c =
     ap (λ (n : ℕ). leb n continueMs) (c .apart .ensures)
-    ∙ sym (ap (λ (t : Utc). carriesOn t (c .before .before .before .before .before .before .before .args .first)) (c .before .before .before .before .before .last .given .1)
-    ∙ ap (λ (t : Utc). carriesOn (utc.At (c .before .before .before .before .before .last .given .0 .0)) t) (c .before .before .first .given .1))
+    ∙ sym (ap (λ (t : Utc). carriesOn t (c .before .before .before .before .before .before .before .args .first))
+    (c .before .before .before .before .before .last .given .1)
+    ∙ ap (λ (t : Utc). carriesOn (utc.At (c .before .before .before .before .before .last .given .0 .0)) t)
+    (c .before .before .first .given .1))
 
 pub carries-on-spec : {M : Type 1} → statement M
 carries-on-spec =

@@ -17,7 +17,8 @@ unfolding settle
 returns c =
     let tested = c .before in
     let a = tested .before .before .before .args in
-    begun-anew (a .h) (decides-live (a .r .stage) (a .utc) (a .r) refl) (c .reset .result) (sym (tested .before .starts-anew .ensures) ∙ tested .if1 .taken)
+    begun-anew (a .h) (decides-live (a .r .stage) (a .utc) (a .r) refl) (c .reset .result)
+    (sym (tested .before .starts-anew .ensures) ∙ tested .if1 .taken)
     (c .reset .ensures)
 
 returns-2 : tie.Need-returns-2

@@ -23,7 +23,8 @@ unfolding stageBehind
 returns-2 c =
     let told = c .before .before .stage .given in
     let a = c .before .before .before .before .args in
-    sym (ap (λ (s : Stage). stageBehind s (a .later) (a .utc)) (told .1) ∙ ap (λ (b : Bool). stageBehind (stage.Pending (told .0 .0)) b (a .utc)) (c .if1 .taken))
+    sym (ap (λ (s : Stage). stageBehind s (a .later) (a .utc)) (told .1)
+    ∙ ap (λ (b : Bool). stageBehind (stage.Pending (told .0 .0)) b (a .utc)) (c .if1 .taken))
 
 or-else-requires : tie.Need-or-else-requires
 or-else-requires c κs = search needs
@@ -34,7 +35,8 @@ returns-3 c =
     let told = c .before .before .before .stage .given in
     let a = c .before .before .before .before .before .args in
     ap stage.Pending (c .or-else .ensures)
-    ∙ sym (ap (λ (s : Stage). stageBehind s (a .later) (a .utc)) (told .1) ∙ ap (λ (b : Bool). stageBehind (stage.Pending (told .0 .0)) b (a .utc)) (c .before .if1 .left))
+    ∙ sym (ap (λ (s : Stage). stageBehind s (a .later) (a .utc)) (told .1)
+    ∙ ap (λ (b : Bool). stageBehind (stage.Pending (told .0 .0)) b (a .utc)) (c .before .if1 .left))
 
 pub stage-behind-spec : {M : Type 1} → statement M
 stage-behind-spec = tie.close (tie.spec enum-known-stage enum-told returns returns-2 or-else-requires returns-3)

@@ -27,14 +27,16 @@ returns-2 c =
     let told = c .before .before .before .stage .given in
     let a = c .before .before .before .before .before .args in
     ap not (c .carries-on .ensures)
-    ∙ sym (ap (λ (s : Stage). startsAnew s (a .later) (a .utc)) (told .1) ∙ ap (λ (b : Bool). startsAnew (stage.Pending (told .0 .0)) b (a .utc)) (c .before .if1 .taken))
+    ∙ sym (ap (λ (s : Stage). startsAnew s (a .later) (a .utc)) (told .1)
+    ∙ ap (λ (b : Bool). startsAnew (stage.Pending (told .0 .0)) b (a .utc)) (c .before .if1 .taken))
 
 returns-3 : tie.Need-returns-3
 unfolding startsAnew
 returns-3 c =
     let told = c .before .before .stage .given in
     let a = c .before .before .before .before .args in
-    sym (ap (λ (s : Stage). startsAnew s (a .later) (a .utc)) (told .1) ∙ ap (λ (b : Bool). startsAnew (stage.Pending (told .0 .0)) b (a .utc)) (c .if1 .left))
+    sym (ap (λ (s : Stage). startsAnew s (a .later) (a .utc)) (told .1)
+    ∙ ap (λ (b : Bool). startsAnew (stage.Pending (told .0 .0)) b (a .utc)) (c .if1 .left))
 
 pub starts-anew-spec : {M : Type 1} → statement M
 starts-anew-spec = tie.close (tie.spec enum-known-stage enum-told returns carries-on-requires returns-2 returns-3)

@@ -15,7 +15,8 @@ returns : tie.Need-returns
 unfolding ticked
 returns c =
     let r = c .before .before .before .args .r in
-    ap {B = Rebuild} (λ (n : ℕ). record { recovered = r .recovered; walk = r .walk; stage = r .stage; «clock_ms» = n }) (clock-stops (r .«clock_ms») (c .before .if1 .taken))
+    ap {B = Rebuild} (λ (n : ℕ). record { recovered = r .recovered; walk = r .walk; stage = r .stage; «clock_ms» = n })
+    (clock-stops (r .«clock_ms») (c .before .if1 .taken))
 
 add-t2 : tie.Need-add-t2
 add-t2 c = search needs
@@ -24,7 +25,8 @@ returns-2 : tie.Need-returns-2
 unfolding ticked
 returns-2 c =
     let r = c .before .before .before .before .args .r in
-    ap {B = Rebuild} (λ (n : ℕ). record { recovered = r .recovered; walk = r .walk; stage = r .stage; «clock_ms» = n }) (clock-goes-on (r .«clock_ms») (c .before .before .if1 .left))
+    ap {B = Rebuild} (λ (n : ℕ). record { recovered = r .recovered; walk = r .walk; stage = r .stage; «clock_ms» = n })
+    (clock-goes-on (r .«clock_ms») (c .before .before .if1 .left))
 
 pub ticked-spec : {M : Type 1} → statement M
 ticked-spec = tie.close (tie.spec sub-if1 returns add-t2 returns-2)

@@ -35,7 +35,8 @@ unfolding visit
 returns c =
     let s = c .before .before in
     let g = s .args in
-    subst (λ (m : Made). Makes m (g .h) (now (g .crumbs)) (visited (g .r) (g .h)) (now (g .crumbs))) (sym (not-samples (g .e .kind) (g .e) (g .r) (c .match .keys2)))
+    subst (λ (m : Made). Makes m (g .h) (now (g .crumbs)) (visited (g .r) (g .h)) (now (g .crumbs)))
+    (sym (not-samples (g .e .kind) (g .e) (g .r) (c .match .keys2)))
     (makes-quiet (g .r) (g .h) (now (g .crumbs)) (s .pre .0))
 
 visit-samples-requires : tie.Need-visit-samples-requires
@@ -49,7 +50,8 @@ unfolding visit visitKind
 returns-2 c =
     let g = c .before .before .before .before .before .before .before .args in
     let k = c .before .before .visit-samples in
-    subst (λ (x : Kind). Makes (visitKind x (g .e) (g .r)) (g .h) (now (g .crumbs)) (k .result) (k .last .1 .1 .0)) (sym (c .before .before .before .before .enum-told .given .1)) (k .ensures)
+    subst (λ (x : Kind). Makes (visitKind x (g .e) (g .r)) (g .h) (now (g .crumbs)) (k .result) (k .last .1 .1 .0))
+    (sym (c .before .before .before .before .enum-told .given .1)) (k .ensures)
 
 pub visit-spec : {M : Type 1} → statement M
 visit-spec = tie.close (tie.spec enum-told returns visit-samples-requires same-length returns-2)

@@ -276,14 +276,16 @@ step-requires c κs =
 
 add-k : tie.Need-add-k Inv-loop μ-loop
 add-k c =
-    let tested = c .before .before .before .before .before .before .before .before .before .before .before .before .before .before .before .before in
+    let tested =
+    c .before .before .before .before .before .before .before .before .before .before .before .before .before .before .before .before in
     let looping = tested .before in
     let start = looping .before .before .before .before .before .before .before .before .before .before in
     let w = written (looping .loop .inv) (tested .loop-test .taken) .op in omega (arith, start .good .1 .1 .1 .0 .0)
 
 loop-less : tie.Need-loop-less Inv-loop μ-loop
 loop-less c =
-    let tested = c .before .before .before .before .before .before .before .before .before .before .before .before .before .before .before .before in
+    let tested =
+    c .before .before .before .before .before .before .before .before .before .before .before .before .before .before .before .before in
     let more = tested .loop-test .taken in
     omega arith
 

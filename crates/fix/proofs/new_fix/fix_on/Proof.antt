@@ -17,7 +17,10 @@ enum-told-2 : tie.Need-enum-told-2
 enum-told-2 c = search needs
 
 add-update-requires : tie.Need-add-update-requires
-add-update-requires c κs = (c .before .before .before .before .before .before .pre .fit, course-grows (c .before .before .before .before .before .before .args .h) (c .before .enum-told2 .given .1))
+add-update-requires c κs = (
+  c .before .before .before .before .before .before .pre .fit,
+  course-grows (c .before .before .before .before .before .before .args .h) (c .before .enum-told2 .given .1),
+)
 
 enum-told-3 : tie.Need-enum-told-3
 enum-told-3 c = search needs
@@ -33,7 +36,8 @@ unfolding fixOn
 returns c =
     let g = c .before .before .before .before .before .before .before .before .before .args in
     let u = c .before .before .update in
-    by-line (g .h) lines.Breadcrumb (now (g .line)) (now (g .crumbs)) (u .last .1 .0) (g .p) (g .now-ms) (u .result) (c .before .before .before .before .enum-told .given .1) (u .ensures)
+    by-line (g .h) lines.Breadcrumb (now (g .line)) (now (g .crumbs)) (u .last .1 .0) (g .p) (g .now-ms) (u .result)
+    (c .before .before .before .before .enum-told .given .1) (u .ensures)
 
 same-length-2 : tie.Need-same-length-2
 same-length-2 c = search needs
@@ -43,7 +47,8 @@ unfolding fixOn
 returns-2 c =
     let g = c .before .before .before .before .before .before .before .before .before .args in
     let u = c .before .before .add-update in
-    by-line (g .h) lines.Course (now (g .line)) (now (g .crumbs)) (u .last .1 .0) (g .p) (g .now-ms) (u .result) (c .before .before .before .before .enum-told2 .given .1) (u .ensures)
+    by-line (g .h) lines.Course (now (g .line)) (now (g .crumbs)) (u .last .1 .0) (g .p) (g .now-ms) (u .result)
+    (c .before .before .before .before .enum-told2 .given .1) (u .ensures)
 
 same-length-3 : tie.Need-same-length-3
 same-length-3 c = search needs
@@ -52,7 +57,8 @@ returns-3 : tie.Need-returns-3
 returns-3 c =
     let g = c .before .before .before .before .before .before .before .before .before .args in
     let u = c .before .before .unfollowed in
-    by-line (g .h) lines.Nothing (now (g .line)) (now (g .crumbs)) (u .last .1 .0) (g .p) (g .now-ms) (u .result) (c .before .before .before .before .enum-told3 .given .1) (u .ensures)
+    by-line (g .h) lines.Nothing (now (g .line)) (now (g .crumbs)) (u .last .1 .0) (g .p) (g .now-ms) (u .result)
+    (c .before .before .before .before .enum-told3 .given .1) (u .ensures)
 
 pub fix-on-spec : {M : Type 1} → statement M
 fix-on-spec =

@@ -8,7 +8,8 @@ use Rattle.fix.proofs.new_fix.may_retrace.Statement.{statement}
 use Rattle.fix.proofs.new_fix.may_retrace.Tie as tie
 
 retracing-requires : tie.Need-retracing-requires
-retracing-requires c κs = let s = c .before .before .before .before .before .before in (s .pre .0 .fit .trail .held, omega (arith, s .pre .0 .retrace))
+retracing-requires c κs = let s = c .before .before .before .before .before .before in
+    (s .pre .0 .fit .trail .held, omega (arith, s .pre .0 .retrace))
 
 retraced-requires : tie.Need-retraced-requires
 retraced-requires c κs =
@@ -29,7 +30,8 @@ returns c =
     let u = c .before .before in
     let b = u .before .before .before .before in
     let g = b .before .before .before .before .before .before .before .args in
-    turned-round (g .h) (now (g .line)) (now (g .crumbs)) (u .retraced .last .1 .0) (g .p) (g .now-ms) (retracedAs (g .h) (b .retracing .result))
+    turned-round (g .h) (now (g .line)) (now (g .crumbs)) (u .retraced .last .1 .0) (g .p) (g .now-ms)
+    (retracedAs (g .h) (b .retracing .result))
     (asks-retracing (g .h) (now (g .crumbs)) (g .p) (b .retracing .result) (b .retracing .ensures)) (u .retraced .result)
     (b .before .before .before .before .if1 .taken) (u .before .before .if2 .taken) (u .retraced .ensures)
 
@@ -52,7 +54,8 @@ returns-2 c =
     let u = c .before .before in
     let b = u .before .before .before .before in
     let g = b .before .before .before .before .before .before .before .args in
-    rode-on (g .h) (now (g .line)) (now (g .crumbs)) (u .add-update .last .1 .0) (g .p) (g .now-ms) (retracedAs (g .h) (b .retracing .result))
+    rode-on (g .h) (now (g .line)) (now (g .crumbs)) (u .add-update .last .1 .0) (g .p) (g .now-ms)
+    (retracedAs (g .h) (b .retracing .result))
     (asks-retracing (g .h) (now (g .crumbs)) (g .p) (b .retracing .result) (b .retracing .ensures)) (u .add-update .result)
     (b .before .before .before .before .if1 .taken) (u .before .before .if2 .left) (u .add-update .ensures)
 
@@ -66,7 +69,8 @@ returns-3 : tie.Need-returns-3
 returns-3 c =
     let g = c .before .before .before .before .before .before .before .args in
     let u = c .before .before .add-update2 in
-    never-turned (g .h) (now (g .line)) (now (g .crumbs)) (u .last .1 .0) (g .p) (g .now-ms) (u .result) (c .before .before .before .before .if1 .left) (u .ensures)
+    never-turned (g .h) (now (g .line)) (now (g .crumbs)) (u .last .1 .0) (g .p) (g .now-ms) (u .result)
+    (c .before .before .before .before .if1 .left) (u .ensures)
 
 pub may-retrace-spec : {M : Type 1} → statement M
 may-retrace-spec =

@@ -28,7 +28,8 @@ returns c =
     let u = c .before .before in
     let j = u .before .before .before .before in
     let g = j .before .before .before .before .before .args in
-    joined-up (g .h) (now (g .line)) (now (g .crumbs)) (u .joined-course .last .1 .0) (g .p) (g .now-ms) (joinedAs (g .h) (j .joining .result))
+    joined-up (g .h) (now (g .line)) (now (g .crumbs)) (u .joined-course .last .1 .0) (g .p) (g .now-ms)
+    (joinedAs (g .h) (j .joining .result))
     (asks-joining (g .h) (now (g .crumbs)) (now (g .line)) (g .p) (j .joining .result) (j .joining .ensures)) (u .joined-course .result)
     (u .before .before .if1 .taken) (u .joined-course .ensures)
 

@@ -30,7 +30,8 @@ fix-on-requires c κs =
     let placed = headed .before .before in
     let s = placed .before .before .before .before .before in
     let g = s .args in
-    arrived-ready _ (g .now-ms) (g .h) _ (arrives (g .h) _ (g .now-ms) (placed .before .located .ensures) (placed .framed .ensures) (headed .track-heading .ensures)) _ _ (s .pre)
+    arrived-ready _ (g .now-ms) (g .h) _ (arrives (g .h) _ (g .now-ms) (placed .before .located .ensures) (placed .framed .ensures)
+    (headed .track-heading .ensures)) _ _ (s .pre)
 
 same-length : tie.Need-same-length
 same-length c = search needs
@@ -50,7 +51,8 @@ returns c =
     let same = handed-fix (g .lat) (g .lon) (s .fits .lat .sfits) (s .fits .lon .sfits) in
     let ef = placed .before .located .ensures in
     let there = arrives (g .h) y (g .now-ms) ef (placed .framed .ensures) (headed .track-heading .ensures) in
-    updates-after (λ C s. newFix C l (record { lat = g .lat; lon = g .lon }) (g .now-ms) (withHereMs (g .now-ms) s)) (λ C. fixOn (g .h .follow .line) C l (placed .framed .result) (g .now-ms)) (g .h) r b (u .fix-on .last .1 .0) (u .fix-on .result)
+    updates-after (λ C s. newFix C l (record { lat = g .lat; lon = g .lon }) (g .now-ms) (withHereMs (g .now-ms) s))
+    (λ C. fixOn (g .h .follow .line) C l (placed .framed .result) (g .now-ms)) (g .h) r b (u .fix-on .last .1 .0) (u .fix-on .result)
     (same-len (g .h) r refl)
     (sym (ap (λ (y : Fix). newFix C l y (g .now-ms) (withHereMs (g .now-ms) (stateOf (g .h) b))) same)
     ∙ new-fix y (g .now-ms) (g .h) r there (now (g .line)) b (placed .framed .result) (placed .framed .ensures) ef C)

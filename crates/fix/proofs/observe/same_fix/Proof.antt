@@ -17,12 +17,15 @@ returns-2 : tie.Need-returns-2
 returns-2 c =
     let s = c .before .before .before .before in
     let known = c .before .known-told .given in
-    same-lat (s .args .fed) (record { lat = s .args .lat; lon = s .args .lon }) (c .before .before .fed .given .0 .0) (c .before .before .fed .given .0 .1 .0) (c .before .before .fed .given .1) (known .0 .1) (known .1 .0 .1) (s .fits .lat .sfits) (s .fits .lon .sfits) (c .if1 .taken)
+    same-lat (s .args .fed) (record { lat = s .args .lat; lon = s .args .lon }) (c .before .before .fed .given .0 .0)
+    (c .before .before .fed .given .0 .1 .0) (c .before .before .fed .given .1) (known .0 .1) (known .1 .0 .1) (s .fits .lat .sfits)
+    (s .fits .lon .sfits) (c .if1 .taken)
 
 returns-3 : tie.Need-returns-3
 returns-3 c =
     let s = c .before .before .before .before in
-    other-lat (s .args .fed) (record { lat = s .args .lat; lon = s .args .lon }) (c .before .before .fed .given .0 .0) (c .before .before .fed .given .0 .1 .0) (c .before .before .fed .given .1) (c .if1 .left)
+    other-lat (s .args .fed) (record { lat = s .args .lat; lon = s .args .lon }) (c .before .before .fed .given .0 .0)
+    (c .before .before .fed .given .0 .1 .0) (c .before .before .fed .given .1) (c .if1 .left)
 
 pub same-fix-spec : {M : Type 1} → statement M
 same-fix-spec = tie.close (tie.spec enum-known-fed enum-told returns returns-2 returns-3)

@@ -32,8 +32,11 @@ returns c =
     let same = handed-fix (g .lat) (g .lon) (s .fits .lat .sfits) (s .fits .lon .sfits) in
     let l = courseOf (g .h) (now (g .line)) in
     let u = c .before .before .still-at in
-    updates-after (λ C. seen C l x (g .now-ms)) (λ C. stillAt (g .h .here) C l (g .now-ms)) (g .h) _ (now (g .crumbs)) (u .last .1 .0) (u .result) (omega arith)
-    (seen-again (capacity (length (now (g .crumbs)))) l x (g .now-ms) (stateOf (g .h) (now (g .crumbs))) (sym (c .before .before .before .before .before .same-fix .ensures ∙ ap (λ (y : Fix). sameFix (g .h .fed) y) same) ∙ c .before .before .before .before .if1 .taken))
+    updates-after (λ C. seen C l x (g .now-ms)) (λ C. stillAt (g .h .here) C l (g .now-ms)) (g .h) _ (now (g .crumbs)) (u .last .1 .0)
+    (u .result) (omega arith)
+    (seen-again (capacity (length (now (g .crumbs)))) l x (g .now-ms) (stateOf (g .h) (now (g .crumbs)))
+    (sym (c .before .before .before .before .before .same-fix .ensures ∙ ap (λ (y : Fix). sameFix (g .h .fed) y) same)
+    ∙ c .before .before .before .before .if1 .taken))
     (u .ensures)
 
 new-fix-requires : tie.Need-new-fix-requires
@@ -52,8 +55,10 @@ returns-2 c =
     let u = c .before .before .new-fix in
     let C = capacity (length (now (g .crumbs))) in
     let t = withHereMs (g .now-ms) (stateOf (g .h) (now (g .crumbs))) in
-    updates-after (λ C. seen C l x (g .now-ms)) (λ C s. newFix C l _ (g .now-ms) (withHereMs (g .now-ms) s)) (g .h) (g .h) (now (g .crumbs)) (u .last .1 .0) (u .result) (omega arith)
-    (seen-new C l x (g .now-ms) (stateOf (g .h) (now (g .crumbs))) (sym (c .before .before .before .before .before .same-fix .ensures ∙ ap (λ (y : Fix). sameFix (g .h .fed) y) same) ∙ c .before .before .before .before .if1 .left)
+    updates-after (λ C. seen C l x (g .now-ms)) (λ C s. newFix C l _ (g .now-ms) (withHereMs (g .now-ms) s)) (g .h) (g .h) (now (g .crumbs))
+    (u .last .1 .0) (u .result) (omega arith)
+    (seen-new C l x (g .now-ms) (stateOf (g .h) (now (g .crumbs))) (sym (c .before .before .before .before .before .same-fix .ensures
+    ∙ ap (λ (y : Fix). sameFix (g .h .fed) y) same) ∙ c .before .before .before .before .if1 .left)
     ∙ sym (ap (λ (y : Fix). newFix C l y (g .now-ms) t) same))
     (u .ensures)
 

@@ -29,7 +29,8 @@ returns c =
     let g = s .args in
     let l = courseOf (g .h) (now (g .line)) in
     updates-nothing (λ C. stillAt (g .here) C l (g .now-ms)) (g .h) (now (g .crumbs)) (s .pre .trail)
-    (still-nowhere (g .here) (capacity (length (now (g .crumbs)))) l (g .now-ms) (stateOf (g .h) (now (g .crumbs))) (c .enum-told .given .1))
+    (still-nowhere (g .here) (capacity (length (now (g .crumbs)))) l (g .now-ms) (stateOf (g .h) (now (g .crumbs)))
+    (c .enum-told .given .1))
 
 elapsed-requires : tie.Need-elapsed-requires
 elapsed-requires c κs = search needs
@@ -40,7 +41,8 @@ returns-2 c =
     let g = s .args in
     let l = courseOf (g .h) (now (g .line)) in
     updates-nothing (λ C. stillAt (g .here) C l (g .now-ms)) (g .h) (now (g .crumbs)) (s .pre .trail)
-    (still-early (g .here) (capacity (length (now (g .crumbs)))) l (g .now-ms) (stateOf (g .h) (now (g .crumbs))) (c .before .before .before .here .given .0 .0) (c .before .before .before .here .given .1)
+    (still-early (g .here) (capacity (length (now (g .crumbs)))) l (g .now-ms) (stateOf (g .h) (now (g .crumbs)))
+    (c .before .before .before .here .given .0 .0) (c .before .before .before .here .given .1)
     (ap (λ (n : ℕ). ltb n stillMs) (sym (c .before .elapsed .ensures)) ∙ lt-ltb _ _ (c .if1 .taken)))
 
 track-heading-requires : tie.Need-track-heading-requires
@@ -70,9 +72,11 @@ returns-3 c =
     let on = movedOn (g .h) (headed .track-heading .result) in
     let turned = turns p (g .now-ms) (g .h) (headed .track-heading .ensures) in
     let C = capacity (length b) in
-    updates-after (λ C. stillAt (g .here) C l (g .now-ms)) (λ C. update C l p (g .now-ms)) (g .h) on b (u .update .last .1 .0) (u .update .result)
+    updates-after (λ C. stillAt (g .here) C l (g .now-ms)) (λ C. update C l p (g .now-ms)) (g .h) on b (u .update .last .1 .0)
+    (u .update .result)
     (same-len (g .h) on refl)
-    (still-due (g .here) C l (g .now-ms) (stateOf (g .h) b) p (at .here .given .1) (ap (λ (n : ℕ). ltb n stillMs) (sym (due .before .elapsed .ensures)) ∙ le-ltb _ _ (due .if1 .left))
+    (still-due (g .here) C l (g .now-ms) (stateOf (g .h) b) p (at .here .given .1)
+    (ap (λ (n : ℕ). ltb n stillMs) (sym (due .before .elapsed .ensures)) ∙ le-ltb _ _ (due .if1 .left))
     ∙ ap (λ (x : State). update C l p (g .now-ms) x) (sym (turned .same b)))
     (u .update .ensures)
 

@@ -25,7 +25,8 @@ returns c =
     let g = s .args in
     let k = c .before .before .before .before .before .before .add in
     let u = c .before .before .update in
-    grown-updated (g .h) (k .result) (g .p) (now (g .crumbs)) (k .last .1 .0) (s .pre .1) (k .ensures) (now (g .line)) (g .now-ms) (u .result) (u .last .1 .0) (u .ensures)
+    grown-updated (g .h) (k .result) (g .p) (now (g .crumbs)) (k .last .1 .0) (s .pre .1) (k .ensures) (now (g .line)) (g .now-ms)
+    (u .result) (u .last .1 .0) (u .ensures)
 
 pub add-update-spec : {M : Type 1} → statement M
 add-update-spec = tie.close (tie.spec add-requires update-requires same-length returns)

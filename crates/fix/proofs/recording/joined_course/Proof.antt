@@ -26,7 +26,8 @@ returns c =
     let g = c .before .before .before .before .before .before .before .before .args in
     let on = c .before .before .before .before .before .engage-at in
     let k = c .before .before .before .add-update in
-    joined-on (g .h) (on .result) (now (g .line)) (now (g .crumbs)) (k .last .1 .0) (g .p) (g .now-ms) (k .result) (on .ensures) (k .ensures)
+    joined-on (g .h) (on .result) (now (g .line)) (now (g .crumbs)) (k .last .1 .0) (g .p) (g .now-ms) (k .result) (on .ensures)
+    (k .ensures)
 
 pub joined-course-spec : {M : Type 1} → statement M
 joined-course-spec = tie.close (tie.spec engage-at-requires add-update-requires same-length returns)

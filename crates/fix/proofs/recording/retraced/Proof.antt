@@ -24,7 +24,9 @@ update-requires c κs =
     let s = c .before .before .before .before .before .before .before .before in
     let g = s .args in
     let back = c .before .before .before .before .before .turned-back in
-    engaged-fit (back .result) (now (g .crumbs)) (now (g .line)) (g .now-ms) (c .before .before .before .engage .result) (c .before .before .before .engage .ensures) _ (c .before .if1 .taken) (back .ensures .fit _ (s .pre .0 .trail)) (back-room (g .h) (back .result) (back .ensures) _ (s .pre .0 .course))
+    engaged-fit (back .result) (now (g .crumbs)) (now (g .line)) (g .now-ms) (c .before .before .before .engage .result)
+    (c .before .before .before .engage .ensures) _ (c .before .if1 .taken) (back .ensures .fit _ (s .pre .0 .trail))
+    (back-room (g .h) (back .result) (back .ensures) _ (s .pre .0 .course))
 
 same-length : tie.Need-same-length
 same-length c = search needs
@@ -36,7 +38,10 @@ returns c =
     let back = c .before .before .before .before .before .before .before .before .before .turned-back in
     let u = c .before .before .before .update in
     turned-on (g .h) (back .result) (back .ensures) (now (g .line)) (now (g .crumbs)) (u .last .1 .0) (g .p) (g .now-ms) _
-    (engaged-on (back .result) (now (g .line)) (now (g .crumbs)) (u .last .1 .0) (g .p) (g .now-ms) (c .before .before .before .before .before .before .before .engage .result) (c .before .before .before .before .before .before .before .engage .ensures) (u .result) (c .before .before .before .before .before .if1 .taken) (u .ensures))
+    (engaged-on (back .result) (now (g .line)) (now (g .crumbs)) (u .last .1 .0) (g .p)
+    (g .now-ms) (c .before .before .before .before .before .before .before .engage .result)
+    (c .before .before .before .before .before .before .before .engage .ensures) (u .result)
+    (c .before .before .before .before .before .if1 .taken) (u .ensures))
 
 add-update-requires : tie.Need-add-update-requires
 add-update-requires c κs =
@@ -45,8 +50,10 @@ add-update-requires c κs =
     let back = c .before .before .before .before .before .turned-back in
     let e = c .before .before .before .engage in
     let idle = back-idle (g .h) (back .result) (back .ensures) (s .pre .1 .1) in (
-      unengaged-fit (back .result) (now (g .crumbs)) (now (g .line)) (g .now-ms) (e .result) (e .ensures) _ (c .before .if1 .left) (back-fit (g .h) (back .result) (back .ensures) _ _ (s .pre .1 .1) (s .pre .0)),
-      idle-grows (e .result .homing) (ap (λ (f : Follow). f .line) (unengaged-follow (back .result) (now (g .crumbs)) (now (g .line)) (g .now-ms) (e .result) (e .ensures) (c .before .if1 .left)) ∙ idle),
+      unengaged-fit (back .result) (now (g .crumbs)) (now (g .line)) (g .now-ms) (e .result) (e .ensures) _ (c .before .if1 .left)
+          (back-fit (g .h) (back .result) (back .ensures) _ _ (s .pre .1 .1) (s .pre .0)),
+      idle-grows (e .result .homing) (ap (λ (f : Follow). f .line) (unengaged-follow (back .result) (now (g .crumbs)) (now (g .line))
+          (g .now-ms) (e .result) (e .ensures) (c .before .if1 .left)) ∙ idle),
     )
 
 same-length-2 : tie.Need-same-length-2
@@ -59,7 +66,10 @@ returns-2 c =
     let back = c .before .before .before .before .before .before .before .before .turned-back in
     let u = c .before .before .add-update in
     turned-on (g .h) (back .result) (back .ensures) (now (g .line)) (now (g .crumbs)) (u .last .1 .0) (g .p) (g .now-ms) (u .result)
-    (unengaged-on (back .result) (now (g .line)) (now (g .crumbs)) (u .last .1 .0) (g .p) (g .now-ms) (c .before .before .before .before .before .before .engage .result) (c .before .before .before .before .before .before .engage .ensures) (u .result) (c .before .before .before .before .if1 .left) (u .ensures))
+    (unengaged-on (back .result) (now (g .line)) (now (g .crumbs)) (u .last .1 .0) (g .p)
+    (g .now-ms) (c .before .before .before .before .before .before .engage .result)
+    (c .before .before .before .before .before .before .engage .ensures) (u .result) (c .before .before .before .before .if1 .left)
+    (u .ensures))
 
 pub retraced-spec : {M : Type 1} → statement M
 retraced-spec =

@@ -21,10 +21,25 @@ returns c =
     let t = s .args .h .trail in
     record {
       same = λ b.
-          ap (λ (l : List Crumb). withTrack (record { crumbs = l; tolerance = t .tolerance; window = []; retrace = 0; retraceLen = t .«retrace_len» }) (stateOf (s .args .h) b))
+          ap (λ (l : List Crumb). withTrack (record {
+            crumbs = l;
+            tolerance = t .tolerance;
+            window = [];
+            retrace = 0;
+            retraceLen =
+                t .«retrace_len»;
+          }) (stateOf (s .args .h) b))
           (sym (take-crumbs (t .«retrace_len») (t .len) b (s .pre)));
       fit = λ size f.
-          record { whole-long = f .whole-long; least = f .least; most = f .most; held = omega (arith, f .held, s .pre); waiting = omega arith; tolerance = f .tolerance };
+          record {
+            whole-long = f .whole-long;
+            least = f .least;
+            most = f .most;
+            held = omega (arith, f .held, s .pre);
+            waiting =
+                omega arith;
+            tolerance = f .tolerance;
+          };
       fewer = s .pre;
     }
 

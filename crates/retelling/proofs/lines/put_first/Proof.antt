@@ -48,7 +48,8 @@ returns c =
     let put-decimal = put-word2 .before .before .before .before .before in
     let put-word = put-decimal .before .before .before .before in
     writes-then (writes-then (writes-then (writes-then (writes-then (writes-then
-    (put-word .put-word .ensures) (put-decimal .put-decimal .ensures)) (put-word2 .put-word2 .ensures)) (put-decimal2 .put-decimal2 .ensures))
+    (put-word .put-word .ensures) (put-decimal .put-decimal .ensures)) (put-word2 .put-word2 .ensures))
+    (put-decimal2 .put-decimal2 .ensures))
     (put-word3 .put-word3 .ensures))
     (put-stage .put-stage .ensures)) (c .before .before .put-byte .ensures)
 
