@@ -113,10 +113,6 @@ known-most : (h : Heading) → leb (headingFlag h) 1 ≡ true
 known-most (heading.Known a) = refl
 known-most heading.Unknown = refl
 
-heading-back : (h : Heading) → headingOf (eqb (headingFlag h) 1) (headingIn h) ≡ h
-heading-back (heading.Known a) = refl
-heading-back heading.Unknown = refl
-
 long-enough : (n : ℕ) → guideSize ≤ suc (suc (suc (suc (suc (suc (suc (suc (suc (suc n)))))))))
 long-enough n = omega arith
 

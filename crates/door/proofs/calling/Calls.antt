@@ -16,7 +16,7 @@ use Rattle.course.specs.Fix.{Fix}
 use Rattle.course.proofs.Fixes.{handed}
 use Rattle.fix.proofs.Arriving.{fixAt, handed-fix}
 use Rattle.calls.specs.Questions.{question1, unless, _orElse_}
-use Rattle.calls.specs.Promises.{answer}
+use Rattle.calls.specs.Promises.{Answer, answer}
 use Rattle.homing.specs.declared.Changed.{Changed}
 use Rattle.homing.specs.Answers.{saysReply}
 use Rattle.homing.specs.Promises.{MakesNew, Replays}
