@@ -7,11 +7,13 @@ use segments::Best;
 use segments::Stretch;
 use segments::costs::Ranking;
 ghost use mathlib.Core.Path.{_≡_};
-ghost use Prim.Native.Nat.{_+_, _≤_, _<_};
+ghost use mathlib.Core.Bool.{true};
+ghost use Prim.Native.Nat.{ℕ, _+_, _≤_, _<_};
 ghost use lib.ListN.{length};
 ghost use Rattle.crumbs.specs.Crumb.{capacity, crumbs};
 ghost use Rattle.plane.specs.declared.Point.{Point};
 ghost use Rattle.search.specs.Search.{nearestOnBreadcrumb, nearestWithin, count};
+ghost use Rattle.segments.specs.Square.{squareOn};
 ghost use Rattle.segments.specs.declared.costs.Ranking.the-variants.{Plain};
 ghost use Rattle.search.specs.Square.{reaches, overtakes, takesLead, leadsOver};
 ghost use Rattle.search.specs.Rows.{rowLength, SquaresFrom};
@@ -64,6 +66,31 @@ fn consider(line: &[f32], len: usize, p: Point, within: Stretch, end: usize, lea
     lead
 }
 
+// Whether a segment with this square certainly stays behind the one in the lead.
+fn stays_behind(lead: Lead, square: f32) -> bool
+    ensures { λ r. ⌜ (r ≡ true → (end : ℕ) → overtakes end square lead ≡ lead) ⌝ }
+{
+    if lead.best == 0 {
+        return false;
+    }
+    !(square < lead.least)
+}
+
+// The lead behind segment `end`, whose square is known. Where it stays behind, it is not asked whether it reaches into the stretch.
+fn past(line: &[f32], len: usize, within: Stretch, end: usize, square: f32, lead: Lead) -> Lead
+    requires { ⌜ (1 ≤ end) × (end < len) × (len ≤ capacity (length (now line))) ⌝ }
+    ensures { λ r. ⌜ ((p : Point) → square ≡ squareOn (crumbs len (now (line .entry))) p end
+        → r ≡ takesLead (crumbs len (now (line .entry))) p within end lead) ⌝ }
+{
+    if stays_behind(lead, square) {
+        return lead;
+    }
+    if reaches(line, len, within, end) {
+        return overtake(lead, end, square);
+    }
+    lead
+}
+
 // The lead behind the segments of a row, from `first` on, whose squares are known.
 fn along_row(
     line: &[f32],
@@ -79,9 +106,7 @@ fn along_row(
 {
     let mut leading = lead;
     for k in 0..rows::ROW {
-        if reaches(line, len, within, first + k) {
-            leading = overtake(leading, first + k, row[k]);
-        }
+        leading = past(line, len, within, first + k, row[k], leading);
     }
     leading
 }

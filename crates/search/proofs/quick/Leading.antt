@@ -157,6 +157,19 @@ module _ (line : List Crumb) (p : Point) (within : Stretch) (end : ℕ) (lead : 
   unfolding takesLead
   leads-out {r} e t = let u = sym e ∙ t in sym (ap (λ (b : Bool). cond b (overtakes end (squareOn line p end) lead) lead) u)
 
+-- one that stays behind the lead, whether it reaches into the stretch or not
+pub leads-still : (line : List Crumb) (p : Point) (within : Stretch) (end : ℕ) (lead : Lead) {s : Float} → s ≡ squareOn line p end
+    → overtakes end s lead ≡ lead → lead ≡ takesLead line p within end lead
+unfolding takesLead
+leads-still line p within end lead S still = sym (by (reaches line within end))
+  where
+    same : overtakes end (squareOn line p end) lead ≡ lead
+    same = ap (λ (z : Float). overtakes end z lead) (sym S) ∙ still
+
+    by : (b : Bool) → cond b (overtakes end (squareOn line p end) lead) lead ≡ lead
+    by true = same
+    by false = refl
+
 pub reaches-is : (line : List Crumb) (within : Stretch) (end : ℕ) {a b : Crumb} {r : Bool} → b ≡ at line end → a ≡ at line (end - 1)
     → r ≡ not (lt (b .along) (within .floor) || lt (within .ceiling) (a .along)) → r ≡ reaches line within end
 unfolding reaches

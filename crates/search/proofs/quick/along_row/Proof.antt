@@ -1,13 +1,10 @@
 -- `search::quick::along_row` meets its contract: the segments still to be tried decide. Assumes nothing.
 use Prim.Native.Nat.{_+_, _-_}
-use mathlib.Core.Path.{_∙_}
-use mathlib.Core.Logic.{inl, inr}
 use native.Mathlib.Omega.{arith}
 use borrow.Author.Needs.{needs}
 use Rattle.crumbs.specs.Crumb.{crumbs}
 use Rattle.plane.specs.declared.Point.{Point}
 use Rattle.search.specs.Rows.{rowLength, SquaresFrom}
-use Rattle.search.proofs.quick.Leading.{leads-in, leads-out}
 use Rattle.search.proofs.quick.Passing.{Goes, rowFrom, row-start, row-on, row-out}
 use Rattle.search.proofs.quick.along_row.Statement.{statement}
 use Rattle.search.proofs.quick.along_row.Tie as tie
@@ -23,23 +20,17 @@ abbrev μ-loop : tie.MeasureT-loop
 loop-holds : tie.Need-loop-holds Inv-loop μ-loop
 loop-holds c p squares = row-start _ _ _
 
-add-reaches : tie.Need-add-reaches Inv-loop μ-loop
-add-reaches c = omega arith
+add-past : tie.Need-add-past Inv-loop μ-loop
+add-past c = omega arith
 
-reaches-requires : tie.Need-reaches-requires Inv-loop μ-loop
-reaches-requires c κs = omega arith
+mul-past : tie.Need-mul-past Inv-loop μ-loop
+mul-past c = search needs
 
-add-overtake : tie.Need-add-overtake Inv-loop μ-loop
-add-overtake c = omega arith
+element-copy-out-past : tie.Need-element-copy-out-past Inv-loop μ-loop
+element-copy-out-past c = search needs
 
-mul-overtake : tie.Need-mul-overtake Inv-loop μ-loop
-mul-overtake c = search needs
-
-element-copy-out-overtake : tie.Need-element-copy-out-overtake Inv-loop μ-loop
-element-copy-out-overtake c = search needs
-
-overtake-requires : tie.Need-overtake-requires Inv-loop μ-loop
-overtake-requires c κs = search needs
+past-requires : tie.Need-past-requires Inv-loop μ-loop
+past-requires c κs = omega arith
 
 add-k : tie.Need-add-k Inv-loop μ-loop
 add-k c = omega arith
@@ -49,13 +40,9 @@ loop-less c = omega arith
 
 loop-again : tie.Need-loop-again Inv-loop μ-loop
 loop-again c p squares =
-    let at = c .before .before .before in
-    let more = c .before .before .loop-test .taken in
-    elim (c .if1 .came) [
-      | inl t ↦ row-on _ _ _ (at .loop .inv p squares) more
-          (t .3 ∙ leads-in _ _ _ _ _ (c .before .reaches .ensures) (t .0 .taken) (squares .each _ more) (t .2 .ensures))
-      | inr t ↦ row-on _ _ _ (at .loop .inv p squares) more (t .1 ∙ leads-out _ _ _ _ _ (c .before .reaches .ensures) (t .0 .left))
-    ]
+    let tested = c .before .before in
+    row-on _ _ _ (tested .before .loop .inv p squares) (tested .loop-test .taken)
+    (c .past .ensures p (squares .each _ (tested .loop-test .taken)))
 
 returns : tie.Need-returns Inv-loop μ-loop
 returns c p squares = row-out _ _ _ (c .before .loop .inv p squares) (c .loop-test .left)
@@ -67,12 +54,10 @@ along-row-spec =
     Inv-loop
     μ-loop
     loop-holds
-    add-reaches
-    reaches-requires
-    add-overtake
-    mul-overtake
-    element-copy-out-overtake
-    overtake-requires
+    add-past
+    mul-past
+    element-copy-out-past
+    past-requires
     add-k
     loop-less
     loop-again
