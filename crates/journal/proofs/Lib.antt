@@ -1,6 +1,7 @@
 pub mod Kept
 pub mod Trace
 pub mod Sound
+pub mod Walking
 pub mod Recording
 pub mod Following
 pub mod Joining

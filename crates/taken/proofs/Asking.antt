@@ -85,7 +85,7 @@ module _ {C n : ℕ} (s : State) (k : Kept C n s) where
   pub held-fits : C ≤ most → heldFits C s ≡ true
   unfolding heldFits
   held-fits room = both (le-leb (length (s .track .crumbs)) C (k .track .sound .held))
-      (laid-fits 0 (s .track .crumbs) (omega (arith, k .track .sound .held)) (k .track .laid))
+      (laid-fits 0 (s .track .crumbs) (omega (arith, k .track .sound .held)) (k .track .crumbs))
 
 -- ---- questions 2 and 3
 pub fix-asked : (x : Fix) → FixOnGlobe x → asksFix x ≡ 0

@@ -37,7 +37,8 @@ use Rattle.joining.specs.Join.{joinedTo, joinOn, mayJoin, joinWith, joining}
 use Rattle.taken.proofs.Tests.{one-of}
 use Rattle.taken.proofs.Bounds.{Along, far, along-start, along-far}
 use Rattle.taken.proofs.Laid.{most, laid-at}
-use Rattle.taken.proofs.Recording.{Recorded, uncounted, Onward, keep-onward, flush-onward, add-onward, grows, cut-recorded}
+use Rattle.taken.proofs.Onward.{uncounted}
+use Rattle.taken.proofs.Recording.{Recorded, Onward, keep-onward, flush-onward, add-onward, grows, cut-recorded}
 use Rattle.taken.proofs.Recording.{forgotten-recorded, forgotten-none}
 use Rattle.taken.proofs.Moving.{Spotted}
 use Rattle.taken.proofs.State.{Lined, SegmentOn, Followed, Coursed, Kept, kept-track, kept-follow, kept-course}
@@ -73,7 +74,7 @@ recorded-kept : {C points : ℕ} {s : State} (d : TrackDone) → Kept C points s
 unfolding recorded recordedIn
 recorded-kept {C} {points} {s} d k sound o g =
     record {
-      track = record { sound = sound; laid = o .laid; waiting = o .waiting };
+      track = record { sound = sound; crumbs = o .crumbs; waiting = o .waiting };
       counted = o .counted (k .counted);
       frame = k .frame;
       here = k .here;

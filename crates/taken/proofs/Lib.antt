@@ -2,6 +2,7 @@ pub mod Tests
 pub mod Refusals
 pub mod Bounds
 pub mod Laid
+pub mod Onward
 pub mod Recording
 pub mod Moving
 pub mod State

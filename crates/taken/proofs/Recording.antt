@@ -2,26 +2,23 @@
 use Prim.Native.Nat.{ℕ, _≤_, _<_}
 use native.Mathlib.Omega.{arith}
 use native.Mathlib.Decide.{ℕ-discrete}
-use mathlib.Core.Path.{_≡_, refl, subst}
+use mathlib.Core.Path.{_≡_, refl}
 use mathlib.Core.Bool.{Bool, true, false, _||_, true≢false}
 use mathlib.Core.List.{List, [], _∷_, _++_}
-use mathlib.Core.Option.{Option, none, some}
 use borrow.Author.Tests.{eqb-false, lt-ltb, le-leb, eq-eqb, ne-eqb}
 use lib.Dec.{eqb, leb}
 use lib.ListN.{length, take, length-append, length-take}
-use lib.Ieee.{le, lt}
+use lib.Ieee.{Float, le}
 use Rattle.binary32.specs.Arithmetic.{constant}
 use Rattle.binary32.specs.Limits.{plusZero}
 use Rattle.plane.specs.declared.Point.{Point}
 use Rattle.plane.proofs.Place.{Place}
 use Rattle.crumbs.specs.declared.Crumb.{Crumb}
-use Rattle.crumbs.specs.Crumb.{point}
-use Rattle.crumbs.specs.Choice.{last}
+use Rattle.crumbs.specs.Along.{crumbOf, recordedM, realong}
+use Rattle.thin.specs.Crumb.{thinning}
 use Rattle.trail.specs.Notes.{Note, thinnedIn}
-use Rattle.trail.specs.Trail.{retraceFixes, Track, withCrumbs, fresh, toleranceM, thin, put, keep, flush, wait, simplify, add, resetTrack}
-use Rattle.trail.proofs.Rules.{keep-full, keep-room, flush-none, flush-some, bends, simplify-bends, simplify-straight, add-first, near}
-use Rattle.trail.proofs.Rules.{add-near, add-far}
-use Rattle.trail.proofs.Theorems.{Sound, thin-sound, flush-sound, Holding, MayKeep, nothing, one, Keeps, full}
+use Rattle.trail.specs.Trail.{retraceFixes, Track, withCrumbs, fresh, toleranceM, keep, flush, add, resetTrack}
+use Rattle.trail.proofs.Theorems.{Holding, MayKeep, nothing, one, Keeps, full}
 use Rattle.trail.proofs.Theorems as trail
 use Rattle.follow.specs.Engage.{forgotten}
 use Rattle.joining.specs.Join.{withRetrace}
@@ -30,134 +27,50 @@ use Rattle.calls.specs.Questions.{placesFit, retraceFits}
 use Rattle.taken.proofs.Tests.{one-of}
 use Rattle.taken.proofs.Bounds.{place-fits}
 use Rattle.taken.proofs.Laid.{most, Laid, laid-take, laid-put, laid-thin}
+use Rattle.taken.proofs.Onward as onward
+use Rattle.taken.proofs.Onward.{All, Counted, uncounted}
 use Rattle.journal.proofs.Calls.{new-tolerance}
 
 -- ---- places that wait
-abbrev pub Places : List Point → Type 0
-Places [] = Unit {0}
-Places (p ∷ l) = Place p × Places l
-
-last-place : (l : List Point) (p : Point) → Places l → last l ≡ some p → Place p
-last-place [] p h e = let z : _≡_ {A = ℕ} 0 1 = cc in absurd (omega arith)
-last-place (q ∷ []) p h e = let i : q ≡ p = cc in subst (λ x. Place x) i (h .0)
-last-place (q ∷ r ∷ l) p h e = last-place (r ∷ l) p (h .1) e
-
-places-behind : (l : List Point) (p : Point) → Places l → Place p → Places (l ++ p ∷ [])
-places-behind [] p h P = (P, tt)
-places-behind (q ∷ l) p h P = (h .0, places-behind l p (h .1) P)
-
-pub places-fit : (l : List Point) → Places l → placesFit l ≡ true
+pub places-fit : (l : List Point) → All Place l → placesFit l ≡ true
 unfolding placesFit
 places-fit [] h = refl
 places-fit (p ∷ l) h = rw (place-fits p (h .0)) (places-fit l (h .1))
 
--- ---- the breadcrumb, and the turn-round counted on it
-pub record Recorded (C : ℕ) (t : Track) : Type 0 where
-  pub sound : Sound C t
-  pub laid : Laid 0 (t .crumbs)
-  pub waiting : Places (t .window)
+-- ---- the breadcrumb
+abbrev pub Recorded : ℕ → Track → Type 0
+Recorded C t = onward.Recorded (Laid 0) Place C t
 
-pub record Counted (t : Track) : Type 0 where
-  pub few : t .retrace < retraceFixes
-  pub back : (t .retrace ≡ 0 → ⊥) → t .retraceLen ≤ length (t .crumbs)
-
--- no turn-round is counted
-pub uncounted : (t : Track) → t .retrace ≡ 0 → Counted t
-uncounted t e = record { few = omega arith; back = λ h. absurd (h e) }
-
--- ---- the rules
--- what a rule makes of the track t, beside what `Sound` says
-pub record Onward (t u : Track) : Type 0 where
-  pub laid : Laid 0 (u .crumbs)
-  pub waiting : Places (u .window)
-  pub counted : Counted t → Counted u
+abbrev pub Onward : Track → Track → Type 0
+Onward t u = onward.Onward (Laid 0) Place t u
 
 module _ (C : ℕ) (least : 3 ≤ C) (room : C ≤ most) where
-  onward : {t u : Track} → Onward t u → Sound C u → Recorded C u
-  onward o s = record { sound = s; laid = o .laid; waiting = o .waiting }
+  thinned : (x : Float) (l : List Crumb) → length l ≤ C → Laid 0 l → Laid 0 (realong (thinning C x l .left))
+  thinned x l few h = laid-thin C x l least room few h
 
-  unmoved : (t : Track) → Recorded C t → Onward t t
-  unmoved t r = record { laid = r .laid; waiting = r .waiting; counted = λ k. k }
-
-  thin-onward : (t : Track) → Recorded C t → Onward t (thin C t .track)
-  unfolding thin
-  thin-onward t r =
-      record {
-        laid = laid-thin C (t .tolerance) (t .crumbs) least room (r .sound .held) (r .laid);
-        waiting = r .waiting;
-        counted = λ k. uncounted _ refl;
-      }
-
-  put-onward : (p : Point) (t : Track) → Recorded C t → Place p → Onward t (put p t .track)
-  unfolding put
-  put-onward p t r P =
-      record {
-        laid = laid-put (t .crumbs) p (omega (arith, r .sound .held)) (r .laid) P;
-        waiting = r .waiting;
-        counted = λ k. record { few = k .few; back = λ h. simp length-append (omega (arith, k .back h)) };
-      }
+  behind : (l : List Crumb) (p : Point) → length l ≤ C → Laid 0 l → Place p → Laid 0 (l ++ crumbOf p (recordedM l p) ∷ [])
+  behind l p few h P = laid-put l p (omega (arith, few)) h P
 
   pub keep-onward : (p : Point) (t : Track) → Recorded C t → Place p → Onward t (keep C p t .track)
-  keep-onward p t r P = by (ℕ-discrete (length (t .crumbs)) C)
-    where
-      by : Dec (length (t .crumbs) ≡ C) → Onward t (keep C p t .track)
-      by (yes e) =
-          let o = thin-onward t r in
-          let q = put-onward p (thin C t .track) (onward o (thin-sound C least t (r .sound))) P in
-          rw (keep-full C p t e) (record { laid = q .laid; waiting = q .waiting; counted = λ k. q .counted (o .counted k) })
-      by (no ne) = rw (keep-room C p t ne) (put-onward p t r P)
+  keep-onward = onward.keep-onward C least thinned behind
 
   pub flush-onward : (t : Track) → Recorded C t → Onward t (flush C t .track)
-  flush-onward t r = by (last (t .window)) refl
-    where
-      by : (o : Option Point) → last (t .window) ≡ o → Onward t (flush C t .track)
-      by none e = rw (flush-none C t e) (unmoved t r)
-      by (some p) e =
-          let o = keep-onward p t r (last-place (t .window) p (r .waiting) e) in
-          rw (flush-some C p t e)
-          (record { laid = o .laid; waiting = tt; counted = λ k. let c = o .counted k in record { few = c .few; back = c .back } })
-
-  wait-onward : (p : Point) (t : Track) → Recorded C t → Place p → Onward t (wait p t .track)
-  unfolding wait
-  wait-onward p t r P =
-      record {
-        laid = r .laid;
-        waiting = places-behind (t .window) p (r .waiting) P;
-        counted = λ k. record { few = k .few; back = k .back };
-      }
-
-  simplify-onward : (anchor p : Point) (t : Track) → Recorded C t → Place p → Onward t (simplify C anchor p t .track)
-  simplify-onward anchor p t r P = by (bends C p t anchor) refl
-    where
-      by : (b : Bool) → bends C p t anchor ≡ b → Onward t (simplify C anchor p t .track)
-      by true e =
-          let o = flush-onward t r in
-          let q = wait-onward p (flush C t .track) (onward o (flush-sound C least t (r .sound))) P in
-          rw (simplify-bends C p t anchor e) (record { laid = q .laid; waiting = q .waiting; counted = λ k. q .counted (o .counted k) })
-      by false e = rw (simplify-straight C p t anchor e) (wait-onward p t r P)
+  flush-onward = onward.flush-onward C least thinned behind
 
   pub add-onward : (p : Point) (t : Track) → Recorded C t → Place p → Onward t (add C p t .track)
-  add-onward p t r P = by (last (t .crumbs)) refl
-    where
-      far : (a : Crumb) → last (t .crumbs) ≡ some a → (b : Bool) → near C p t a ≡ b → Onward t (add C p t .track)
-      far a e true h = rw (add-near C p t a e h) (unmoved t r)
-      far a e false h = rw (add-far C p t a e h) (simplify-onward (point a) p t r P)
-
-      by : (o : Option Crumb) → last (t .crumbs) ≡ o → Onward t (add C p t .track)
-      by none e = rw (add-first C p t e) (keep-onward p t r P)
-      by (some a) e = far a e (near C p t a) refl
+  add-onward = onward.add-onward C least thinned behind
 
 -- ---- nothing recorded, and what is cut off or forgotten
 module _ (C : ℕ) where
   pub fresh-recorded : Recorded C fresh
   unfolding fresh
   fresh-recorded =
-      record { sound = record { held = omega arith; waiting = omega arith; tolerance = new-tolerance }; laid = tt; waiting = tt }
+      record { sound = record { held = omega arith; waiting = omega arith; tolerance = new-tolerance }; crumbs = tt; waiting = tt }
 
   pub reset-recorded : (t : Track) → Recorded C (resetTrack t .track)
   unfolding resetTrack
   reset-recorded t =
-      record { sound = record { held = omega arith; waiting = omega arith; tolerance = new-tolerance }; laid = tt; waiting = tt }
+      record { sound = record { held = omega arith; waiting = omega arith; tolerance = new-tolerance }; crumbs = tt; waiting = tt }
 
   -- the first n crumbs, with nothing that waits and no turn-round
   pub cut-recorded : (n : ℕ) (t : Track) → Recorded C t → Recorded C (withCrumbs (take n (t .crumbs)) (forgotten t))
@@ -165,7 +78,7 @@ module _ (C : ℕ) where
   cut-recorded n t r =
       record {
         sound = record { held = rw length-take (omega (arith, r .sound .held)); waiting = omega arith; tolerance = r .sound .tolerance };
-        laid = laid-take 0 n (t .crumbs) (r .laid);
+        crumbs = laid-take 0 n (t .crumbs) (r .crumbs);
         waiting = tt;
       }
 
@@ -174,7 +87,7 @@ module _ (C : ℕ) where
   forgotten-recorded t r =
       record {
         sound = record { held = r .sound .held; waiting = omega arith; tolerance = r .sound .tolerance };
-        laid = r .laid;
+        crumbs = r .crumbs;
         waiting =
             tt;
       }
@@ -184,8 +97,8 @@ module _ (C : ℕ) where
   retrace-recorded n len t r =
       record {
         sound = record { held = r .sound .held; waiting = r .sound .waiting; tolerance = r .sound .tolerance };
-        laid =
-            r .laid;
+        crumbs =
+            r .crumbs;
         waiting = r .waiting;
       }
 

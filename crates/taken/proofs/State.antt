@@ -22,7 +22,8 @@ use Rattle.state.specs.State.{withAutoFollow, withArrived, withLap, withUpdated
 use Rattle.calls.specs.Questions.{shownFits}
 use Rattle.taken.proofs.Bounds.{Along, far}
 use Rattle.taken.proofs.Laid.{most, Laid}
-use Rattle.taken.proofs.Recording.{Recorded, Counted}
+use Rattle.taken.proofs.Recording.{Recorded}
+use Rattle.taken.proofs.Onward.{Counted}
 use Rattle.taken.proofs.Moving.{Spotted, Framed, Moving}
 
 -- nothing is shown

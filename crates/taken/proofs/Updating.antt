@@ -98,8 +98,8 @@ module _ (C : ℕ) (least : 3 ≤ C) (room : C ≤ most) (course : List Crumb) (
   followed-lined : (on : Line) (s : State) → K s → Lined (followedOn on course (s .track .crumbs))
   unfolding followedOn
   followed-lined line.Course s k = lined
-  followed-lined line.Nothing s k = record { laid = k .track .laid; few = omega (arith, k .track .sound .held) }
-  followed-lined line.Breadcrumb s k = record { laid = k .track .laid; few = omega (arith, k .track .sound .held) }
+  followed-lined line.Nothing s k = record { laid = k .track .crumbs; few = omega (arith, k .track .sound .held) }
+  followed-lined line.Breadcrumb s k = record { laid = k .track .crumbs; few = omega (arith, k .track .sound .held) }
 
   nearest-met : (on : Line) (ends : Range) (s : State) (near : Nearest) → K s → 1 ≤ ends .from
       → ends .to < length (followedOn on course (s .track .crumbs))

@@ -2,7 +2,6 @@
 -- values of binary32. Assumes nothing.
 use Prim.Native.Nat.{ℕ, zero, suc, _≤_}
 use native.Mathlib.Omega.{arith}
-use native.Mathlib.Decide.{ℕ-discrete}
 use mathlib.Core.Path.{_≡_, refl}
 use mathlib.Core.Bool.{Bool, true, false, _&&_}
 use mathlib.Core.List.{List, [], _∷_, _++_}
@@ -33,8 +32,7 @@ use Rattle.matching.specs.Distances.{dropM}
 use Rattle.crumbs.specs.Along.{alongTo, alongBehind, recordedM, realongBehind, realong}
 use Rattle.trail.specs.Trail.{Track, fresh, thin, put, wait}
 use Rattle.trail.specs.Trail as trail
-use Rattle.trail.proofs.Rules.{keep-full, keep-room, flush-none, flush-some, bends, simplify-bends, simplify-straight, add-first, near}
-use Rattle.trail.proofs.Rules.{add-near, add-far}
+use Rattle.journal.proofs.Walking.{Steps, keeps, flushes, adds}
 use Rattle.state.specs.declared.Place.{Place}
 use Rattle.state.specs.declared.Place.the-variants as place
 use Rattle.state.specs.declared.Line.{Line}
@@ -99,50 +97,28 @@ rounded-take zero l h = tt
 rounded-take (suc n) [] h = tt
 rounded-take (suc n) (a ∷ l) h = (h .0, rounded-take n l (h .1))
 
-module _ (C : ℕ) (least : 3 ≤ C) where
-  abbrev R : Track → Type 0
-  R t = Rounded (t .crumbs)
+abbrev R : Track → Type 0
+R t = Rounded (t .crumbs)
 
-  put-rounded : (p : Point) (t : Track) → R t → R (put p t .track)
-  unfolding put recordedM
-  put-rounded p t h = rounded-snoc (t .crumbs) _ h (behind-fits (last (t .crumbs)) p)
+put-rounded : (p : Point) (t : Track) → R t → R (put p t .track)
+unfolding put recordedM
+put-rounded p t h = rounded-snoc (t .crumbs) _ h (behind-fits (last (t .crumbs)) p)
 
-  thin-rounded : (t : Track) → length (t .crumbs) ≤ C → R t → R (thin C t .track)
-  unfolding thin
-  thin-rounded t few h = rounded-realong _ (rounded-choice (thins-any C least (t .tolerance) (t .crumbs) few .choice) h)
+thin-rounded : (C : ℕ) → 3 ≤ C → (t : Track) → length (t .crumbs) ≡ C → R t → R (thin C t .track)
+unfolding thin
+thin-rounded C least t e h = rounded-realong _ (rounded-choice (thins-any C least (t .tolerance) (t .crumbs) (omega (arith, e)) .choice) h)
 
-  keep-rounded : (p : Point) (t : Track) → R t → R (trail.keep C p t .track)
-  keep-rounded p t h = by (ℕ-discrete (length (t .crumbs)) C)
-    where
-      by : Dec (length (t .crumbs) ≡ C) → R (trail.keep C p t .track)
-      by (yes e) = rw (keep-full C p t e) (put-rounded p (thin C t .track) (thin-rounded t (omega (arith, e)) h))
-      by (no ne) = rw (keep-room C p t ne) (put-rounded p t h)
-
-  flush-rounded : (t : Track) → R t → R (trail.flush C t .track)
-  flush-rounded t h = by (last (t .window)) refl
-    where
-      by : (o : Option Point) → last (t .window) ≡ o → R (trail.flush C t .track)
-      by none e = rw (flush-none C t e) h
-      by (some p) e = rw (flush-some C p t e) (keep-rounded p t h)
-
-  simplify-rounded : (anchor p : Point) (t : Track) → R t → R (trail.simplify C anchor p t .track)
-  unfolding wait
-  simplify-rounded anchor p t h = by (bends C p t anchor) refl
-    where
-      by : (b : Bool) → bends C p t anchor ≡ b → R (trail.simplify C anchor p t .track)
-      by true e = rw (simplify-bends C p t anchor e) (flush-rounded t h)
-      by false e = rw (simplify-straight C p t anchor e) h
-
-  add-rounded : (p : Point) (t : Track) → R t → R (trail.add C p t .track)
-  add-rounded p t h = by (last (t .crumbs)) refl
-    where
-      far : (a : Crumb) → last (t .crumbs) ≡ some a → (b : Bool) → near C p t a ≡ b → R (trail.add C p t .track)
-      far a e true k = rw (add-near C p t a e k) h
-      far a e false k = rw (add-far C p t a e k) (simplify-rounded (point a) p t h)
-
-      by : (o : Option Crumb) → last (t .crumbs) ≡ o → R (trail.add C p t .track)
-      by none e = rw (add-first C p t e) (keep-rounded p t h)
-      by (some a) e = far a e (near C p t a) refl
+rounded-steps : (C : ℕ) → 3 ≤ C → Steps C (λ _. Unit {0}) R R
+unfolding wait
+rounded-steps C least =
+    record {
+      thins = thin-rounded C least;
+      puts = λ p t a h. put-rounded p t h;
+      stays = λ t h. h;
+      empties = λ t h. h;
+      waits = λ p t a h. h;
+      waited = λ t p h e. tt;
+    }
 
 -- ---- the whole state
 abbrev pub Measured : State → Type 0
@@ -188,15 +164,15 @@ stop-course s h = h
 module _ (C : ℕ) (least : 3 ≤ C) where
   keep-measured : (p : Point) → Keeps (keepIn C p)
   unfolding keepIn
-  keep-measured p s h = recorded-measured (trail.keep C p (s .track)) s h (keep-rounded C least p (s .track) (h .1))
+  keep-measured p s h = recorded-measured (trail.keep C p (s .track)) s h (keeps (rounded-steps C least) p (s .track) tt (h .1))
 
   add-measured : (p : Point) → Keeps (addIn C p)
   unfolding addIn
-  add-measured p s h = recorded-measured (trail.add C p (s .track)) s h (add-rounded C least p (s .track) (h .1))
+  add-measured p s h = recorded-measured (trail.add C p (s .track)) s h (adds (rounded-steps C least) p (s .track) tt (h .1))
 
   flush-measured : Keeps (flushIn C)
   unfolding flushIn
-  flush-measured s h = recorded-measured (trail.flush C (s .track)) s h (flush-rounded C least (s .track) (h .1))
+  flush-measured s h = recorded-measured (trail.flush C (s .track)) s h (flushes (rounded-steps C least) (s .track) (h .1))
 
   -- ---- following ends
   leave-at : (x : Spot) (segment : ℕ) → Keeps (leaveAt C x segment)

@@ -39,7 +39,8 @@ use Rattle.calls.specs.Line.{noLap, lined, awaiting, reset}
 use Rattle.taken.specs.Taken.{FixOnGlobe}
 use Rattle.taken.proofs.Tests.{one-of, both}
 use Rattle.taken.proofs.Bounds.{place-fits, factor-fits}
-use Rattle.taken.proofs.Recording.{Counted, retrace-fits, grows, reset-recorded, reset-counted}
+use Rattle.taken.proofs.Onward.{Counted}
+use Rattle.taken.proofs.Recording.{retrace-fits, grows, reset-recorded, reset-counted}
 use Rattle.taken.proofs.Moving.{Framed, located-framed, framed-place, known-fits, unknown-fits}
 use Rattle.taken.proofs.State.{nothing-shown}
 use Rattle.taken.proofs.asked.Recording.{Rounded, crumbs-given, crumbs-pass, window-given, window-passes, Recorded, Onward}
