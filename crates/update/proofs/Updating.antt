@@ -19,7 +19,7 @@ use Rattle.state.specs.declared.Course.{Course}
 use Rattle.state.specs.declared.Homing.{Homing}
 use Rattle.state.specs.State.{State, stateOf, withCourse}
 use Rattle.state.specs.Rule.{Done, done}
-use Rattle.follow.specs.View.{HomingFit, courseOf, Changes}
+use Rattle.follow.specs.View.{HomingFit, courseOf, Changes, Follows}
 use Rattle.matching.specs.declared.followed.Followed.{Followed}
 use Rattle.matching.specs.Match.{onLine, courseMatched}
 use Rattle.matching.specs.View.{followedBy, lineIn, Lent, IsFollowed}
@@ -96,21 +96,25 @@ updates-still rule h b r f t =
     }
 
 -- what came before left the trail alone
+pub follows-from : {A : Type 0} (before : State → State) (rule : ℕ → State → Done A) (h g : Homing) (entry : List Float) (r : Homing)
+    (exit : List Float) → Changes before h g
+    → Follows rule g entry r exit → Follows (λ C s. rule C (before s)) h entry r exit
+follows-from before rule h g entry r exit c f =
+    let Beyond : Trail → Type 0 = λ x. behind (max (x .len) (r .trail .len)) exit ≡ behind (max (x .len) (r .trail .len)) entry in
+    record {
+      same = f .same ∙ ap (λ (s : State). rule (capacity (length entry)) s .state) (c .same entry);
+      fit = f .fit;
+      size = f .size;
+      beyond = subst Beyond (c .trail) (f .beyond);
+    }
+
 pub updates-from : (before : State → State) (rule : ℕ → State → Done Event) (h g : Homing) (entry : List Float) (r : Told)
     (exit : List Float) → Changes before h g
     → Updates rule g entry r exit → Updates (λ C s. rule C (before s)) h entry r exit
 updates-from before rule h g entry r exit c u =
-    let C = capacity (length entry) in
     record {
-      told = u .told ∙ ap (λ (s : State). rule C s .answer) (c .same entry);
-      follows =
-          record {
-            same = u .follows .same ∙ ap (λ (s : State). rule C s .state) (c .same entry);
-            fit = u .follows .fit;
-            size = u .follows .size;
-            beyond = subst (λ (x : Trail). behind (max (x .len) (r .homing .trail .len)) exit
-                ≡ behind (max (x .len) (r .homing .trail .len)) entry) (c .trail) (u .follows .beyond);
-          };
+      told = u .told ∙ ap (λ (s : State). rule (capacity (length entry)) s .answer) (c .same entry);
+      follows = follows-from before rule h g entry (r .homing) exit c (u .follows);
     }
 
 -- ---- the state after an update begins fits as it did

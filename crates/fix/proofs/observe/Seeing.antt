@@ -70,17 +70,17 @@ words-eq a b f g = by (eqb (ofZ w32 a) (ofZ w32 b)) refl
     by true e = sym (eqZ-same a b (words-same a b f g (eqb-true _ _ e)))
     by false e = sym (eqZ-other a b (λ h. eqb-false _ _ e (ap (λ z. ofZ w32 z) h)))
 
--- the state at a new fix, by the clock, its frame, its place and its motion
-abbrev pub movedTo : Homing → Fix → ℕ → Frame → Point → Motion → Homing
-movedTo h x now f p m =
+-- the state with another frame, place, clock and motion
+abbrev pub movedAs : Homing → Frame → Place → Spot → ℕ → Motion → Homing
+movedAs h frame fed here now motion =
     record {
       trail = h .trail;
       window = h .window;
-      frame = f;
-      fed = place.At (x .lat) (x .lon);
-      here = spot.At p;
+      frame = frame;
+      fed = fed;
+      here = here;
       «here_ms» = now;
-      motion = m;
+      motion = motion;
       follow = h .follow;
       course = h .course;
       «auto_follow» = h .«auto_follow»;
@@ -89,6 +89,14 @@ movedTo h x now f p m =
       «updated_ms» = h .«updated_ms»;
       guide = h .guide;
     }
+
+-- at a new fix
+abbrev pub movedTo : Homing → Fix → ℕ → Frame → Point → Motion → Homing
+movedTo h x now f p m = movedAs h f (place.At (x .lat) (x .lon)) (spot.At p) now m
+
+-- where only the motion is another
+abbrev pub movedOn : Homing → Motion → Homing
+movedOn h m = movedAs h (h .frame) (h .fed) (h .here) (h .«here_ms») m
 
 -- what a new fix makes of a state, the clock among it
 abbrev pub arrivedNow : Fix → ℕ → State → State
@@ -175,26 +183,6 @@ module _ (rule : State → State) (h r : Homing) (c : Changes rule h r) (same-fo
 
   pub changed-ready : (room lineRoom : ℕ) → Ready h room lineRoom → Ready r room lineRoom
   changed-ready room lineRoom q = ready-same h r room lineRoom q (c .trail) changed-follow changed-course
-
--- the state with another motion
-abbrev pub movedOn : Homing → Motion → Homing
-movedOn h m =
-    record {
-      trail = h .trail;
-      window = h .window;
-      frame = h .frame;
-      fed = h .fed;
-      here = h .here;
-      «here_ms» = h .«here_ms»;
-      motion = m;
-      follow = h .follow;
-      course = h .course;
-      «auto_follow» = h .«auto_follow»;
-      arrived = h .arrived;
-      lap = h .lap;
-      «updated_ms» = h .«updated_ms»;
-      guide = h .guide;
-    }
 
 module _ (p : Point) (now : ℕ) where
   pub turns : (h : Homing) {m : Motion} → m ≡ trackHeading (h .motion) p now → Changes (headed p now) h (movedOn h m)

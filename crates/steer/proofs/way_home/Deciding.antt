@@ -27,6 +27,7 @@ use Rattle.follow.specs.View.{HomingFit, courseOf, Changes, Follows, Asks}
 use Rattle.guide.specs.declared.Told.{Told}
 use Rattle.update.specs.Update.{update}
 use Rattle.update.specs.View.{Updates}
+use Rattle.update.proofs.Updating.{follows-from}
 use Rattle.calls.specs.Follow.{updateHere, brought, engagedOr, wayHome, follow, setFollowing}
 use Rattle.steer.specs.Decides.{Decides}
 use Rattle.steer.proofs.way_home.Keeping.{idle-keeps, home-keeps}
@@ -60,17 +61,9 @@ pub decides-from : (before : State → State) (rule : ℕ → State → Done Boo
     (exit : List Float) → Changes before h g
     → Decides rule g entry r exit → Decides (λ C s. rule C (before s)) h entry r exit
 decides-from before rule h g entry r exit c d =
-    let C = capacity (length entry) in
     record {
-      answered = d .answered ∙ ap (λ (s : State). rule C s .answer) (c .same entry);
-      follows =
-          record {
-            same = d .follows .same ∙ ap (λ (s : State). rule C s .state) (c .same entry);
-            fit = d .follows .fit;
-            size = d .follows .size;
-            beyond = subst (λ (x : Trail). behind (max (x .len) (r .homing .trail .len)) exit
-                ≡ behind (max (x .len) (r .homing .trail .len)) entry) (c .trail) (d .follows .beyond);
-          };
+      answered = d .answered ∙ ap (λ (s : State). rule (capacity (length entry)) s .answer) (c .same entry);
+      follows = follows-from before rule h g entry (r .homing) exit c (d .follows);
     }
 
 -- what came before asked, and kept no crumb
