@@ -23,6 +23,7 @@ use Rattle.state.specs.declared.Event.the-variants as event
 use Rattle.state.specs.declared.Shown.the-variants as shown
 use Rattle.state.specs.declared.Course.{Course}
 use Rattle.state.specs.State.{State, withTrack, withFrame, withFed, withHere, withHereMs, withMotion, withCourse, withLap, withGuide}
+use Rattle.state.specs.State.{courseWith}
 use Rattle.state.specs.Rule.{Done, done, andThen}
 use Rattle.follow.specs.Record.{addIn}
 use Rattle.follow.specs.Engage.{cutTo, forgotten, engageAt, engage}
@@ -44,17 +45,7 @@ isAt (spot.At p) = true
 isAt spot.Nowhere = false
 
 unfoldable pub unfixed : Course → Course
-unfixed c =
-    record {
-      «line_len» = c .«line_len»;
-      unplaced = c .unplaced;
-      held = c .held;
-      «join_fixes» = c .«join_fixes»;
-      «join_end» = c .«join_end»;
-      along = c .along;
-      reached = c .reached;
-      fix = spot.Nowhere;
-    }
+unfixed c = courseWith (c .«line_len») (c .unplaced) (c .held) (c .«join_fixes») (c .«join_end») (c .along) (c .reached) spot.Nowhere
 
 unfoldable pub cleared : State → State
 cleared s = withGuide shown.Nothing (withCourse (unfixed (s .course)) (withFed place.Missing (withHere spot.Nowhere s)))

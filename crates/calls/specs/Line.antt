@@ -4,13 +4,15 @@ use mathlib.Core.Bool.{Bool, true, false, _||_}
 use mathlib.Core.List.{List}
 use lib.Dec.{leb}
 use lib.ListN.{length}
+use lib.Ieee.{Float}
 use Rattle.binary32.specs.Limits.{plusZero}
 use Rattle.plane.specs.declared.Spot.the-variants.{Nowhere}
 use Rattle.plane.specs.declared.Heading.the-variants.{Unknown}
 use Rattle.plane.specs.Fix.{mPerE7}
+use Rattle.motion.specs.declared.Motion.{Motion}
 use Rattle.lap.specs.declared.Stage.the-variants.{Spent}
 use Rattle.lap.specs.declared.Lap.{Lap}
-use Rattle.trail.specs.Trail.{fresh}
+use Rattle.trail.specs.Trail.{Track, fresh}
 use Rattle.trail.specs.Trail as trail
 use Rattle.state.specs.declared.Place.the-variants.{Missing}
 use Rattle.state.specs.declared.Line.{Line}
@@ -18,7 +20,7 @@ use Rattle.state.specs.declared.Line.the-variants as line
 use Rattle.state.specs.declared.Shown.the-variants as shown
 use Rattle.state.specs.declared.Follow.{Follow}
 use Rattle.state.specs.declared.Course.{Course}
-use Rattle.state.specs.State.{State, withCourse}
+use Rattle.state.specs.State.{State, withCourse, courseWith}
 use Rattle.state.specs.Rule.{Done, done}
 use Rattle.follow.specs.Engage.{stopCourse}
 use Rattle.course.specs.Fix.{Fix}
@@ -29,48 +31,37 @@ use Rattle.calls.specs.Fix.{unheaded}
 unfoldable pub noLap : Lap
 noLap = record { pass = record { stage = Spent }; start = Nowhere; passed = false }
 
--- `new`: nothing is recorded, followed or known; a course may be followed by itself
-unfoldable pub new : State
-new =
+-- a ride that begins: nothing is followed or known, and what is given here stays from before
+abbrev pub newRide : Track → Float → ℕ → Motion → Follow → Course → Bool → ℕ → State
+newRide track east hereMs motion follow course autoFollow updatedMs =
     record {
-      track = fresh;
-      frame = record { origin = Missing; «east_per_e7» = mPerE7 };
+      track = track;
+      frame = record { origin = Missing; «east_per_e7» = east };
       fed = Missing;
       here = Nowhere;
-      hereMs = 0;
-      motion = record { from = Nowhere; heading = Unknown; «heading_ms» = 0 };
-      follow = record { line = line.Nothing; segment = 0; matched = Nowhere; off = false; «reminded_ms» = 0 };
-      course =
-          record {
-            «line_len» = 0;
-            unplaced = false;
-            held = false;
-            «join_fixes» = 0;
-            «join_end» = 0;
-            along = plusZero;
-            reached = plusZero;
-            fix = Nowhere;
-          };
-      autoFollow = true;
+      hereMs = hereMs;
+      motion = motion;
+      follow = follow;
+      course = course;
+      autoFollow = autoFollow;
       arrived = false;
       lap = noLap;
-      updatedMs = 0;
+      updatedMs = updatedMs;
       guide = shown.Nothing;
     }
 
+abbrev pub unfollowed : ℕ → Follow
+unfollowed reminded = record { line = line.Nothing; segment = 0; matched = Nowhere; off = false; «reminded_ms» = reminded }
+
+-- `new`: nothing is recorded, and a course may be followed by itself
+unfoldable pub new : State
+new =
+    newRide fresh mPerE7 0 (record { from = Nowhere; heading = Unknown; «heading_ms» = 0 }) (unfollowed 0)
+    (courseWith 0 false false 0 0 plusZero plusZero Nowhere) true 0
+
 -- a course of n points that waits for the ride's first fix or not, joined by no fix yet
 unfoldable pub lined : ℕ → Bool → Bool → Course → Course
-lined n unplaced held c =
-    record {
-      «line_len» = n;
-      unplaced = unplaced;
-      held = held;
-      «join_fixes» = 0;
-      «join_end» = c .«join_end»;
-      along = c .along;
-      reached = c .reached;
-      fix = c .fix;
-    }
+lined n unplaced held c = courseWith n unplaced held 0 (c .«join_end») (c .along) (c .reached) (c .fix)
 
 -- "A loaded course stays, to be placed again": its line is emptied
 unfoldable pub awaiting : Course → Course
@@ -80,26 +71,10 @@ awaiting c = lined 0 (c .unplaced || leb 2 (c .«line_len»)) false c
 -- and whether following may begin by itself stay, as in the Rust.
 unfoldable pub reset : State → Done (Unit {0})
 reset s =
-    record {
-      answer = tt;
-      state =
-          record {
-            track = trail.resetTrack (s .track) .track;
-            frame = record { origin = Missing; «east_per_e7» = s .frame .«east_per_e7» };
-            fed = Missing;
-            here = Nowhere;
-            hereMs = s .hereMs;
-            motion = unheaded (s .motion);
-            follow = record { line = line.Nothing; segment = 0; matched = Nowhere; off = false; «reminded_ms» = s .follow .«reminded_ms» };
-            course = awaiting (s .course);
-            autoFollow = s .autoFollow;
-            arrived = false;
-            lap = noLap;
-            updatedMs = s .updatedMs;
-            guide = shown.Nothing;
-          };
-      notes = trail.resetTrack (s .track) .notes;
-    }
+    let d = trail.resetTrack (s .track) in
+    let after = newRide (d .track) (s .frame .«east_per_e7») (s .hereMs) (unheaded (s .motion)) (unfollowed (s .follow .«reminded_ms»))
+    (awaiting (s .course)) (s .autoFollow) (s .updatedMs) in
+    record { answer = tt; state = after; notes = d .notes }
 
 -- a following of the course ends; one of the breadcrumb goes on
 unfoldable pub offCourse : Line → State → State

@@ -17,6 +17,7 @@ use Rattle.state.specs.declared.Line.{Line}
 use Rattle.state.specs.declared.Line.the-variants as line
 use Rattle.state.specs.declared.Follow.{Follow}
 use Rattle.state.specs.declared.Course.{Course}
+use Rattle.state.specs.State.{courseWith}
 
 -- a following of the breadcrumb is over, without a cut; one of the course goes on
 unfoldable pub endedByThinning : Line → Follow → Follow
@@ -32,17 +33,7 @@ stopped matched f =
 
 -- a course that is stopped is held off for the rest of the ride
 unfoldable pub heldOff : Course → Course
-heldOff c =
-    record {
-      «line_len» = c .«line_len»;
-      unplaced = c .unplaced;
-      held = true;
-      «join_fixes» = c .«join_fixes»;
-      «join_end» = c .«join_end»;
-      along = c .along;
-      reached = c .reached;
-      fix = c .fix;
-    }
+heldOff c = courseWith (c .«line_len») (c .unplaced) true (c .«join_fixes») (c .«join_end») (c .along) (c .reached) (c .fix)
 
 -- metres to the course's end at its place `end`, 0 where the course has none
 unfoldable pub alongAt : List Crumb → ℕ → Float
@@ -51,16 +42,8 @@ alongAt course end = cond (ltb end (length course)) (at course end .along) plusZ
 -- the course as it is when a following begins at segment `end`, whichever line that is on
 unfoldable pub courseFrom : List Crumb → ℕ → Course → Course
 courseFrom course end c =
-    record {
-      «line_len» = c .«line_len»;
-      unplaced = c .unplaced;
-      held = c .held;
-      «join_fixes» = 0;
-      «join_end» = c .«join_end»;
-      along = alongAt course end;
-      reached = alongAt course end;
-      fix = Nowhere;
-    }
+    let along = alongAt course end in
+    courseWith (c .«line_len») (c .unplaced) (c .held) 0 (c .«join_end») along along Nowhere
 
 -- whether the breadcrumb leads anywhere: two crumbs, and 5 m
 unfoldable pub leads : List Crumb → Bool

@@ -13,7 +13,7 @@ use Rattle.search.specs.declared.Join.the-variants.{Segment, NoSegment}
 use Rattle.search.specs.Course.{joined}
 use Rattle.trail.specs.Trail.{retraceFixes, Track}
 use Rattle.state.specs.declared.Course.{Course}
-use Rattle.state.specs.State.{State, withTrack, withCourse}
+use Rattle.state.specs.State.{State, withTrack, withCourse, courseWith}
 use Rattle.state.specs.Rule.{Done, done}
 use Rattle.joining.specs.Retrace.{lenBefore, ridesBack}
 
@@ -23,17 +23,7 @@ abbrev pub joinFixes : ℕ
 joinFixes = 5
 
 unfoldable pub joinedTo : ℕ → ℕ → Course → Course
-joinedTo fixes end c =
-    record {
-      «line_len» = c .«line_len»;
-      unplaced = c .unplaced;
-      held = c .held;
-      «join_fixes» = fixes;
-      «join_end» = end;
-      along = c .along;
-      reached = c .reached;
-      fix = c .fix;
-    }
+joinedTo fixes end c = courseWith (c .«line_len») (c .unplaced) (c .held) fixes end (c .along) (c .reached) (c .fix)
 
 -- a fix on the course, or one that is not; the count stops at the largest u8
 unfoldable pub joinOn : Join → State → Done Bool

@@ -10,17 +10,14 @@ use Rattle.lap.specs.declared.Stepped.{Stepped}
 
 -- a pass counts once the rider was this far away, 100 m
 unfoldable pub passArmM : Float
-unfolding constant
 passArmM = constant 100 1
 
 -- then came within this, 40 m
 unfoldable pub passM : Float
-unfolding constant
 passM = constant 40 1
 
 -- and was this far away again, 50 m
 unfoldable pub passEndM : Float
-unfolding constant
 passEndM = constant 50 1
 
 abbrev pub stepped : Stage → Bool → Stepped

@@ -55,9 +55,5 @@ widened course p near s =
 unfoldable pub wayOn : Bool → List Crumb → Nearest → Way
 wayOn true l near = record { mode = mode.OffTrack; track = near .along ⊕ near .off; off = near .off; target = near .point }
 wayOn false l near =
-    record {
-      mode = mode.Track;
-      track = near .along ⊕ near .off;
-      off = near .off;
-      target = atAlong l (near .end) (maxZero (near .along ⊖ lookaheadM));
-    }
+    let target = atAlong l (near .end) (maxZero (near .along ⊖ lookaheadM)) in
+    record { mode = mode.Track; track = near .along ⊕ near .off; off = near .off; target = target }

@@ -17,6 +17,7 @@ use Rattle.state.specs.declared.Event.{Event}
 use Rattle.state.specs.declared.Event.the-variants as event
 use Rattle.state.specs.declared.Follow.{Follow}
 use Rattle.state.specs.declared.Course.{Course}
+use Rattle.state.specs.State.{courseWith}
 use Rattle.matching.specs.Distances.{offM, onM}
 
 -- "A reminder comes after 60,000 ms, only on the breadcrumb."
@@ -64,16 +65,11 @@ isNumber (fin s m e) = true
 unfoldable pub minimum : Float → Float → Float
 minimum a b = cond (isNumber a && isNumber b) (cond (le a b) a b) (cond (isNumber a) a b)
 
--- off the line still: a reminder, if it is due
-unfoldable pub stillOff : Bool → Event
-stillOff true = event.OffTrack
-stillOff false = event.Nothing
-
 -- what leaving the line, coming back to it, or staying off it tells, by whether it was off, is off, and what is followed
 unfoldable pub offEvent : Bool → Bool → Bool → Event
 offEvent false true due = event.OffTrack
 offEvent true false due = event.OnTrack
-offEvent true true due = stillOff due
+offEvent true true due = cond due event.OffTrack event.Nothing
 offEvent false false due = event.Nothing
 
 -- whether a reminder is due
@@ -92,24 +88,10 @@ remindedAt event.CourseEnd now was = was
 
 unfoldable pub followMatched : Nearest → Bool → Event → ℕ → Follow → Follow
 followMatched near off e now f =
-    record {
-      line = f .line;
-      segment = near .end;
-      matched = At (near .point);
-      off = off;
-      «reminded_ms» =
-          remindedAt e now (f .«reminded_ms»);
-    }
+    let reminded = remindedAt e now (f .«reminded_ms») in
+    record { line = f .line; segment = near .end; matched = At (near .point); off = off; «reminded_ms» = reminded }
 
 unfoldable pub courseMatched : Nearest → Point → Course → Course
 courseMatched near p c =
-    record {
-      «line_len» = c .«line_len»;
-      unplaced = c .unplaced;
-      held = c .held;
-      «join_fixes» = c .«join_fixes»;
-      «join_end» = c .«join_end»;
-      along = near .along;
-      reached = minimum (c .reached) (near .along);
-      fix = At p;
-    }
+    courseWith (c .«line_len») (c .unplaced) (c .held) (c .«join_fixes») (c .«join_end») (near .along)
+    (minimum (c .reached) (near .along)) (At p)

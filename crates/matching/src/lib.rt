@@ -13,11 +13,12 @@ use state::Event;
 use state::Follow;
 use state::Line;
 ghost use mathlib.Core.Path.{_≡_};
-ghost use mathlib.Core.Bool.{_||_};
+ghost use mathlib.Core.Bool.{_||_, cond};
 ghost use Prim.Native.Nat.{_+_, _-_, _<_, min, max};
 ghost use lib.Ieee.{lt};
+ghost use Rattle.state.specs.declared.Event.the-variants as event;
 ghost use Rattle.matching.specs.Distances.{offM};
-ghost use Rattle.matching.specs.Match.{onCourse, onLine, searchBack, searchAhead, nearer, offNow, minimum, stillOff, offEvent, due};
+ghost use Rattle.matching.specs.Match.{onCourse, onLine, searchBack, searchAhead, nearer, offNow, minimum, offEvent, due};
 ghost use Rattle.matching.specs.Match.{remindedAt, followMatched, courseMatched};
 
 // Segments behind and ahead of the last match searched first.
@@ -76,7 +77,7 @@ fn smaller(a: f32, b: f32) -> f32
 }
 
 fn still_off(due: bool) -> Event
-    ensures { λ r. ⌜ r ≡ stillOff due ⌝ }
+    ensures { λ r. ⌜ r ≡ cond due event.OffTrack event.Nothing ⌝ }
 {
     if due {
         return Event::OffTrack;

@@ -16,7 +16,6 @@ abbrev pub elapsed : ℕ → ℕ → ℕ
 elapsed now then = now - then
 
 unfoldable pub headingStepM : Float
-unfolding constant
 headingStepM = constant 15 1
 
 abbrev pub headingStaleMs : ℕ
@@ -32,11 +31,8 @@ renewed from p now = record { from = At p; heading = Known (bearing from p); «h
 
 unfoldable pub aged : Motion → Point → ℕ → Motion
 aged m from now =
-    record {
-      from = At from;
-      heading = cond (ltb headingStaleMs (elapsed now (m .«heading_ms»))) Unknown (m .heading);
-      «heading_ms» = m .«heading_ms»;
-    }
+    let stale = ltb headingStaleMs (elapsed now (m .«heading_ms»)) in
+    record { from = At from; heading = cond stale Unknown (m .heading); «heading_ms» = m .«heading_ms» }
 
 -- the motion after a fix at p: the first fix is where the heading is taken from
 unfoldable pub trackHeading : Motion → Point → ℕ → Motion

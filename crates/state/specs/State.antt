@@ -30,25 +30,6 @@ pub record State : Type 0 where
   pub updatedMs : ℕ
   pub guide : Shown
 
--- the program's state and its crumb buffer, as the rules see them
-abbrev pub stateOf : Homing → List Float → State
-stateOf h b =
-    record {
-      track = track (h .trail) (h .window) b;
-      frame = h .frame;
-      fed = h .fed;
-      here = h .here;
-      hereMs = h .«here_ms»;
-      motion = h .motion;
-      follow = h .follow;
-      course = h .course;
-      autoFollow = h .«auto_follow»;
-      arrived = h .arrived;
-      lap = h .lap;
-      updatedMs = h .«updated_ms»;
-      guide = h .guide;
-    }
-
 -- the state of these groups
 abbrev pub stateWith : Track → Frame → Place → Spot → ℕ → Motion → Follow → Course → Bool → Bool → Lap → ℕ → Shown → State
 stateWith track frame fed here hereMs motion follow course autoFollow arrived lap updatedMs guide =
@@ -67,6 +48,12 @@ stateWith track frame fed here hereMs motion follow course autoFollow arrived la
       updatedMs = updatedMs;
       guide = guide;
     }
+
+-- the program's state and its crumb buffer, as the rules see them
+abbrev pub stateOf : Homing → List Float → State
+stateOf h b =
+    stateWith (track (h .trail) (h .window) b) (h .frame) (h .fed) (h .here) (h .«here_ms») (h .motion) (h .follow)
+    (h .course) (h .«auto_follow») (h .arrived) (h .lap) (h .«updated_ms») (h .guide)
 
 -- the state with one of its groups replaced
 abbrev pub withTrack : Track → State → State
@@ -133,3 +120,17 @@ abbrev pub withGuide : Shown → State → State
 withGuide x s =
     stateWith (s .track) (s .frame) (s .fed) (s .here) (s .hereMs) (s .motion) (s .follow)
     (s .course) (s .autoFollow) (s .arrived) (s .lap) (s .updatedMs) x
+
+-- the course group of these fields
+abbrev pub courseWith : ℕ → Bool → Bool → ℕ → ℕ → Float → Float → Spot → Course
+courseWith lineLen unplaced held joinFixes joinEnd along reached fix =
+    record {
+      «line_len» = lineLen;
+      unplaced = unplaced;
+      held = held;
+      «join_fixes» = joinFixes;
+      «join_end» = joinEnd;
+      along = along;
+      reached = reached;
+      fix = fix;
+    }

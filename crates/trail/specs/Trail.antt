@@ -135,7 +135,5 @@ add C p t = addBehind (last (t .crumbs)) C p t
 -- "Reset: the guide is reset": nothing is held, nothing waits, and no turn-round is under way. `retrace_len` stays, as in the Rust.
 unfoldable pub resetTrack : Rule
 resetTrack t =
-    record {
-      track = record { crumbs = []; tolerance = toleranceM; window = []; retrace = 0; retraceLen = t .retraceLen };
-      notes = Reset ∷ [];
-    }
+    let emptied : Track = record { crumbs = []; tolerance = toleranceM; window = []; retrace = 0; retraceLen = t .retraceLen } in
+    record { track = emptied; notes = Reset ∷ [] }

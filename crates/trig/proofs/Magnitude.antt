@@ -15,7 +15,7 @@ use lib.Ieee.Bits.{is-true, ofBits-toBits}
 use lib.Ieee.Exact.{HasValue}
 use lib.Ieee.Nearest.{div-same}
 use lib.Ieee.Scale.{grid, round-under}
-use Rattle.binary32.specs.Arithmetic.{_⊕_, _⊖_, _⊗_}
+use Rattle.binary32.specs.Arithmetic.{_⊕_, _⊖_, _⊗_, constant}
 use Rattle.binary32.specs.Limits.{sizeOf, one, plusZero}
 use Rattle.binary32.proofs.magnitude.Size.{Within}
 use Rattle.binary32.proofs.magnitude.Laws.{passed, within-refl, widen, add-within, sub-within, mul-within}
@@ -102,7 +102,7 @@ abbrev quarter : Float
 quarter = part 13176795 23
 
 near-within : (r : Float) → Within quarter r → Within (part 43 4) (nearCos r)
-unfolding nearCos half cos8 cos6 cos4 add mul
+unfolding nearCos half cos8 cos6 cos4 add mul constant
 near-within r h =
     let f = binary32 in
     let z = r ⊗ r in
@@ -126,7 +126,7 @@ near-within r h =
     add-within f (part 11 4) one (part 43 4) v one tt X (within-refl one tt)
 
 far-within : (b : Float) → Within (part 13 3) b → Within (part 15 3) (farCos b)
-unfolding farCos sin7 sin5 sin3 add mul
+unfolding farCos sin7 sin5 sin3 add mul constant neg
 far-within b h =
     let f = binary32 in
     let z = b ⊗ b in
@@ -151,7 +151,7 @@ either g false x y h k = k tt
 
 -- the cosine of a value up to 13/8 in size, a little past a quarter turn, is at most 43/32 in size
 pub cos-within : (r : Float) → Within (part 13 2) r → Within (part 43 4) (cos r)
-unfolding cos quarterPi halfPi
+unfolding cos quarterPi halfPi constant
 cos-within nan h = absurd h
 cos-within (inf s) h = absurd h
 cos-within (fin s m e) h =

@@ -10,68 +10,53 @@ use Rattle.binary32.specs.Limits.{sizeOf, plusZero, one}
 -- ---- constants
 -- π to 36 digits, its half and its quarter
 unfoldable pub pi : Float
-unfolding constant
 pi = constant 314159265358979323846264338327950288 (10 ^ 35)
 
 unfoldable pub halfPi : Float
-unfolding constant
 halfPi = constant 314159265358979323846264338327950288 (2 * 10 ^ 35)
 
 unfoldable pub quarterPi : Float
-unfolding constant
 quarterPi = constant 314159265358979323846264338327950288 (4 * 10 ^ 35)
 
 -- 0.5
 unfoldable pub half : Float
-unfolding constant
 half = constant 5 10
 
 -- of the cosine near 0, by the power of r: 2.443315711809948e-5, 1.388731625493765e-3, 4.166664568298827e-2
 unfoldable pub cos8 : Float
-unfolding constant
 cos8 = constant 2443315711809948 (10 ^ 20)
 
 unfoldable pub cos6 : Float
-unfolding constant
 cos6 = constant 1388731625493765 (10 ^ 18)
 
 unfoldable pub cos4 : Float
-unfolding constant
 cos4 = constant 4166664568298827 (10 ^ 17)
 
 -- of the cosine far from 0, by the power of b: −1.9515295891e-4, 8.3321608736e-3, 1.6666654611e-1
 unfoldable pub sin7 : Float
-unfolding constant neg
 sin7 = neg (constant 19515295891 (10 ^ 14))
 
 unfoldable pub sin5 : Float
-unfolding constant
 sin5 = constant 83321608736 (10 ^ 13)
 
 unfoldable pub sin3 : Float
-unfolding constant
 sin3 = constant 16666654611 (10 ^ 11)
 
 -- of the angle, by the power of w: 8.05374449538e-2, 1.38776856032e-1, 1.99777106478e-1, 3.33329491539e-1
 unfoldable pub atan9 : Float
-unfolding constant
 atan9 = constant 805374449538 (10 ^ 13)
 
 unfoldable pub atan7 : Float
-unfolding constant
 atan7 = constant 138776856032 (10 ^ 12)
 
 unfoldable pub atan5 : Float
-unfolding constant
 atan5 = constant 199777106478 (10 ^ 12)
 
 unfoldable pub atan3 : Float
-unfolding constant
 atan3 = constant 333329491539 (10 ^ 12)
 
 -- 0.41421356, the tangent of π/8
 unfoldable pub tanEighthPi : Float
-unfolding constant
 tanEighthPi = constant 41421356 (10 ^ 8)
 
 -- ---- the cosine

@@ -1,14 +1,11 @@
 -- `matching::still_off` meets its contract. Assumes nothing.
-use Rattle.matching.specs.Match.{stillOff}
 use Rattle.matching.proofs.still_off.Statement.{statement}
 use Rattle.matching.proofs.still_off.Tie as tie
 
 returns : tie.Need-returns
-unfolding stillOff
 returns c = rw (c .if1 .taken)
 
 returns-2 : tie.Need-returns-2
-unfolding stillOff
 returns-2 c = rw (c .if1 .left)
 
 pub still-off-spec : {M : Type 1} → statement M

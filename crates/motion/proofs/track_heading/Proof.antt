@@ -1,6 +1,7 @@
 -- `motion::track_heading` meets its contract: the test is the rule's. Assumes nothing.
 use borrow.Author.Needs.{needs}
 use lib.Ieee.{ofBits}
+use Rattle.binary32.specs.Arithmetic.{constant}
 use Rattle.motion.specs.Heading.{headingStepM, trackHeading}
 use Rattle.motion.proofs.track_heading.Statement.{statement}
 use Rattle.motion.proofs.track_heading.Tie as tie
@@ -15,7 +16,7 @@ renewed-requires : tie.Need-renewed-requires
 renewed-requires c κs = search needs
 
 returns : tie.Need-returns
-unfolding trackHeading headingStepM ofBits
+unfolding trackHeading headingStepM constant ofBits
 returns c =
     simp (← c .before .before .before .spot-or .ensures, ← c .before .before .distance .ensures, c .before .if1 .taken, c .renewed .ensures)
 
@@ -23,7 +24,7 @@ aged-requires : tie.Need-aged-requires
 aged-requires c κs = search needs
 
 returns-2 : tie.Need-returns-2
-unfolding trackHeading headingStepM ofBits
+unfolding trackHeading headingStepM constant ofBits
 returns-2 c =
     simp (← c .before .before .before .spot-or .ensures, ← c .before .before .distance .ensures, c .before .if1 .left, c .aged .ensures)
 
