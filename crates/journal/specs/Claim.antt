@@ -12,8 +12,9 @@ use Rattle.crumbs.specs.Choice.{Choice, first}
 use Rattle.crumbs.specs.Along.{realong}
 use Rattle.thin.specs.Crumb.{target, thinning}
 use Rattle.trail.specs.Notes.{Note, Kept, Thinned}
+use Rattle.trail.specs.Trail.{toleranceM}
 use Rattle.calls.specs.Calls.{Call}
-use Rattle.journal.specs.Kept.{keptSinceReset, keptIn, toleranceSinceReset}
+use Rattle.journal.specs.Kept.{keptSinceReset, keptIn, toleranceAfter}
 use Rattle.journal.specs.Journal.{journal, heldIn}
 
 -- places chosen from those kept
@@ -53,7 +54,7 @@ pub record Claim (C : ℕ) (notes : List Note) (places : List Point) : Type 0 wh
   pub sets-off : (before after : List Note) (n : ℕ) (l : List Crumb) → notes ≡ before ++ Thinned n l ∷ after → KeepsNext after
   -- each thinning's note is of the passes made, on crumbs chosen from those kept before it
   pub each : (before after : List Note) (n : ℕ) (l : List Crumb) → notes ≡ before ++ Thinned n l ∷ after
-      → NotesThinning C (keptSinceReset before) (toleranceSinceReset before) n l
+      → NotesThinning C (keptSinceReset before) (toleranceAfter toleranceM before) n l
 
 -- every list of calls, refused ones among them, whatever their arguments and lent lines, of every capacity a guide may have
 abbrev pub EveryJournal : Type 0

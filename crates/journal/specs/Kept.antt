@@ -32,6 +32,3 @@ toleranceAfter t [] = t
 toleranceAfter t (Kept p ∷ notes) = toleranceAfter t notes
 toleranceAfter t (Thinned passes left ∷ notes) = toleranceAfter (doubledBy (passes - 1) t) notes
 toleranceAfter t (Reset ∷ notes) = toleranceAfter toleranceM notes
-
-abbrev pub toleranceSinceReset : List Note → Float
-toleranceSinceReset notes = toleranceAfter toleranceM notes

@@ -8,7 +8,7 @@ use Rattle.state.specs.declared.Place.the-variants as place
 use Rattle.log.specs.declared.Utc.the-variants as utc
 use Rattle.log.specs.declared.Sample.{Sample}
 use Rattle.log.specs.Entry.{byteAt, u64At, i32At, countOf, sampleStart, hasPlace, hasUtc, placeAt, utcAt, sampleAt, noSample}
-use Rattle.log.specs.Entry.{sampleIf, sampleOf}
+use Rattle.log.specs.Entry.{sampleOf}
 
 module _ (f : List ℕ) (at : ℕ) {n : ℕ} (flags : n ≡ byteAt f at) where
   pub place-there : {lat lon : ℤ} → n % 2 ≡ 1 → lat ≡ i32At f (at + 4) → lon ≡ i32At f (at + 8)
@@ -30,9 +30,9 @@ module _ (f : List ℕ) (at : ℕ) {n : ℕ} (flags : n ≡ byteAt f at) where
 
 module _ (f : List ℕ) (r k : ℕ) {n : ℕ} (count : n ≡ countOf f r) where
   pub sample-used : {at : ℕ} {x : Sample} → k < n → at ≡ sampleStart r k → x ≡ sampleAt f at → x ≡ sampleOf f r k
-  unfolding sampleOf sampleIf
+  unfolding sampleOf
   sample-used {at} {x} h e i = i ∙ ap (sampleAt f) e ∙ sym (rw (← count, lt-ltb k n h))
 
   pub sample-unused : n ≤ k → noSample ≡ sampleOf f r k
-  unfolding sampleOf sampleIf
+  unfolding sampleOf
   sample-unused h = rw (← count, le-ltb k n h)

@@ -81,12 +81,8 @@ sampleAt f at = record { place = placeAt (hasPlace (byteAt f at)) f at; utc = ut
 unfoldable pub noSample : Sample
 noSample = record { place = place.Missing; utc = utc.Unknown }
 
-unfoldable pub sampleIf : Bool → List ℕ → ℕ → Sample
-sampleIf true f at = sampleAt f at
-sampleIf false f at = noSample
-
 unfoldable pub sampleOf : List ℕ → ℕ → ℕ → Sample
-sampleOf f r k = sampleIf (ltb k (countOf f r)) f (sampleStart r k)
+sampleOf f r k = cond (ltb k (countOf f r)) (sampleAt f (sampleStart r k)) noSample
 
 unfoldable pub samplesOf : List ℕ → ℕ → List Sample
 samplesOf f r = sampleOf f r 0 ∷ sampleOf f r 1 ∷ sampleOf f r 2 ∷ sampleOf f r 3 ∷ []

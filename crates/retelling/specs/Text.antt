@@ -61,17 +61,10 @@ clockWord = 32 ∷ 99 ∷ 108 ∷ 111 ∷ 99 ∷ 107 ∷ 32 ∷ []
 abbrev pub stageWord : List ℕ
 stageWord = 32 ∷ 115 ∷ 116 ∷ 97 ∷ 103 ∷ 101 ∷ 32 ∷ []
 
--- `pending`
-abbrev pub pendingWord : List ℕ
-pendingWord = 112 ∷ 101 ∷ 110 ∷ 100 ∷ 105 ∷ 110 ∷ 103 ∷ []
-
--- `decided`
-abbrev pub decidedWord : List ℕ
-decidedWord = 100 ∷ 101 ∷ 99 ∷ 105 ∷ 100 ∷ 101 ∷ 100 ∷ []
-
+-- `decided`, `pending`
 unfoldable pub stageText : Bool → List ℕ
-stageText true = decidedWord
-stageText false = pendingWord
+stageText true = 100 ∷ 101 ∷ 99 ∷ 105 ∷ 100 ∷ 101 ∷ 100 ∷ []
+stageText false = 112 ∷ 101 ∷ 110 ∷ 100 ∷ 105 ∷ 110 ∷ 103 ∷ []
 
 -- of so many crumbs, with the clock in ms
 unfoldable pub firstLine : ℕ → ℕ → Bool → List ℕ

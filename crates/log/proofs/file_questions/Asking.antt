@@ -19,7 +19,7 @@ use mir.ValLaws.{toZ-ofZ}
 use Rattle.state.specs.declared.Place.{Place}
 use Rattle.state.specs.declared.Place.the-variants as place
 use Rattle.calls.specs.Questions.{asksFix, _orElse_}
-use Rattle.log.specs.Entry.{nextOf, recordCount, recordsFrom, chain, countOf, sampleStart, sampleAt, noSample, sampleIf, sampleOf}
+use Rattle.log.specs.Entry.{nextOf, recordCount, recordsFrom, chain, countOf, sampleStart, sampleAt, noSample, sampleOf}
 use Rattle.log.specs.Entry.{samplesOf, used, kindNumber, entryAt}
 use Rattle.calls.specs.Calls.{asksPlace}
 use Rattle.log.specs.Questions.{question6, question7, question8, asksSamples, asksEntry, asksRecord, asksRecords, asksChain, asksFile}
@@ -138,7 +138,7 @@ place-asked p lat lon is x y e =
 -- ---- the samples that are used
 module _ (f : List ℕ) (r : ℕ) {count : ℕ} (told : count ≡ countOf f r) where
   sample-there : (k : ℕ) → count ≤ 4 → k < count → getD (samplesOf f r) k noSample ≡ sampleAt f (sampleStart r k)
-  unfolding samplesOf sampleOf sampleIf
+  unfolding samplesOf sampleOf
   sample-there zero most h = rw (← told, lt-ltb 0 count h)
   sample-there (suc zero) most h = rw (← told, lt-ltb 1 count h)
   sample-there (suc (suc zero)) most h = rw (← told, lt-ltb 2 count h)

@@ -1,7 +1,7 @@
 -- The proof of `specs/Theorems.antt`. Assumes nothing.
 use Prim.Native.Nat.{ℕ, zero, suc, _+_, _*_, _/_, _%_, _≤_, _<_}
 use mathlib.Core.Path.{_≡_, refl, sym, ap, ap₂, _∙_}
-use mathlib.Core.Bool.{Bool, true, false, not, _&&_, or-true, false≢true, and-eq-true-iff}
+use mathlib.Core.Bool.{Bool, true, false, not, _&&_, cond, or-true, false≢true, and-eq-true-iff}
 use mathlib.Core.List.{List, [], _∷_, map}
 use native.Mathlib.Nat.{add-zero, add-assoc, div-add-mod'}
 use native.Mathlib.Omega.{arith}
@@ -10,7 +10,7 @@ use lib.Dec.{leb, ltb, eqb}
 use lib.ListN.{length}
 use Rattle.calls.specs.Questions.{latitudeFits, longitudeFits, asksFix, _orElse_, unless}
 use Rattle.log.specs.Entry.{byteAt, u32At, u64At, i32At, signed, recordCount, nextOf, rideOf, kindNumber, countOf, sampleStart}
-use Rattle.log.specs.Entry.{kindOf, hasPlace, hasUtc, placeAt, utcAt, sampleAt, sampleIf, sampleOf, samplesOf, entryAt, recovered}
+use Rattle.log.specs.Entry.{kindOf, hasPlace, hasUtc, placeAt, utcAt, sampleAt, noSample, sampleOf, samplesOf, entryAt, recovered}
 use Rattle.log.specs.Entry.{recordsFrom, chain, entries, used}
 use Rattle.calls.specs.Calls.{asksPlace}
 use Rattle.log.specs.Questions.{question6, question7, question8, below, stands, twice, asksSamples, asksEntry, asksRecord}
@@ -131,14 +131,14 @@ module _ (f g : List ℕ) where
     unfolding countOf
     count-same = s .head 9 (omega arith)
 
-    used-same : (k : ℕ) → k < 4 → (b : Bool) → ltb k (countOf f r) ≡ b → sampleIf b f (sampleStart r k) ≡ sampleIf b g (sampleStart r k)
-    unfolding sampleIf
+    used-same : (k : ℕ) → k < 4 → (b : Bool) → ltb k (countOf f r) ≡ b
+        → cond b (sampleAt f (sampleStart r k)) noSample ≡ cond b (sampleAt g (sampleStart r k)) noSample
     used-same k h true t = sample-same (sampleStart r k) (s .samples k h (ltb-true k (countOf f r) t))
     used-same k h false t = refl
 
     of-same : (k : ℕ) → k < 4 → sampleOf f r k ≡ sampleOf g r k
     unfolding sampleOf
-    of-same k h = used-same k h (ltb k (countOf f r)) refl ∙ ap (λ n. sampleIf (ltb k n) g (sampleStart r k)) count-same
+    of-same k h = used-same k h (ltb k (countOf f r)) refl ∙ ap (λ n. cond (ltb k n) (sampleAt g (sampleStart r k)) noSample) count-same
 
     samples-same : samplesOf f r ≡ samplesOf g r
     unfolding samplesOf
@@ -213,6 +213,6 @@ only-read = alike
 -- ---- the worked file
 pub worked : Example
 unfolding example asksFile asksChain question6 question7 question8 below stands twice asksRecords asksRecord asksEntry chain recordsFrom
-    recordCount nextOf rideOf kindNumber countOf kindOf hasPlace hasUtc placeAt utcAt sampleAt sampleIf sampleOf samplesOf entryAt recovered
+    recordCount nextOf rideOf kindNumber countOf kindOf hasPlace hasUtc placeAt utcAt sampleAt sampleOf samplesOf entryAt recovered
     entries u32At u64At i32At byteAt signed asksSamples used asksPlace asksFix latitudeFits longitudeFits
 worked = record { accepted = refl; ride = refl; only = refl }
