@@ -51,14 +51,18 @@ as-u32-requires-2 c κs = search needs
 returns-3 : tie.Need-returns-3
 unfolding saysBack
 returns-3 c =
-    let g = c .before .before .before .before .before .before .before .before .before .before .args in
+    let first = c .before .before .before .before in
+    let tested = first .before in
+    let here = tested .before .before in
+    let start = here .before .before .before in
+    let g = start .args in
     let l = crumbs (g .len) (now (g .crumbs)) in
-    let p = c .before .before .before .before .before .before .before .here .given .0 .0 in
+    let p = here .here .given .0 .0 in
     let direct = c .before .as-u32 .ensures ∙ ap asU32 (c .before .before .before .distance .ensures
-    ∙ ap (λ (q : Point). distance p q) (c .before .before .before .before .start .ensures)) in
+    ∙ ap (λ (q : Point). distance p q) (first .start .ensures)) in
     let track = c .as-u322 .ensures ∙ ap asU32 (c .before .before .recorded-m .ensures) in
-    ap gives (back-held p (g .len) (now (g .crumbs)) (c .before .before .before .before .before .if1 .left) _ _ direct track)
-    ∙ sym (ap (λ (x : Spot). gives (wayBackFrom x l)) (c .before .before .before .before .before .before .before .here .given .1))
+    ap gives (back-held p (g .len) (now (g .crumbs)) (tested .if1 .left) _ _ direct track)
+    ∙ sym (ap (λ (x : Spot). gives (wayBackFrom x l)) (here .here .given .1))
 
 pub way-back-from-spec : {M : Type 1} → statement M
 way-back-from-spec =

@@ -37,10 +37,12 @@ apart-requires c κs = search needs
 returns-3 : tie.Need-returns-3
 unfolding carriesOn
 returns-3 c =
+    let last = c .before .before .before .before .before in
+    let start = last .before .before in
     ap (λ (n : ℕ). leb n continueMs) (c .apart .ensures)
-    ∙ sym (ap (λ (t : Utc). carriesOn t (c .before .before .before .before .before .before .before .args .first))
-    (c .before .before .before .before .before .last .given .1)
-    ∙ ap (λ (t : Utc). carriesOn (utc.At (c .before .before .before .before .before .last .given .0 .0)) t)
+    ∙ sym (ap (λ (t : Utc). carriesOn t (start .args .first))
+    (last .last .given .1)
+    ∙ ap (λ (t : Utc). carriesOn (utc.At (last .last .given .0 .0)) t)
     (c .before .before .first .given .1))
 
 pub carries-on-spec : {M : Type 1} → statement M

@@ -72,7 +72,9 @@ add-i c =
     omega (arith, tested .loop-test .taken, tested .before .before .before .before .before .pre .1)
 
 loop-less : tie.Need-loop-less Inv-loop μ-loop
-loop-less c = omega (arith, c .before .before .before .before .before .before .before .before .before .loop-test .taken)
+loop-less c =
+    let tested = c .before .before .before .before .before .before .before .before .before in
+    omega (arith, tested .loop-test .taken)
 
 loop-again : tie.Need-loop-again Inv-loop μ-loop
 loop-again c =

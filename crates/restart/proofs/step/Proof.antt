@@ -36,11 +36,15 @@ same-length-2 c = search needs
 
 returns-2 : tie.Need-returns-2
 returns-2 c =
-    let g = c .before .before .before .before .before .before .before .before .before .before .before .before .args in
+    let walk-slots = c .before .before .before .before .before in
+    let tested = walk-slots .before .before in
+    let asks-step = tested .before in
+    let start = asks-step .before .before .before .before in
+    let g = start .args in
     step-taken (g .budget) (g .upper) (now (g .file)) (g .r) (g .h) (now (g .crumbs))
-    (c .before .before .before .before .before .before .before .before .asks-step .ensures)
-    (c .before .before .before .before .before .before .before .if1 .left)
-    (c .before .before .before .before .before .walk-slots .ensures) (c .finished .ensures)
+    (asks-step .asks-step .ensures)
+    (tested .if1 .left)
+    (walk-slots .walk-slots .ensures) (c .finished .ensures)
 
 pub step-spec : {M : Type 1} → statement M
 step-spec =

@@ -39,31 +39,42 @@ entry-at-requires c κs = tt
 
 look-requires : tie.Need-look-requires Inv-loop μ-loop
 look-requires c κs =
-    let g = c .before .before .before .before .loop .inv in (
+    let looping = c .before .before .before .before in
+    let start = looping .before .before .before .before .before in
+    let g = looping .loop .inv in (
       g .made .fit,
       going-count g (c .before .before .before .loop-test .taken) (c .before .before .if1 .left) (c .before .entry-at .ensures)
-          (c .before .before .before .before .before .before .before .before .before .pre .1),
+          (start .pre .1),
     )
 
 next-of-requires : tie.Need-next-of-requires Inv-loop μ-loop
 next-of-requires c κs = tt
 
 add-slot : tie.Need-add-slot Inv-loop μ-loop
-add-slot c = omega (arith, c .before .before .before .before .before .before .before .loop-test .taken)
+add-slot c =
+    let tested = c .before .before .before .before .before .before .before in
+    omega (arith, tested .loop-test .taken)
 
 with-slot-requires-2 : tie.Need-with-slot-requires-2 Inv-loop μ-loop
 with-slot-requires-2 c κs = tt
 
 loop-less : tie.Need-loop-less Inv-loop μ-loop
-loop-less c = omega (arith, c .before .before .before .before .before .before .before .before .before .loop-test .taken)
+loop-less c =
+    let tested = c .before .before .before .before .before .before .before .before .before in
+    omega (arith, tested .loop-test .taken)
 
 loop-again : tie.Need-loop-again Inv-loop μ-loop
 loop-again c =
-    going-on (c .before .before .before .before .before .before .before .before .before .before .loop .inv)
-    (c .before .before .before .before .before .before .before .before .before .loop-test .taken)
-    (c .before .before .before .before .before .before .before .before .if1 .left)
-    (c .before .before .before .before .before .before .before .entry-at .ensures)
-    (c .before .before .before .before .before .look .ensures) (c .before .with-slot2 .ensures) (c .before .before .next-of .ensures)
+    let look = c .before .before .before .before .before in
+    let entry-at = look .before .before in
+    let tested = entry-at .before in
+    let going = tested .before in
+    let looping = going .before in
+    going-on (looping .loop .inv)
+    (going .loop-test .taken)
+    (tested .if1 .left)
+    (entry-at .entry-at .ensures)
+    (look .look .ensures) (c .before .with-slot2 .ensures) (c .before .before .next-of .ensures)
 
 same-length-2 : tie.Need-same-length-2 Inv-loop μ-loop
 same-length-2 c = c .before .loop .inv .made .size

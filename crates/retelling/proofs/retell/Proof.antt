@@ -21,7 +21,8 @@ same-length c = search needs
 
 returns : tie.Need-returns
 returns c =
-    retells (c .before .before .before .before .before .before .before .rebuild-chain .ensures) (c .before .before .put-told .ensures)
+    let rebuild-chain = c .before .before .before .before .before .before .before in
+    retells (rebuild-chain .rebuild-chain .ensures) (c .before .before .put-told .ensures)
 
 pub retell-spec : {M : Type 1} → statement M
 retell-spec =

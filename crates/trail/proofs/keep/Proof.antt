@@ -14,19 +14,24 @@ thin-requires c κs = search needs
 
 put-requires : tie.Need-put-requires
 put-requires c κs =
+    let start = c .before .before .before .before .before .before .before .before .before in
     let thinned = c .before .before .before .thin .ensures [] in
-    (thinned .fit, room-behind (c .before .before .before .before .before .before .before .before .before .pre) thinned)
+    (thinned .fit, room-behind (start .pre) thinned)
 
 same-length : tie.Need-same-length
 same-length c = search needs
 
 returns : tie.Need-returns
-returns c = λ w.
-    let at = c .before .before .before .before .before .before .before .before .before .before .before .before in
+returns c =
+    let thin = c .before .before .before .before .before .before in
+    let tested = thin .before .before in
+    let capacity = tested .before .before in
+    let at = capacity .before .before in
+    λ w.
     keeps-full (at .args .t) w _ (at .args .p) (at .pre)
-    (c .before .before .before .before .before .before .before .before .if1 .taken
-    ∙ c .before .before .before .before .before .before .before .before .before .before .capacity .ensures)
-    (c .before .before .before .before .before .before .thin .ensures w) (c .before .before .put .ensures w)
+    (tested .if1 .taken
+    ∙ capacity .capacity .ensures)
+    (thin .thin .ensures w) (c .before .before .put .ensures w)
 
 put-requires-2 : tie.Need-put-requires-2
 put-requires-2 c κs = search needs

@@ -23,7 +23,10 @@ asks-record-requires : tie.Need-asks-record-requires Inv-loop μ-loop
 asks-record-requires c κs = tt
 
 returns-2 : tie.Need-returns-2 Inv-loop μ-loop
-returns-2 c = walking-no (c .before .before .before .before .loop .inv) (c .before .before .before .before .before .before .before .pre)
+returns-2 c =
+    let looping = c .before .before .before .before in
+    let start = looping .before .before .before in
+    walking-no (looping .loop .inv) (start .pre)
     (c .before .before .before .loop-test .taken) (c .before .before .if1 .left) (c .before .asks-record .ensures) (c .if2 .taken)
 
 next-of-requires-2 : tie.Need-next-of-requires-2 Inv-loop μ-loop

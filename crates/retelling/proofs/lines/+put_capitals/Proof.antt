@@ -88,7 +88,8 @@ put-capitals-same-length : (t : ℕ) → put-capitals-lts.Need-same-length (
   put-byte-reads.Learnt,
 ) (put-capitals-at t) put-capitals.Post
 put-capitals-same-length t c =
-    c .before .before .put-byte .ensures .size ∙ c .before .before .before .before .before .before .before .put-capitals .ensures .size
+    let put-capitals = c .before .before .before .before .before .before .before in
+    c .before .before .put-byte .ensures .size ∙ put-capitals .put-capitals .ensures .size
 
 put-capitals-returns-2 : (t : ℕ) → put-capitals-lts.Need-returns-2 (
   put-capitals-below t,
@@ -98,8 +99,11 @@ put-capitals-returns-2 : (t : ℕ) → put-capitals-lts.Need-returns-2 (
   put-byte-reads.Asked,
   put-byte-reads.Learnt,
 ) (put-capitals-at t) put-capitals.Post
-put-capitals-returns-2 t c = writes-capital _ _ (c .before .before .before .before .before .before .before .before .before .if1 .left)
-    (c .before .before .before .capital .ensures) (c .before .before .before .before .before .before .before .put-capitals .ensures)
+put-capitals-returns-2 t c =
+    let put-capitals = c .before .before .before .before .before .before .before in
+    let tested = put-capitals .before .before in
+    writes-capital _ _ (tested .if1 .left)
+    (c .before .before .before .capital .ensures) (put-capitals .put-capitals .ensures)
     (c .before .before .put-byte .ensures)
 
 pub +put-capitals-spec : {M : Type 1} → statement M

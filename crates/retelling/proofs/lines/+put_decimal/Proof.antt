@@ -111,8 +111,11 @@ put-decimal-returns-2 : (t : ℕ) → put-decimal-lts.Need-returns-2 (
   put-decimal-below t,
   put-decimal.Post,
 ) (put-decimal-at t) put-decimal.Post
-put-decimal-returns-2 t c = writes-tenth _ (c .before .before .before .before .before .before .before .before .if1 .left)
-    (c .before .before .before .before .before .before .put-decimal .ensures) (c .before .before .put-byte2 .ensures)
+put-decimal-returns-2 t c =
+    let put-decimal = c .before .before .before .before .before .before in
+    let tested = put-decimal .before .before in
+    writes-tenth _ (tested .if1 .left)
+    (put-decimal .put-decimal .ensures) (c .before .before .put-byte2 .ensures)
 
 pub +put-decimal-spec : {M : Type 1} → statement M
 +put-decimal-spec = close μ-put-decimal λ t. put-decimal-lts.spec (

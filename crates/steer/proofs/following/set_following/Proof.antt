@@ -47,14 +47,17 @@ same-length-2 c = search needs
 
 returns-2 : tie.Need-returns-2
 returns-2 c =
-    let g = c .before .before .before .before .before .before .before .before .before .before .before .args in
-    let t = c .before .before .before .before .before .before .stop-following in
+    let stop-following = c .before .before .before .before .before .before in
+    let tested = stop-following .before .before in
+    let start = tested .before .before .before in
+    let g = start .args in
+    let t = stop-following .stop-following in
     let k = c .before .before .brought in
     let l = courseOf (g .h) (now (g .line)) in
     decides-as (λ C. setFollowing (g .follow) C l (g .now-ms)) (λ C. setFollowing false C l (g .now-ms)) (g .h) (now (g .crumbs))
     (k .result) (k .last .1 .0)
     (ap (λ (b : Bool). setFollowing b (capacity (length (now (g .crumbs)))) l (g .now-ms) (stateOf (g .h) (now (g .crumbs))))
-    (c .before .before .before .before .before .before .before .before .if1 .left))
+    (tested .if1 .left))
     (ends (g .h) (t .result) (k .result) (now (g .crumbs)) (t .last .1 .0) (k .last .1 .0) (now (g .line)) (g .now-ms) (t .ensures)
     (k .ensures))
 
