@@ -21,13 +21,17 @@ point-in-requires-5 c κs = search needs
 
 returns : tie.Need-returns
 unfolding headOf
-returns c = simp (
-  ← c .before .before .before .before .before .before .before .before .point-in .ensures,
-  ← c .before .before .before .before .before .before .point-in2 .ensures,
-  ← c .before .before .before .before .point-in3 .ensures,
-  ← c .before .before .point-in4 .ensures,
-  ← c .point-in5 .ensures,
-)
+returns c =
+    let point-in3 = c .before .before .before .before in
+    let point-in2 = point-in3 .before .before in
+    let point-in = point-in2 .before .before in
+    simp (
+      ← point-in .point-in .ensures,
+      ← point-in2 .point-in2 .ensures,
+      ← point-in3 .point-in3 .ensures,
+      ← c .before .before .point-in4 .ensures,
+      ← c .point-in5 .ensures,
+    )
 
 pub head-of-spec : {M : Type 1} → statement M
 head-of-spec =

@@ -24,36 +24,49 @@ spot-at-requires c κs = (
 )
 
 shared-slice-read-t9 : tie.Need-shared-slice-read-t9
-shared-slice-read-t9 c = omega (arith, c .before .before .before .before .before .before .before .before .pre .0)
+shared-slice-read-t9 c =
+    let start = c .before .before .before .before .before .before .before .before in
+    omega (arith, start .pre .0)
 
 motion-at-requires : tie.Need-motion-at-requires
-motion-at-requires c κs = c .before .before .before .before .before .before .before .before .pre
+motion-at-requires c κs =
+    let start = c .before .before .before .before .before .before .before .before in
+    start .pre
 
 follow-at-requires : tie.Need-follow-at-requires
-follow-at-requires c κs = c .before .before .before .before .before .before .before .before .before .pre
+follow-at-requires c κs =
+    let start = c .before .before .before .before .before .before .before .before .before in
+    start .pre
 
 course-at-requires : tie.Need-course-at-requires
-course-at-requires c κs = c .before .before .before .before .before .before .before .before .before .before .pre
+course-at-requires c κs =
+    let start = c .before .before .before .before .before .before .before .before .before .before in
+    start .pre
 
 flag-at-requires : tie.Need-flag-at-requires
-flag-at-requires c κs = omega (arith, c .before .before .before .before .before .before .before .before .before .before .before .pre .0)
+flag-at-requires c κs =
+    let start = c .before .before .before .before .before .before .before .before .before .before .before in
+    omega (arith, start .pre .0)
 
 flag-at-requires-2 : tie.Need-flag-at-requires-2
 flag-at-requires-2 c κs =
-    omega (arith, c .before .before .before .before .before .before .before .before .before .before .before .before .pre .0)
+    let start = c .before .before .before .before .before .before .before .before .before .before .before .before in
+    omega (arith, start .pre .0)
 
 lap-at-requires : tie.Need-lap-at-requires
-lap-at-requires c κs = c .before .before .before .before .before .before .before .before .before .before .before .before .before .pre
+lap-at-requires c κs =
+    let start = c .before .before .before .before .before .before .before .before .before .before .before .before .before in
+    start .pre
 
 shared-slice-read-t17 : tie.Need-shared-slice-read-t17
-shared-slice-read-t17 c = omega (
-  arith,
-  c .before .before .before .before .before .before .before .before .before .before .before .before .before .before .before .pre .0,
-)
+shared-slice-read-t17 c =
+    let start = c .before .before .before .before .before .before .before .before .before .before .before .before .before .before .before in
+    omega (arith, start .pre .0)
 
 shown-at-requires : tie.Need-shown-at-requires
 shown-at-requires c κs =
-    c .before .before .before .before .before .before .before .before .before .before .before .before .before .before .before .pre .0
+    let start = c .before .before .before .before .before .before .before .before .before .before .before .before .before .before .before in
+    start .pre .0
 
 returns : tie.Need-returns
 unfolding homingAt

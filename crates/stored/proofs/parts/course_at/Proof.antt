@@ -30,14 +30,19 @@ spot-at-requires c κs = search needs
 
 returns : tie.Need-returns
 unfolding courseAt
-returns c = simp (
-  ← c .before .before .before .before .before .before .before .usize-at .ensures,
-  ← c .before .before .before .before .before .before .flag-at .ensures,
-  ← c .before .before .before .before .before .flag-at2 .ensures,
-  ← c .before .before .before .before .u8-at .ensures,
-  ← c .before .before .before .usize-at2 .ensures,
-  ← c .spot-at .ensures,
-)
+returns c =
+    let u8-at = c .before .before .before .before in
+    let flag-at2 = u8-at .before in
+    let flag-at = flag-at2 .before in
+    let usize-at = flag-at .before in
+    simp (
+      ← usize-at .usize-at .ensures,
+      ← flag-at .flag-at .ensures,
+      ← flag-at2 .flag-at2 .ensures,
+      ← u8-at .u8-at .ensures,
+      ← c .before .before .before .usize-at2 .ensures,
+      ← c .spot-at .ensures,
+    )
 
 pub course-at-spec : {M : Type 1} → statement M
 course-at-spec =

@@ -36,17 +36,23 @@ heading-at-requires c κs = search needs
 
 returns : tie.Need-returns
 unfolding guideRead
-returns c = simp (
-  ← c .before .before .before .before .before .before .before .before .mode-of .ensures,
-  ← c .before .before .before .before .before .before .before .flag-at .ensures,
-  ← c .before .before .before .before .before .before .flag-at2 .ensures,
-  ← c .before .before .before .before .before .flag-at3 .ensures,
-  ← c .before .before .before .before .u32-at .ensures,
-  ← c .before .before .before .u32-at2 .ensures,
-  ← c .before .before .u32-at3 .ensures,
-  ← c .before .u16-at .ensures,
-  ← c .heading-at .ensures,
-)
+returns c =
+    let u32-at = c .before .before .before .before in
+    let flag-at3 = u32-at .before in
+    let flag-at2 = flag-at3 .before in
+    let flag-at = flag-at2 .before in
+    let mode-of = flag-at .before in
+    simp (
+      ← mode-of .mode-of .ensures,
+      ← flag-at .flag-at .ensures,
+      ← flag-at2 .flag-at2 .ensures,
+      ← flag-at3 .flag-at3 .ensures,
+      ← u32-at .u32-at .ensures,
+      ← c .before .before .before .u32-at2 .ensures,
+      ← c .before .before .u32-at3 .ensures,
+      ← c .before .u16-at .ensures,
+      ← c .heading-at .ensures,
+    )
 
 pub guide-at-spec : {M : Type 1} → statement M
 guide-at-spec =

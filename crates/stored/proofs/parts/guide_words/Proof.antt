@@ -42,25 +42,44 @@ array-read-t16 c = search needs
 array-read-t19 : tie.Need-array-read-t19
 array-read-t19 c = search needs
 
+-- each number that the guide holds fits its type
+direct-fits : (c : tie.Start) → c .args .g .«direct_m» ≤ 4294967295
+direct-fits c = omega arith
+
+track-fits : (c : tie.Start) → c .args .g .«track_m» ≤ 4294967295
+track-fits c = omega arith
+
+off-fits : (c : tie.Start) → c .args .g .«off_m» ≤ 4294967295
+off-fits c = omega arith
+
+bearing-fits : (c : tie.Start) → c .args .g .bearing ≤ 65535
+bearing-fits c = omega arith
+
 returns : tie.Need-returns
-returns c = let direct : c .before .before .before .before .before .before .before .before .before .args .g .«direct_m» ≤ 4294967295 =
-    omega arith in
-    let track : c .before .before .before .before .before .before .before .before .before .args .g .«track_m» ≤ 4294967295 = omega arith in
-    let off : c .before .before .before .before .before .before .before .before .before .args .g .«off_m» ≤ 4294967295 = omega arith in
-    let bearing : c .before .before .before .before .before .before .before .before .before .args .g .bearing ≤ 65535 = omega arith in (
-      cons (c .before .before .before .before .before .before .before .mode-tag .ensures) (cons
-          (c .before .before .before .before .before .before .flag .ensures)
-          (cons (c .before .before .before .before .before .flag2 .ensures)
-          (cons (c .before .before .before .before .flag3 .ensures) (cons refl (cons refl (cons refl (cons refl
-          (cons (ap (λ l. getD l 0 0) (c .before .before .before .before .before .before .before .before .heading-words .ensures .0)) (cons
-          (ap (λ l. getD l 1 0) (c .before .before .before .before .before .before .before .before .heading-words .ensures .0))
+returns c =
+    let flag3 = c .before .before .before .before in
+    let flag2 = flag3 .before in
+    let flag = flag2 .before in
+    let mode-tag = flag .before in
+    let heading-words = mode-tag .before in
+    let start = heading-words .before in
+    let direct = direct-fits start in
+    let track = track-fits start in
+    let off = off-fits start in
+    let bearing = bearing-fits start in (
+      cons (mode-tag .mode-tag .ensures) (cons
+          (flag .flag .ensures)
+          (cons (flag2 .flag2 .ensures)
+          (cons (flag3 .flag3 .ensures) (cons refl (cons refl (cons refl (cons refl
+          (cons (ap (λ l. getD l 0 0) (heading-words .heading-words .ensures .0)) (cons
+          (ap (λ l. getD l 1 0) (heading-words .heading-words .ensures .0))
           refl))))))))),
-      (and-in (mode-most (c .before .before .before .before .before .before .before .before .before .args .g .mode))
-          (and-in (flag-most (c .before .before .before .before .before .before .before .before .before .args .g .following))
-          (and-in (flag-most (c .before .before .before .before .before .before .before .before .before .args .g .course))
-          (and-in (flag-most (c .before .before .before .before .before .before .before .before .before .args .g .«course_near»))
+      (and-in (mode-most (start .args .g .mode))
+          (and-in (flag-most (start .args .g .following))
+          (and-in (flag-most (start .args .g .course))
+          (and-in (flag-most (start .args .g .«course_near»))
           (and-in direct (and-in track (and-in off (and-in bearing
-          (record { ok = c .before .before .before .before .before .before .before .before .heading-words .ensures .1 }))))))))) .ok,
+          (record { ok = heading-words .heading-words .ensures .1 }))))))))) .ok,
     )
 
 pub guide-words-spec : {M : Type 1} → statement M

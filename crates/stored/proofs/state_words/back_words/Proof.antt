@@ -94,42 +94,46 @@ array-read-t71 c = search needs
 returns : tie.Need-returns
 unfolding wordsOf
 returns c =
-    let updated : c .before .before .before .before .before .before .before .before .before .args .h .«updated_ms» ≤ 18446744073709551615 =
+    let guide-in = c .before .before .before .before in
+    let lap-words = guide-in .before in
+    let course-words = lap-words .before .before in
+    let start = course-words .before .before in
+    let updated : start .args .h .«updated_ms» ≤ 18446744073709551615 =
     omega (
       arith,
-      c .before .before .before .before .before .before .before .before .before .good .0 .1 .1 .1 .1 .1 .1 .1 .1 .1 .1 .1 .1 .1 .1 .0 .1,
+      start .good .0 .1 .1 .1 .1 .1 .1 .1 .1 .1 .1 .1 .1 .1 .1 .0 .1,
     ) in (
-      cons (ap (λ l. getD l 0 0) (c .before .before .before .before .before .before .before .course-words .ensures .0))
-          (cons (ap (λ l. getD l 1 0) (c .before .before .before .before .before .before .before .course-words .ensures .0))
-          (cons (ap (λ l. getD l 2 0) (c .before .before .before .before .before .before .before .course-words .ensures .0))
-          (cons (ap (λ l. getD l 3 0) (c .before .before .before .before .before .before .before .course-words .ensures .0)) (cons
-          (ap (λ l. getD l 4 0) (c .before .before .before .before .before .before .before .course-words .ensures .0))
+      cons (ap (λ l. getD l 0 0) (course-words .course-words .ensures .0))
+          (cons (ap (λ l. getD l 1 0) (course-words .course-words .ensures .0))
+          (cons (ap (λ l. getD l 2 0) (course-words .course-words .ensures .0))
+          (cons (ap (λ l. getD l 3 0) (course-words .course-words .ensures .0)) (cons
+          (ap (λ l. getD l 4 0) (course-words .course-words .ensures .0))
           (cons (ap (λ l. getD l 5 0)
-          (c .before .before .before .before .before .before .before .course-words .ensures .0)) (cons (c .before .before .flag .ensures)
-          (cons (c .before .flag2 .ensures) (cons (ap (λ l. getD l 0 0) (c .before .before .before .before .before .lap-words .ensures .0))
-          (cons (ap (λ l. getD l 1 0) (c .before .before .before .before .before .lap-words .ensures .0))
-          (cons (ap (λ l. getD l 2 0) (c .before .before .before .before .before .lap-words .ensures .0))
+          (course-words .course-words .ensures .0)) (cons (c .before .before .flag .ensures)
+          (cons (c .before .flag2 .ensures) (cons (ap (λ l. getD l 0 0) (lap-words .lap-words .ensures .0))
+          (cons (ap (λ l. getD l 1 0) (lap-words .lap-words .ensures .0))
+          (cons (ap (λ l. getD l 2 0) (lap-words .lap-words .ensures .0))
           (cons refl (cons (c .shown-flag .ensures) (cons (ap (λ l. getD l 0 0) (c .before .before .before .guide-words .ensures .0
-          ∙ ap guideWords (c .before .before .before .before .guide-in .ensures))) (cons (ap (λ l. getD l 1 0)
-          (c .before .before .before .guide-words .ensures .0 ∙ ap guideWords (c .before .before .before .before .guide-in .ensures)))
+          ∙ ap guideWords (guide-in .guide-in .ensures))) (cons (ap (λ l. getD l 1 0)
+          (c .before .before .before .guide-words .ensures .0 ∙ ap guideWords (guide-in .guide-in .ensures)))
           (cons (ap (λ l. getD l 2 0) (c .before .before .before .guide-words .ensures .0 ∙ ap guideWords
-          (c .before .before .before .before .guide-in .ensures)))
+          (guide-in .guide-in .ensures)))
           (cons (ap (λ l. getD l 3 0) (c .before .before .before .guide-words .ensures .0
-          ∙ ap guideWords (c .before .before .before .before .guide-in .ensures))) (cons (ap (λ l. getD l 4 0)
-          (c .before .before .before .guide-words .ensures .0 ∙ ap guideWords (c .before .before .before .before .guide-in .ensures)))
+          ∙ ap guideWords (guide-in .guide-in .ensures))) (cons (ap (λ l. getD l 4 0)
+          (c .before .before .before .guide-words .ensures .0 ∙ ap guideWords (guide-in .guide-in .ensures)))
           (cons (ap (λ l. getD l 5 0) (c .before .before .before .guide-words .ensures .0 ∙ ap guideWords
-          (c .before .before .before .before .guide-in .ensures)))
+          (guide-in .guide-in .ensures)))
           (cons (ap (λ l. getD l 6 0) (c .before .before .before .guide-words .ensures .0
-          ∙ ap guideWords (c .before .before .before .before .guide-in .ensures))) (cons (ap (λ l. getD l 7 0)
-          (c .before .before .before .guide-words .ensures .0 ∙ ap guideWords (c .before .before .before .before .guide-in .ensures)))
+          ∙ ap guideWords (guide-in .guide-in .ensures))) (cons (ap (λ l. getD l 7 0)
+          (c .before .before .before .guide-words .ensures .0 ∙ ap guideWords (guide-in .guide-in .ensures)))
           (cons (ap (λ l. getD l 8 0) (c .before .before .before .guide-words .ensures .0 ∙ ap guideWords
-          (c .before .before .before .before .guide-in .ensures)))
+          (guide-in .guide-in .ensures)))
           (cons (ap (λ l. getD l 9 0) (c .before .before .before .guide-words .ensures .0
-          ∙ ap guideWords (c .before .before .before .before .guide-in .ensures))) refl)))))))))))))))))))))),
-      back-fits (c .before .before .before .before .before .before .before .before .before .args .h)
-          (c .before .before .before .before .before .before .before .course-words .ensures .1)
-          (c .before .before .before .before .before .lap-words .ensures .1) updated (subst (λ g. within guideMosts (guideWords g) ≡ true)
-          (c .before .before .before .before .guide-in .ensures) (c .before .before .before .guide-words .ensures .1)),
+          ∙ ap guideWords (guide-in .guide-in .ensures))) refl)))))))))))))))))))))),
+      back-fits (start .args .h)
+          (course-words .course-words .ensures .1)
+          (lap-words .lap-words .ensures .1) updated (subst (λ g. within guideMosts (guideWords g) ≡ true)
+          (guide-in .guide-in .ensures) (c .before .before .before .guide-words .ensures .1)),
     )
 
 pub back-words-spec : {M : Type 1} → statement M

@@ -13,6 +13,22 @@ use Rattle.stored.proofs.state_words.front_words.Tie as tie
 window-long : (c : tie.Start) → length (c .args .h .window) ≡ 96
 window-long c = search needs
 
+-- each number that the state holds fits its type
+len-fits : (c : tie.Start) → c .args .h .trail .len ≤ 18446744073709551615
+len-fits c = omega arith
+
+waiting-fits : (c : tie.Start) → c .args .h .trail .«window_len» ≤ 18446744073709551615
+waiting-fits c = omega arith
+
+retrace-fits : (c : tie.Start) → c .args .h .trail .retrace ≤ 255
+retrace-fits c = omega arith
+
+before-fits : (c : tie.Start) → c .args .h .trail .«retrace_len» ≤ 18446744073709551615
+before-fits c = omega arith
+
+ms-fits : (c : tie.Start) → c .args .h .«here_ms» ≤ 18446744073709551615
+ms-fits c = omega (arith, c .good .0 .1 .1 .1 .1 .1 .1 .1 .0 .1)
+
 place-words-requires : tie.Need-place-words-requires
 place-words-requires c κs = search needs
 
@@ -78,41 +94,35 @@ array-read-t65 c = search needs
 
 returns : tie.Need-returns
 unfolding wordsOf
-returns c = let len : c .before .before .before .before .before .before .before .before .before .before .args .h .trail .len
-    ≤ 18446744073709551615 = omega arith in
-    let waiting : c .before .before .before .before .before .before .before .before .before .before .args .h .trail .«window_len»
-    ≤ 18446744073709551615 = omega arith in
-    let retrace : c .before .before .before .before .before .before .before .before .before .before .args .h .trail .retrace ≤ 255 =
-    omega arith in
-    let before : c .before .before .before .before .before .before .before .before .before .before .args .h .trail .«retrace_len»
-    ≤ 18446744073709551615 = omega arith in
-    let ms : c .before .before .before .before .before .before .before .before .before .before .args .h .«here_ms» ≤ 18446744073709551615 =
-    omega
-    (arith, c .before .before .before .before .before .before .before .before .before .before .good .0 .1 .1 .1 .1 .1 .1 .1 .0 .1) in (
+returns c =
+    let motion-words = c .before .before .before .before in
+    let place-words2 = motion-words .before .before in
+    let place-words = place-words2 .before in
+    let start = place-words .before .before .before in (
       cons refl (cons refl (cons refl
           (cons refl
-          (cons refl (cons (ap (λ l. getD l 0 0) (c .before .before .before .before .before .before .before .place-words .ensures .0))
-          (cons (ap (λ l. getD l 1 0) (c .before .before .before .before .before .before .before .place-words .ensures .0))
-          (cons (ap (λ l. getD l 2 0) (c .before .before .before .before .before .before .before .place-words .ensures .0))
-          (cons (ap (λ l. getD l 0 0) (c .before .before .before .before .before .before .place-words2 .ensures .0))
-          (cons (ap (λ l. getD l 1 0) (c .before .before .before .before .before .before .place-words2 .ensures .0))
-          (cons (ap (λ l. getD l 2 0) (c .before .before .before .before .before .before .place-words2 .ensures .0))
+          (cons refl (cons (ap (λ l. getD l 0 0) (place-words .place-words .ensures .0))
+          (cons (ap (λ l. getD l 1 0) (place-words .place-words .ensures .0))
+          (cons (ap (λ l. getD l 2 0) (place-words .place-words .ensures .0))
+          (cons (ap (λ l. getD l 0 0) (place-words2 .place-words2 .ensures .0))
+          (cons (ap (λ l. getD l 1 0) (place-words2 .place-words2 .ensures .0))
+          (cons (ap (λ l. getD l 2 0) (place-words2 .place-words2 .ensures .0))
           (cons (c .spot-flag .ensures)
-          (cons refl (cons (ap (λ l. getD l 0 0) (c .before .before .before .before .motion-words .ensures .0))
-          (cons (ap (λ l. getD l 1 0) (c .before .before .before .before .motion-words .ensures .0))
-          (cons (ap (λ l. getD l 2 0) (c .before .before .before .before .motion-words .ensures .0))
-          (cons (ap (λ l. getD l 3 0) (c .before .before .before .before .motion-words .ensures .0))
+          (cons refl (cons (ap (λ l. getD l 0 0) (motion-words .motion-words .ensures .0))
+          (cons (ap (λ l. getD l 1 0) (motion-words .motion-words .ensures .0))
+          (cons (ap (λ l. getD l 2 0) (motion-words .motion-words .ensures .0))
+          (cons (ap (λ l. getD l 3 0) (motion-words .motion-words .ensures .0))
           (cons (ap (λ l. getD l 0 0) (c .before .before .follow-words .ensures .0))
           (cons (ap (λ l. getD l 1 0) (c .before .before .follow-words .ensures .0)) (cons (ap (λ l. getD l 2 0)
           (c .before .before .follow-words .ensures .0)) (cons (ap (λ l. getD l 3 0) (c .before .before .follow-words .ensures .0))
           (cons (ap (λ l. getD l 4 0) (c .before .before .follow-words .ensures .0)) refl))))))))))))))))))))),
-      front-fits (c .before .before .before .before .before .before .before .before .before .before .args .h) len waiting retrace before
-          (c .before .before .before .before .before .before .before .place-words .ensures .1)
-          (c .before .before .before .before .before .before .place-words2 .ensures .1) ms
-          (c .before .before .before .before .motion-words .ensures .1) (c .before .before .follow-words .ensures .1),
-      c .before .before .before .before .before .before .before .place-words .ensures .2,
-      c .before .before .before .before .before .before .place-words2 .ensures .2,
-      window-long (c .before .before .before .before .before .before .before .before .before .before),
+      front-fits (start .args .h) (len-fits start) (waiting-fits start) (retrace-fits start) (before-fits start)
+          (place-words .place-words .ensures .1)
+          (place-words2 .place-words2 .ensures .1) (ms-fits start)
+          (motion-words .motion-words .ensures .1) (c .before .before .follow-words .ensures .1),
+      place-words .place-words .ensures .2,
+      place-words2 .place-words2 .ensures .2,
+      window-long start,
     )
 
 pub front-words-spec : {M : Type 1} → statement M

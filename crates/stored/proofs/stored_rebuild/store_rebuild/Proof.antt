@@ -18,9 +18,11 @@ same-length c = search needs
 
 returns : tie.Need-returns
 returns c =
-    stores-rebuild (c .before .before .before .before .before .rebuild-words .ensures .1)
-    (rebuild-front (c .before .before .before .before .before .before .before .args .r) _ _
-    (c .before .before .before .before .before .rebuild-words .ensures .0) (c .before .before .put-words .ensures))
+    let rebuild-words = c .before .before .before .before .before in
+    let start = rebuild-words .before .before in
+    stores-rebuild (rebuild-words .rebuild-words .ensures .1)
+    (rebuild-front (start .args .r) _ _
+    (rebuild-words .rebuild-words .ensures .0) (c .before .before .put-words .ensures))
 
 pub store-rebuild-spec : {M : Type 1} → statement M
 store-rebuild-spec =
