@@ -49,69 +49,48 @@ abbrev pub flagged : Bool → ℕ → ℕ
 flagged b was = flagOf b
 
 -- a point that may be missing: matched, 1 where there is one, and its metres
-pub record SpotValues : Type 0 where
-  pub matched : ℕ
-  pub east : Float
-  pub north : Float
+pub data SpotValues : Type 0 where
+  spotValues : (matched : ℕ) (east north : Float) → SpotValues
 
 unfoldable pub spotted : Spot → SpotValues → SpotValues
-spotted (spot.At p) was = record { matched = 1; east = p .east; north = p .north }
-spotted spot.Nowhere was = record { matched = 0; east = was .east; north = was .north }
+spotted (spot.At p) (spotValues matched east north) = spotValues 1 (p .east) (p .north)
+spotted spot.Nowhere (spotValues matched east north) = spotValues 0 east north
 
 -- `course_ahead`, `route_home`: known, 1 where a line is followed; how many of its points are ahead, and the point behind them
-pub record AheadValues : Type 0 where
-  pub known : ℕ
-  pub count : ℕ
-  pub point : SpotValues
-
-abbrev pub aheadValues : ℕ → ℕ → ℕ → Float → Float → AheadValues
-aheadValues known count matched east north =
-    record { known = known; count = count; point = record { matched = matched; east = east; north = north } }
+pub data AheadValues : Type 0 where
+  aheadValues : (known count : ℕ) → SpotValues → AheadValues
 
 unfoldable pub leading : Option ask.Ahead → AheadValues → AheadValues
-leading (some a) was = record { known = 1; count = a .end; point = spotted (a .point) (was .point) }
-leading none was = record { known = 0; count = was .count; point = was .point }
+leading (some a) (aheadValues known count point) = aheadValues 1 (a .end) (spotted (a .point) point)
+leading none (aheadValues known count point) = aheadValues 0 count point
 
 -- `heading`
-pub record HeadingValues : Type 0 where
-  pub known : ℕ
-  pub heading : ℕ
-
-abbrev pub headingValues : ℕ → ℕ → HeadingValues
-headingValues known heading = record { known = known; heading = heading }
+pub data HeadingValues : Type 0 where
+  headingValues : (known angle : ℕ) → HeadingValues
 
 unfoldable pub riding : Heading → HeadingValues → HeadingValues
-riding (heading.Known x) was = record { known = 1; heading = x }
-riding heading.Unknown was = record { known = 0; heading = was .heading }
+riding (heading.Known x) (headingValues known angle) = headingValues 1 x
+riding heading.Unknown (headingValues known angle) = headingValues 0 angle
 
 -- `guide`: the guide's words come in front, and those behind them stay
-pub record GuideValues : Type 0 where
-  pub shown : ℕ
-  pub guide : List ℕ
-
-abbrev pub guideValues : ℕ → List ℕ → GuideValues
-guideValues shown guide = record { shown = shown; guide = guide }
+pub data GuideValues : Type 0 where
+  guideValues : (known : ℕ) (words : List ℕ) → GuideValues
 
 unfoldable pub showing : Shown → GuideValues → GuideValues
-showing (shown.Guide g) was = record { shown = 1; guide = guideWords g ++ drop guideSize (was .guide) }
-showing shown.Nothing was = record { shown = 0; guide = was .guide }
+showing (shown.Guide g) (guideValues known words) = guideValues 1 (guideWords g ++ drop guideSize words)
+showing shown.Nothing (guideValues known words) = guideValues 0 words
 
 -- a state counts as held only where there is room for the guide's words
 unfoldable pub withRoom : List ℕ → Option Homing → Option Homing
 withRoom guide held = cond (leb guideSize (length guide)) held none
 
 -- `way_back`
-pub record BackValues : Type 0 where
-  pub known : ℕ
-  pub direct : ℕ
-  pub track : ℕ
-
-abbrev pub backValues : ℕ → ℕ → ℕ → BackValues
-backValues known direct track = record { known = known; direct = direct; track = track }
+pub data BackValues : Type 0 where
+  backValues : (known direct track : ℕ) → BackValues
 
 unfoldable pub returning : Option ask.Back → BackValues → BackValues
-returning (some b) was = record { known = 1; direct = b .direct; track = b .track }
-returning none was = record { known = 0; direct = was .direct; track = was .track }
+returning (some b) (backValues known direct track) = backValues 1 (b .direct) (b .track)
+returning none (backValues known direct track) = backValues 0 direct track
 
 -- ---- a part of a lent buffer
 -- `crumbs`, `course`: the call returns `part`, the front part of the buffer b, and `count` is how many crumbs it has. "where a part is

@@ -7,28 +7,14 @@ use Rattle.thin.specs.declared.Thinned.{Thinned}
 use Rattle.thin.specs.declared.Thinned.the-variants.{Left, Refused}
 use Rattle.thin.specs.Promises.{ThinDone}
 
--- an answer of `thin` as four numbers: those that came in, where it was refused
-abbrev pub leftOf : Thinned → ℕ
-leftOf (Left n t k) = n
-leftOf (Refused number) = 0
-
-abbrev pub toleranceOf : Thinned → Float → Float
-toleranceOf (Left n t k) was = t
-toleranceOf (Refused number) was = was
-
-abbrev pub passesOf : Thinned → ℕ → ℕ
-passesOf (Left n t k) was = k
-passesOf (Refused number) was = was
-
-abbrev pub refusalOf : Thinned → ℕ
-refusalOf (Left n t k) = 0
-refusalOf (Refused number) = number
+-- what is written of an answer of `thin`: how many are left, the tolerance, the passes and the refusal's number; where it was refused the
+-- tolerance and the passes are those that came in
+abbrev pub thinWritten : Thinned → Float → ℕ → ℕ × (Float × (ℕ × ℕ))
+thinWritten (Left n t k) tolerance passes = (n, (t, (k, 0)))
+thinWritten (Refused number) tolerance passes = (0, (tolerance, (passes, number)))
 
 pub record ThinsLent (n : ℕ) (entry : List Float) (tolerance : Float) (passes : ℕ) (exit : List Float) (tolerance′ : Float)
     (passes′ refused left : ℕ) : Type 0 where
   pub answer : Thinned
   pub thins : ThinDone n tolerance entry exit answer
-  pub count : left ≡ leftOf answer
-  pub last : tolerance′ ≡ toleranceOf answer tolerance
-  pub made : passes′ ≡ passesOf answer passes
-  pub number : refused ≡ refusalOf answer
+  pub written : (left, (tolerance′, (passes′, refused))) ≡ thinWritten answer tolerance passes

@@ -28,7 +28,7 @@ ghost use Rattle.door.specs.Through.{numberOf, noState, noStateWith, val
 ghost use Rattle.stored.specs.Parts.{guideRead, guideWords};
 ghost use Rattle.door.specs.GuideWords.{guideSize, areGuide, guideOf};
 ghost use Rattle.door.specs.Answers.{Answers, Parts, itself, flagged, spotted, leading, aheadValues, riding, headingValues, showing};
-ghost use Rattle.door.specs.Answers.{guideValues, withRoom, returning, backValues};
+ghost use Rattle.door.specs.Answers.{spotValues, guideValues, withRoom, returning, backValues};
 
 // How many words a guide takes.
 const GUIDE: usize = 10;
@@ -89,8 +89,8 @@ pub extern "C" fn cittumay_following_course(words: &[u64], numbers: &[f32], yes:
 }
 
 fn put_spot(point: Spot, matched: &mut u8, east: &mut f32, north: &mut f32)
-    ensures { λ _. ⌜ record { matched = now (matched .exit); east = now (east .exit); north = now (north .exit) }
-        ≡ spotted point (record { matched = now (matched .entry); east = now (east .entry); north = now (north .entry) }) ⌝ }
+    ensures { λ _. ⌜ spotValues (now (matched .exit)) (now (east .exit)) (now (north .exit))
+        ≡ spotted point (spotValues (now (matched .entry)) (now (east .entry)) (now (north .entry))) ⌝ }
 {
     let Spot::At(p) = point else {
         *matched = 0;
@@ -110,9 +110,11 @@ fn put_ahead(
     north: &mut f32,
 ) -> u8
     ensures { λ r. ⌜ r ≡ numberOf (saysAhead answer) ⌝ }
-    ensures { λ r. ⌜ aheadValues (now (known .exit)) (now (count .exit)) (now (matched .exit)) (now (east .exit)) (now (north .exit))
+    ensures { λ r. ⌜ aheadValues (now (known .exit)) (now (count .exit))
+        (spotValues (now (matched .exit)) (now (east .exit)) (now (north .exit)))
         ≡ valuesOf leading (saysAhead answer)
-        (aheadValues (now (known .entry)) (now (count .entry)) (now (matched .entry)) (now (east .entry)) (now (north .entry))) ⌝ }
+        (aheadValues (now (known .entry)) (now (count .entry))
+        (spotValues (now (matched .entry)) (now (east .entry)) (now (north .entry)))) ⌝ }
 {
     match answer {
         Ahead::Along(n, point) => {
@@ -143,8 +145,8 @@ pub extern "C" fn cittumay_course_ahead(
     north: &mut f32,
 ) -> u8
     ensures { λ r. ⌜ Answers (stored (now (words .entry)) (now (numbers .entry))) noState AnswersCourseAhead saysAhead leading r
-        (aheadValues (now (known .entry)) (now (count .entry)) (now (matched .entry)) (now (east .entry)) (now (north .entry)))
-        (aheadValues (now (known .exit)) (now (count .exit)) (now (matched .exit)) (now (east .exit)) (now (north .exit))) ⌝ }
+        (aheadValues (now (known .entry)) (now (count .entry)) (spotValues (now (matched .entry)) (now (east .entry)) (now (north .entry))))
+        (aheadValues (now (known .exit)) (now (count .exit)) (spotValues (now (matched .exit)) (now (east .exit)) (now (north .exit)))) ⌝ }
 {
     let there = stored::load(words, numbers);
     if !there.held {
@@ -167,8 +169,8 @@ pub extern "C" fn cittumay_route_home(
     north: &mut f32,
 ) -> u8
     ensures { λ r. ⌜ Answers (stored (now (words .entry)) (now (numbers .entry))) noState AnswersRouteHome saysAhead leading r
-        (aheadValues (now (known .entry)) (now (count .entry)) (now (matched .entry)) (now (east .entry)) (now (north .entry)))
-        (aheadValues (now (known .exit)) (now (count .exit)) (now (matched .exit)) (now (east .exit)) (now (north .exit))) ⌝ }
+        (aheadValues (now (known .entry)) (now (count .entry)) (spotValues (now (matched .entry)) (now (east .entry)) (now (north .entry))))
+        (aheadValues (now (known .exit)) (now (count .exit)) (spotValues (now (matched .exit)) (now (east .exit)) (now (north .exit)))) ⌝ }
 {
     let there = stored::load(words, numbers);
     if !there.held {

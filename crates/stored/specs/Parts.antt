@@ -17,6 +17,7 @@ use Rattle.state.specs.declared.Course.{Course}
 use Rattle.state.specs.declared.Guide.{Guide}
 use Rattle.state.specs.declared.Shown.{Shown}
 use Rattle.state.specs.declared.Shown.the-variants as shown
+use Rattle.state.specs.State.{courseWith}
 use Rattle.stored.specs.Fields.{most64, most32, most16, most8, wordAt, numberAt, narrowAt, flagAt, spotAt, headingAt, placeRead}
 use Rattle.stored.specs.Fields.{lineOfTag, stageOfTag, modeOfTag, flagOf, unsigned, spotFlag, headingFlag, headingIn, placeFlag}
 use Rattle.stored.specs.Fields.{latIn, lonIn, lineTag, stageTag, modeTag}
@@ -37,9 +38,6 @@ placeMosts = 1 ∷ most32 ∷ most32 ∷ []
 
 abbrev pub headingMosts : List ℕ
 headingMosts = 1 ∷ most16 ∷ []
-
-abbrev pub trailMosts : List ℕ
-trailMosts = most64 ∷ most64 ∷ most8 ∷ most64 ∷ []
 
 abbrev pub motionMosts : List ℕ
 motionMosts = 1 ∷ headingMosts ++ most64 ∷ []
@@ -85,16 +83,8 @@ followAt w n =
 
 unfoldable pub courseAt : List ℕ → List Float → Course
 courseAt w n =
-    record {
-      «line_len» = wordAt w 22;
-      unplaced = flagAt w 23;
-      held = flagAt w 24;
-      «join_fixes» = narrowAt most8 w 25;
-      «join_end» = wordAt w 26;
-      along = numberAt n 8;
-      reached = numberAt n 9;
-      fix = spotAt w 27 n 10;
-    }
+    courseWith (wordAt w 22) (flagAt w 23) (flagAt w 24) (narrowAt most8 w 25) (wordAt w 26) (numberAt n 8) (numberAt n 9)
+    (spotAt w 27 n 10)
 
 unfoldable pub lapAt : List ℕ → List Float → Lap
 lapAt w n = record { pass = record { stage = stageOfTag (wordAt w 30) }; start = spotAt w 31 n 12; passed = flagAt w 32 }
@@ -133,9 +123,6 @@ placeWords p = placeFlag p ∷ unsigned (latIn p) ∷ unsigned (lonIn p) ∷ []
 
 abbrev pub headingWords : Heading → List ℕ
 headingWords h = headingFlag h ∷ headingIn h ∷ []
-
-abbrev pub trailWords : Trail → List ℕ
-trailWords t = t .len ∷ t .«window_len» ∷ t .retrace ∷ t .«retrace_len» ∷ []
 
 abbrev pub motionWords : Motion → List ℕ
 motionWords m = spotFlag (m .from) ∷ headingWords (m .heading) ++ m .«heading_ms» ∷ []

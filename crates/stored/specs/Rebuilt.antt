@@ -43,12 +43,7 @@ stageRead w = cond (flagAt w 3) (stage.Pending (utcRead w 4)) stage.Decided
 
 unfoldable pub rebuildAt : List ℕ → Rebuild
 rebuildAt w =
-    record {
-      recovered = narrowAt most32 w 1;
-      walk = record { slot = wordAt w 2 };
-      stage = stageRead w;
-      «clock_ms» = wordAt w 6;
-    }
+    record { recovered = narrowAt most32 w 1; walk = record { slot = wordAt w 2 }; stage = stageRead w; «clock_ms» = wordAt w 6 }
 
 unfoldable pub holdsRebuild : List ℕ → Bool
 holdsRebuild w = eqb (wordAt w 0) rebuildMark && within rebuildMosts w

@@ -29,8 +29,8 @@ use lib.Ieee.{Float}
 use Rattle.state.specs.declared.Homing.{Homing}
 use Rattle.stored.specs.Fields.{within, wordAt, flagAt, spotAt, placeRead, pointIn}
 unfoldable pub use Rattle.stored.specs.Parts.{trailAt, frameAt, motionAt, followAt, courseAt, lapAt, guideRead, shownAt}
-pub use Rattle.stored.specs.Parts.{wordCount, numberCount, windowAt, placeMosts, headingMosts, trailMosts, motionMosts, followMosts}
-pub use Rattle.stored.specs.Parts.{courseMosts, lapMosts, guideMosts, guideIn, shownFlag, placeWords, headingWords, trailWords}
+pub use Rattle.stored.specs.Parts.{wordCount, numberCount, windowAt, placeMosts, headingMosts, motionMosts, followMosts}
+pub use Rattle.stored.specs.Parts.{courseMosts, lapMosts, guideMosts, guideIn, shownFlag, placeWords, headingWords}
 pub use Rattle.stored.specs.Parts.{motionWords, followWords, courseWords, lapWords, guideWords, PlaceFits}
 unfoldable pub use Rattle.stored.specs.Words.{mosts, wordsOf}
 pub use Rattle.stored.specs.Words.{mark}

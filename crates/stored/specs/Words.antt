@@ -2,9 +2,9 @@
 use Prim.Native.Nat.{ℕ}
 use mathlib.Core.List.{List, [], _∷_, _++_}
 use Rattle.state.specs.declared.Homing.{Homing}
-use Rattle.stored.specs.Fields.{most64, flagOf, spotFlag}
-use Rattle.stored.specs.Parts.{placeMosts, trailMosts, motionMosts, followMosts, courseMosts, lapMosts, guideMosts, guideIn}
-use Rattle.stored.specs.Parts.{shownFlag, placeWords, trailWords, motionWords, followWords, courseWords, lapWords, guideWords}
+use Rattle.stored.specs.Fields.{most64, most8, flagOf, spotFlag}
+use Rattle.stored.specs.Parts.{placeMosts, motionMosts, followMosts, courseMosts, lapMosts, guideMosts, guideIn}
+use Rattle.stored.specs.Parts.{shownFlag, placeWords, motionWords, followWords, courseWords, lapWords, guideWords}
 
 -- the letters CITTUMA1
 abbrev pub mark : ℕ
@@ -12,8 +12,7 @@ mark = 4848499195026161969
 
 unfoldable pub mosts : List ℕ
 mosts =
-    mark ∷ trailMosts
-    ++ placeMosts
+    mark ∷ most64 ∷ most64 ∷ most8 ∷ most64 ∷ placeMosts
     ++ placeMosts
     ++ 1 ∷ most64 ∷ motionMosts
     ++ followMosts
@@ -23,8 +22,7 @@ mosts =
 
 unfoldable pub wordsOf : Homing → List ℕ
 wordsOf h =
-    mark ∷ trailWords (h .trail)
-    ++ placeWords (h .frame .origin)
+    mark ∷ h .trail .len ∷ h .trail .«window_len» ∷ h .trail .retrace ∷ h .trail .«retrace_len» ∷ placeWords (h .frame .origin)
     ++ placeWords (h .fed)
     ++ spotFlag (h .here) ∷ h .«here_ms» ∷ motionWords (h .motion)
     ++ followWords (h .follow)

@@ -2,7 +2,7 @@
 use mathlib.Core.Path.{_≡_, refl, sym, ap, _∙_}
 use Rattle.answers.specs.Answers.{saysAhead}
 use Rattle.answers.specs.declared.Ahead.{Ahead}
-use Rattle.door.specs.Answers.{SpotValues, AheadValues, aheadValues, leading}
+use Rattle.door.specs.Answers.{SpotValues, AheadValues, spotValues, aheadValues, leading}
 use denote.Ref.{now}
 use Rattle.door.specs.Through.{numberOf, valuesOf}
 use borrow.Author.Needs.{needs}
@@ -25,9 +25,9 @@ returns : tie.Need-returns
 unfolding saysAhead leading numberOf
 returns c = let g = c .before .before .before .before .before .before .before .args in (
   sym (ap (λ (r : Ahead). numberOf (saysAhead r)) (c .before .before .before .before .before .answer .given .1)),
-  ap (λ (p : SpotValues). record { known = 1; count = c .before .before .before .before .before .answer .given .0 .0; point = p })
+  ap (λ (p : SpotValues). aheadValues 1 (c .before .before .before .before .before .answer .given .0 .0) p)
       (c .put-spot .ensures) ∙ sym (ap (λ (r : Ahead). valuesOf leading (saysAhead r) (aheadValues (now (g .known)) (now (g .count))
-      (now (g .matched)) (now (g .east)) (now (g .north)))) (c .before .before .before .before .before .answer .given .1)),
+      (spotValues (now (g .matched)) (now (g .east)) (now (g .north))))) (c .before .before .before .before .before .answer .given .1)),
 )
 
 returns-2 : tie.Need-returns-2
@@ -35,7 +35,8 @@ unfolding saysAhead leading numberOf
 returns-2 c = let g = c .before .before .args in (
   sym (ap (λ (r : Ahead). numberOf (saysAhead r)) (c .enum-told .given .1)),
   sym (ap (λ (r : Ahead). valuesOf leading (saysAhead r)
-      (aheadValues (now (g .known)) (now (g .count)) (now (g .matched)) (now (g .east)) (now (g .north)))) (c .enum-told .given .1)),
+      (aheadValues (now (g .known)) (now (g .count)) (spotValues (now (g .matched)) (now (g .east)) (now (g .north)))))
+      (c .enum-told .given .1)),
 )
 
 returns-3 : tie.Need-returns-3
@@ -43,7 +44,8 @@ unfolding saysAhead numberOf
 returns-3 c = let g = c .before .before .before .args in (
   sym (ap (λ (r : Ahead). numberOf (saysAhead r)) (c .before .answer2 .given .1)),
   sym (ap (λ (r : Ahead). valuesOf leading (saysAhead r)
-      (aheadValues (now (g .known)) (now (g .count)) (now (g .matched)) (now (g .east)) (now (g .north)))) (c .before .answer2 .given .1)),
+      (aheadValues (now (g .known)) (now (g .count)) (spotValues (now (g .matched)) (now (g .east)) (now (g .north)))))
+      (c .before .answer2 .given .1)),
 )
 
 pub put-ahead-spec : {M : Type 1} → statement M

@@ -1,7 +1,7 @@
 -- `door::answering::put_spot` meets its contract. Assumes nothing.
 use mathlib.Core.Path.{_≡_, sym, ap}
 use Rattle.plane.specs.declared.Spot.{Spot}
-use Rattle.door.specs.Answers.{SpotValues, spotted}
+use Rattle.door.specs.Answers.{spotValues, spotted}
 use denote.Ref.{now}
 use borrow.Author.Needs.{needs}
 use Rattle.door.proofs.answering.put_spot.Statement.{statement}
@@ -16,13 +16,13 @@ enum-told c = search needs
 returns : tie.Need-returns
 unfolding spotted
 returns c = let g = c .before .before .args in
-    sym (ap (λ (p : Spot). spotted p (record { matched = now (g .matched); east = now (g .east); north = now (g .north) }))
+    sym (ap (λ (p : Spot). spotted p (spotValues (now (g .matched)) (now (g .east)) (now (g .north))))
     (c .enum-told .given .1))
 
 returns-2 : tie.Need-returns-2
 unfolding spotted
 returns-2 c = let g = c .before .before .before .args in
-    sym (ap (λ (p : Spot). spotted p (record { matched = now (g .matched); east = now (g .east); north = now (g .north) }))
+    sym (ap (λ (p : Spot). spotted p (spotValues (now (g .matched)) (now (g .east)) (now (g .north))))
     (c .before .point .given .1))
 
 pub put-spot-spec : {M : Type 1} → statement M

@@ -3,7 +3,7 @@ use mathlib.Core.Path.{sym, ap}
 use borrow.Author.Needs.{needs}
 use denote.Ref.{now}
 use Rattle.thin.specs.declared.Thinned.{Thinned}
-use Rattle.door.specs.Thin.{leftOf, toleranceOf, passesOf, refusalOf}
+use Rattle.door.specs.Thin.{thinWritten}
 use Rattle.door.proofs.thinning.cittumay_thin.Statement.{statement}
 use Rattle.door.proofs.thinning.cittumay_thin.Tie as tie
 
@@ -29,10 +29,7 @@ returns c =
     record {
       answer = thin .result;
       thins = thin .ensures;
-      count = sym (ap leftOf told);
-      last = sym (ap (λ (r : Thinned). toleranceOf r (now (g .tolerance))) told);
-      made = sym (ap (λ (r : Thinned). passesOf r (now (g .passes))) told);
-      number = sym (ap refusalOf told);
+      written = sym (ap (λ (r : Thinned). thinWritten r (now (g .tolerance)) (now (g .passes))) told);
     }
 
 same-length-2 : tie.Need-same-length-2
@@ -48,10 +45,7 @@ returns-2 c =
     record {
       answer = thin .result;
       thins = thin .ensures;
-      count = sym (ap leftOf told);
-      last = sym (ap (λ (r : Thinned). toleranceOf r (now (g .tolerance))) told);
-      made = sym (ap (λ (r : Thinned). passesOf r (now (g .passes))) told);
-      number = sym (ap refusalOf told);
+      written = sym (ap (λ (r : Thinned). thinWritten r (now (g .tolerance)) (now (g .passes))) told);
     }
 
 pub cittumay-thin-spec : {M : Type 1} → statement M
