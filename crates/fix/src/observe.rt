@@ -3,13 +3,18 @@
 use guide::Told;
 use plane::Spot;
 use state::Event;
+use state::Guided;
 use state::Homing;
 use state::Place;
+use update::Updated;
 ghost use mathlib.Core.Path.{_≡_};
+ghost use mathlib.Core.List.{List};
 ghost use lib.ListN.{length};
+ghost use lib.Ieee.{Float};
 ghost use Rattle.state.specs.State.{withHereMs};
-ghost use Rattle.follow.specs.View.{HomingFit, courseOf};
-ghost use Rattle.update.specs.View.{Updates};
+ghost use Rattle.state.specs.Guided.{whole};
+ghost use Rattle.follow.specs.View.{GuidedFit, courseOf};
+ghost use Rattle.update.specs.View.{Updates, toldIn};
 ghost use Rattle.calls.specs.Fix.{sameFix, stillAt, newFix, seen};
 ghost use Rattle.fix.specs.Ready.{Ready};
 
@@ -31,20 +36,20 @@ fn same_fix(fed: Place, lat: i32, lon: i32) -> bool
 }
 
 // Time still passes, for the heading and the reminders, but nothing is recorded.
-fn still_at(h: Homing, crumbs: &mut [f32], line: &[f32], here: Spot, now_ms: u64) -> Told
-    requires { ⌜ HomingFit h (length (now crumbs)) (length (now line)) ⌝ }
-    ensures { λ r. ⌜ Updates (λ C. stillAt here C (courseOf h (now (line .entry))) «now_ms») h (now (crumbs .entry)) r
-        (now (crumbs .exit)) ⌝ }
+fn still_at(h: Guided, crumbs: &mut [f32], line: &[f32], here: Spot, now_ms: u64) -> Updated
+    requires { ⌜ GuidedFit h (length (now crumbs)) (length (now line)) ⌝ }
+    ensures { λ r. ⌜ ((w : List Float) → Updates (λ C. stillAt here C (courseOf (whole h w) (now (line .entry))) «now_ms») (whole h w)
+        (now (crumbs .entry)) (toldIn r w) (now (crumbs .exit))) ⌝ }
 {
     let Spot::At(p) = here else {
-        return Told {
-            homing: h,
+        return Updated {
+            guided: h,
             event: Event::Nothing,
         };
     };
     if motion::elapsed(now_ms, h.updated_ms) < STILL_MS {
-        return Told {
-            homing: h,
+        return Updated {
+            guided: h,
             event: Event::Nothing,
         };
     }
@@ -55,18 +60,27 @@ fn still_at(h: Homing, crumbs: &mut [f32], line: &[f32], here: Spot, now_ms: u64
 }
 
 // The fix is the new place, seen now, in the frame that the ride's first fix gave, and the heading goes by it.
-fn new_fix(h: Homing, crumbs: &mut [f32], line: &[f32], lat: i32, lon: i32, now_ms: u64) -> Told
-    requires { ⌜ Ready h (length (now crumbs)) (length (now line)) ⌝ }
+fn new_fix(
+    h: Guided,
+    window: &mut [f32; 96],
+    crumbs: &mut [f32],
+    line: &[f32],
+    lat: i32,
+    lon: i32,
+    now_ms: u64,
+) -> Updated
+    requires { ⌜ (length (now window) ≡ 96) × (Ready (whole h (now window)) (length (now crumbs)) (length (now line))) ⌝ }
     ensures { λ r. ⌜ Updates
-        (λ C s. newFix C (courseOf h (now (line .entry))) (record { lat = lat; lon = lon }) «now_ms» (withHereMs «now_ms» s)) h
-        (now (crumbs .entry)) r (now (crumbs .exit)) ⌝ }
+        (λ C s. newFix C (courseOf (whole h (now (window .entry))) (now (line .entry))) (record { lat = lat; lon = lon }) «now_ms»
+        (withHereMs «now_ms» s)) (whole h (now (window .entry))) (now (crumbs .entry)) (toldIn r (now (window .exit)))
+        (now (crumbs .exit)) ⌝ }
 {
     let was = h.frame;
     let frame = course::located(was, lat, lon);
     let p = course::framed(frame, lat, lon);
     let m = h.motion;
     let motion = motion::track_heading(m, p, now_ms);
-    let there = Homing {
+    let there = Guided {
         here: Spot::At(p),
         here_ms: now_ms,
         fed: Place::At(lat, lon),
@@ -74,14 +88,23 @@ fn new_fix(h: Homing, crumbs: &mut [f32], line: &[f32], lat: i32, lon: i32, now_
         motion,
         ..h
     };
-    crate::new_fix::fix_on(there, crumbs, line, p, now_ms)
+    crate::new_fix::fix_on(there, window, crumbs, line, p, now_ms)
 }
 
 // A fix that is there: repeated, or new.
-pub fn seen(h: Homing, crumbs: &mut [f32], line: &[f32], lat: i32, lon: i32, now_ms: u64) -> Told
-    requires { ⌜ Ready h (length (now crumbs)) (length (now line)) ⌝ }
-    ensures { λ r. ⌜ Updates (λ C. seen C (courseOf h (now (line .entry))) (record { lat = lat; lon = lon }) «now_ms») h
-        (now (crumbs .entry)) r (now (crumbs .exit)) ⌝ }
+fn seen_on(
+    h: Guided,
+    window: &mut [f32; 96],
+    crumbs: &mut [f32],
+    line: &[f32],
+    lat: i32,
+    lon: i32,
+    now_ms: u64,
+) -> Updated
+    requires { ⌜ (length (now window) ≡ 96) × (Ready (whole h (now window)) (length (now crumbs)) (length (now line))) ⌝ }
+    ensures { λ r. ⌜ Updates
+        (λ C. seen C (courseOf (whole h (now (window .entry))) (now (line .entry))) (record { lat = lat; lon = lon }) «now_ms»)
+        (whole h (now (window .entry))) (now (crumbs .entry)) (toldIn r (now (window .exit))) (now (crumbs .exit)) ⌝ }
 {
     let fed = h.fed;
     if same_fix(fed, lat, lon) {
@@ -90,5 +113,22 @@ pub fn seen(h: Homing, crumbs: &mut [f32], line: &[f32], lat: i32, lon: i32, now
         on.here_ms = now_ms;
         return still_at(on, crumbs, line, here, now_ms);
     }
-    new_fix(h, crumbs, line, lat, lon, now_ms)
+    new_fix(h, window, crumbs, line, lat, lon, now_ms)
+}
+
+// The window is lent on the way of the fix, and the state put together behind it.
+pub fn seen(h: Homing, crumbs: &mut [f32], line: &[f32], lat: i32, lon: i32, now_ms: u64) -> Told
+    requires { ⌜ Ready h (length (now crumbs)) (length (now line)) ⌝ }
+    ensures { λ r. ⌜ Updates (λ C. seen C (courseOf h (now (line .entry))) (record { lat = lat; lon = lon }) «now_ms») h
+        (now (crumbs .entry)) r (now (crumbs .exit)) ⌝ }
+{
+    let g = state::without_window(h);
+    let mut window = h.window;
+    let u = seen_on(g, &mut window, crumbs, line, lat, lon, now_ms);
+    let guided = u.guided;
+    let event = u.event;
+    Told {
+        homing: state::with_window(guided, window),
+        event,
+    }
 }

@@ -12,7 +12,10 @@ use Rattle.state.specs.declared.Line.the-variants as line
 use Rattle.state.specs.declared.Homing.{Homing}
 use Rattle.trail.specs.declared.Trail.{Trail}
 use Rattle.follow.specs.declared.Answered.{Answered}
+use Rattle.follow.specs.declared.Decided.{Decided}
+use Rattle.state.specs.declared.Guided.{Guided}
 use Rattle.state.specs.State.{State, stateOf}
+use Rattle.state.specs.Guided.{whole}
 use Rattle.state.specs.Rule.{Done}
 
 -- the placed course in a line buffer
@@ -25,6 +28,10 @@ pub record HomingFit (h : Homing) (room lineRoom : ℕ) : Type 0 where
   pub course : h .course .«line_len» ≤ capacity lineRoom
   pub onTrail : h .follow .line ≡ line.Breadcrumb → (1 ≤ h .follow .segment) × (h .follow .segment < h .trail .len)
   pub onCourse : h .follow .line ≡ line.Course → (1 ≤ h .follow .segment) × (h .follow .segment < h .course .«line_len»)
+
+-- a state without its window that fits so
+abbrev pub GuidedFit : Guided → ℕ → ℕ → Type 0
+GuidedFit g room lineRoom = (w : List Float) → HomingFit (whole g w) room lineRoom
 
 -- A change that leaves the trail, and so the crumbs, alone: it is the rule's whatever the buffer holds.
 pub record Changes (rule : State → State) (h r : Homing) : Type 0 where
@@ -52,3 +59,7 @@ pub record Asks (rule : State → Done Bool) (h : Homing) (b : List Float) (r : 
   pub answered : r .yes ≡ rule (stateOf h b) .answer
   pub same : stateOf (r .homing) b ≡ rule (stateOf h b) .state
   pub held : SameHeld (h .trail) (r .homing .trail)
+
+-- the state with this window, and the answer beside it
+abbrev pub decidedIn : Decided → List Float → Answered
+decidedIn e w = record { homing = whole (e .guided) w; yes = e .yes }

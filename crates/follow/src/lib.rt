@@ -5,17 +5,21 @@ pub mod follow_parts;
 use plane::Point;
 use plane::Spot;
 use state::Follow;
+use state::Guided;
 use state::Homing;
 use state::Line;
 ghost use mathlib.Core.Path.{_≡_};
+ghost use mathlib.Core.List.{List};
 ghost use Prim.Native.Nat.{_≤_};
 ghost use lib.ListN.{length};
+ghost use lib.Ieee.{Float};
 ghost use Rattle.crumbs.specs.Crumb.{capacity};
 ghost use Rattle.trail.specs.View as trail;
 ghost use Rattle.state.specs.declared.Line.the-variants as line;
+ghost use Rattle.state.specs.Guided.{whole};
 ghost use Rattle.follow.specs.Record.{keepIn, addIn, flushIn};
 ghost use Rattle.follow.specs.Engage.{engageAt, engage, leaveAt, stopNothing, stopCourse, stopBreadcrumb, stop};
-ghost use Rattle.follow.specs.View.{courseOf, Changes, Follows, Asks};
+ghost use Rattle.follow.specs.View.{courseOf, Changes, Follows, Asks, decidedIn};
 
 // A state, and a yes or no beside it.
 pub struct Answered {
@@ -23,11 +27,17 @@ pub struct Answered {
     pub yes: bool,
 }
 
+// The state without its window, and a yes or no beside it.
+pub struct Decided {
+    pub guided: Guided,
+    pub yes: bool,
+}
+
 // ---- the breadcrumb
 
-pub fn keep(h: Homing, crumbs: &mut [f32], p: Point) -> Homing
+pub fn keep(h: Guided, crumbs: &mut [f32], p: Point) -> Guided
     requires { ⌜ trail.TrailFit (h .trail) (length (now crumbs)) ⌝ }
-    ensures { λ r. ⌜ Follows (λ C. keepIn C p) h (now (crumbs .entry)) r (now (crumbs .exit)) ⌝ }
+    ensures { λ r. ⌜ ((w : List Float) → Follows (λ C. keepIn C p) (whole h w) (now (crumbs .entry)) (whole r w) (now (crumbs .exit))) ⌝ }
 {
     let t = h.trail;
     let kept = trail::keep(t, crumbs, p);
@@ -39,26 +49,28 @@ pub fn keep(h: Homing, crumbs: &mut [f32], p: Point) -> Homing
     next
 }
 
-pub fn add(h: Homing, crumbs: &mut [f32], p: Point) -> Homing
-    requires { ⌜ trail.TrailFit (h .trail) (length (now crumbs)) ⌝ }
-    ensures { λ r. ⌜ Follows (λ C. addIn C p) h (now (crumbs .entry)) r (now (crumbs .exit)) ⌝ }
+pub fn add(h: Guided, window: &mut [f32; 96], crumbs: &mut [f32], p: Point) -> Guided
+    requires { ⌜ (length (now window) ≡ 96) × (trail.TrailFit (h .trail) (length (now crumbs))) ⌝ }
+    ensures { λ r. ⌜ Follows (λ C. addIn C p) (whole h (now (window .entry))) (now (crumbs .entry)) (whole r (now (window .exit)))
+        (now (crumbs .exit)) ⌝ }
 {
     let t = h.trail;
     let f = h.follow;
     let mut next = h;
-    let added = trail::add(t, &mut next.window, crumbs, p);
+    let added = trail::add(t, window, crumbs, p);
     let trail = added.trail;
     next.trail = trail;
     next.follow = follow_parts::after_thinning(added.thinned, f);
     next
 }
 
-pub fn flush(h: Homing, crumbs: &mut [f32]) -> Homing
+pub fn flush(h: Guided, window: &[f32; 96], crumbs: &mut [f32]) -> Guided
     requires { ⌜ trail.TrailFit (h .trail) (length (now crumbs)) ⌝ }
-    ensures { λ r. ⌜ Follows flushIn h (now (crumbs .entry)) r (now (crumbs .exit)) ⌝ }
+    ensures { λ r. ⌜ Follows flushIn (whole h (now (window .entry))) (now (crumbs .entry)) (whole r (now (window .entry)))
+        (now (crumbs .exit)) ⌝ }
 {
     let t = h.trail;
-    let flushed = trail::flush(t, &h.window, crumbs);
+    let flushed = trail::flush(t, window, crumbs);
     let f = h.follow;
     let mut next = h;
     let trail = flushed.trail;
@@ -70,9 +82,10 @@ pub fn flush(h: Homing, crumbs: &mut [f32]) -> Homing
 // ---- following begins
 
 // Follow a line from its segment `end`.
-pub fn engage_at(h: Homing, line: &[f32], on: Line, end: usize, now_ms: u64) -> Homing
+pub fn engage_at(h: Guided, line: &[f32], on: Line, end: usize, now_ms: u64) -> Guided
     requires { ⌜ h .course .«line_len» ≤ capacity (length (now line)) ⌝ }
-    ensures { λ r. ⌜ Changes (engageAt (courseOf h (now (line .entry))) on end «now_ms») h r ⌝ }
+    ensures { λ r. ⌜ ((w : List Float)
+        → Changes (engageAt (courseOf (whole h w) (now (line .entry))) on end «now_ms») (whole h w) (whole r w)) ⌝ }
 {
     let was = h.course;
     let follow = Follow {
@@ -89,26 +102,27 @@ pub fn engage_at(h: Homing, line: &[f32], on: Line, end: usize, now_ms: u64) -> 
 }
 
 // Follow the breadcrumb from its last segment, if it leads anywhere.
-pub fn engage(h: Homing, crumbs: &[f32], line: &[f32], now_ms: u64) -> Answered
+pub fn engage(h: Guided, crumbs: &[f32], line: &[f32], now_ms: u64) -> Decided
     requires { ⌜ (h .trail .len ≤ capacity (length (now crumbs))) × (h .course .«line_len» ≤ capacity (length (now line))) ⌝ }
-    ensures { λ r. ⌜ Asks (engage (courseOf h (now (line .entry))) «now_ms») h (now (crumbs .entry)) r ⌝ }
+    ensures { λ r. ⌜ ((w : List Float)
+        → Asks (engage (courseOf (whole h w) (now (line .entry))) «now_ms») (whole h w) (now (crumbs .entry)) (decidedIn r w)) ⌝ }
 {
     let t = h.trail;
     let len = t.len;
     if follow_parts::leads(crumbs, len) {
-        let homing = engage_at(h, line, Line::Breadcrumb, len - 1, now_ms);
-        return Answered { homing, yes: true };
+        let guided = engage_at(h, line, Line::Breadcrumb, len - 1, now_ms);
+        return Decided { guided, yes: true };
     }
-    Answered {
-        homing: h,
+    Decided {
+        guided: h,
         yes: false,
     }
 }
 
 // ---- following ends
 
-fn stop_course(h: Homing) -> Homing
-    ensures { λ r. ⌜ Changes stopCourse h r ⌝ }
+fn stop_course(h: Guided) -> Guided
+    ensures { λ r. ⌜ ((w : List Float) → Changes stopCourse (whole h w) (whole r w)) ⌝ }
 {
     let f = h.follow;
     let c = h.course;
@@ -118,8 +132,8 @@ fn stop_course(h: Homing) -> Homing
     next
 }
 
-fn stop_nothing(h: Homing) -> Homing
-    ensures { λ r. ⌜ Changes stopNothing h r ⌝ }
+fn stop_nothing(h: Guided) -> Guided
+    ensures { λ r. ⌜ ((w : List Float) → Changes stopNothing (whole h w) (whole r w)) ⌝ }
 {
     let f = h.follow;
     let matched = f.matched;
@@ -129,9 +143,10 @@ fn stop_nothing(h: Homing) -> Homing
 }
 
 // The breadcrumb ends where the rider left it.
-fn leave_at(h: Homing, crumbs: &mut [f32], matched: Spot, segment: usize) -> Homing
+fn leave_at(h: Guided, crumbs: &mut [f32], matched: Spot, segment: usize) -> Guided
     requires { ⌜ (trail.TrailFit (h .trail) (length (now crumbs))) × (segment ≤ h .trail .len) ⌝ }
-    ensures { λ r. ⌜ Follows (λ C. leaveAt C matched segment) h (now (crumbs .entry)) r (now (crumbs .exit)) ⌝ }
+    ensures { λ r. ⌜ ((w : List Float)
+        → Follows (λ C. leaveAt C matched segment) (whole h w) (now (crumbs .entry)) (whole r w) (now (crumbs .exit))) ⌝ }
 {
     let Spot::At(p) = matched else {
         return h;
@@ -141,9 +156,9 @@ fn leave_at(h: Homing, crumbs: &mut [f32], matched: Spot, segment: usize) -> Hom
     keep(cut, crumbs, p)
 }
 
-fn stop_breadcrumb(h: Homing, crumbs: &mut [f32]) -> Homing
+fn stop_breadcrumb(h: Guided, crumbs: &mut [f32]) -> Guided
     requires { ⌜ (trail.TrailFit (h .trail) (length (now crumbs))) × (h .follow .segment ≤ h .trail .len) ⌝ }
-    ensures { λ r. ⌜ Follows stopBreadcrumb h (now (crumbs .entry)) r (now (crumbs .exit)) ⌝ }
+    ensures { λ r. ⌜ ((w : List Float) → Follows stopBreadcrumb (whole h w) (now (crumbs .entry)) (whole r w) (now (crumbs .exit))) ⌝ }
 {
     let f = h.follow;
     let matched = f.matched;
@@ -157,10 +172,10 @@ fn stop_breadcrumb(h: Homing, crumbs: &mut [f32]) -> Homing
 
 // Recording resumes: the breadcrumb keeps the way home from where the rider left it, and goes on from
 // there. A course stopped is held off for the rest of the ride.
-pub fn stop_following(h: Homing, crumbs: &mut [f32]) -> Homing
+pub fn stop_following(h: Guided, crumbs: &mut [f32]) -> Guided
     requires { ⌜ (trail.TrailFit (h .trail) (length (now crumbs)))
         × (h .follow .line ≡ line.Breadcrumb → h .follow .segment ≤ h .trail .len) ⌝ }
-    ensures { λ r. ⌜ Follows stop h (now (crumbs .entry)) r (now (crumbs .exit)) ⌝ }
+    ensures { λ r. ⌜ ((w : List Float) → Follows stop (whole h w) (now (crumbs .entry)) (whole r w) (now (crumbs .exit))) ⌝ }
 {
     let f = h.follow;
     let line = f.line;

@@ -1,3 +1,4 @@
 pub mod State
 pub mod Rule
 pub mod Guide
+pub mod Guided

@@ -5,6 +5,8 @@ use motion::Motion;
 use plane::Heading;
 use plane::Spot;
 use trail::Trail;
+ghost use mathlib.Core.Path.{_≡_};
+ghost use Rattle.state.specs.Guided.{guidedOf, whole};
 
 // A fix that may be missing: latitude and longitude in 1e-7 degree.
 pub enum Place {
@@ -122,4 +124,80 @@ pub struct Homing {
     pub lap: Lap,
     pub updated_ms: u64,
     pub guide: Shown,
+}
+
+// The state without the window: it goes by value on the way of a fix, and the window is lent beside it.
+pub struct Guided {
+    pub trail: Trail,
+    pub frame: Frame,
+    pub fed: Place,
+    pub here: Spot,
+    pub here_ms: u64,
+    pub motion: Motion,
+    pub follow: Follow,
+    pub course: Course,
+    pub auto_follow: bool,
+    pub arrived: bool,
+    pub lap: Lap,
+    pub updated_ms: u64,
+    pub guide: Shown,
+}
+
+pub fn without_window(h: Homing) -> Guided
+    ensures { λ r. ⌜ r ≡ guidedOf h ⌝ }
+{
+    let trail = h.trail;
+    let frame = h.frame;
+    let fed = h.fed;
+    let here = h.here;
+    let motion = h.motion;
+    let follow = h.follow;
+    let course = h.course;
+    let lap = h.lap;
+    let guide = h.guide;
+    Guided {
+        trail,
+        frame,
+        fed,
+        here,
+        here_ms: h.here_ms,
+        motion,
+        follow,
+        course,
+        auto_follow: h.auto_follow,
+        arrived: h.arrived,
+        lap,
+        updated_ms: h.updated_ms,
+        guide,
+    }
+}
+
+pub fn with_window(g: Guided, window: [f32; 96]) -> Homing
+    ensures { λ r. ⌜ r ≡ whole g window ⌝ }
+{
+    let trail = g.trail;
+    let frame = g.frame;
+    let fed = g.fed;
+    let here = g.here;
+    let motion = g.motion;
+    let follow = g.follow;
+    let course = g.course;
+    let lap = g.lap;
+    let guide = g.guide;
+    Homing {
+        trail,
+        window,
+        frame,
+        fed,
+        here,
+        here_ms: g.here_ms,
+        motion,
+        follow,
+        course,
+        auto_follow: g.auto_follow,
+        arrived: g.arrived,
+        lap,
+        updated_ms: g.updated_ms,
+        guide,
+    }
 }

@@ -2,7 +2,9 @@
 
 use crate::way_home;
 use follow::Answered;
+use follow::Decided;
 use segments::Best;
+use state::Guided;
 use state::Homing;
 use state::Line;
 ghost use mathlib.Core.Path.{_≡_};
@@ -10,45 +12,78 @@ ghost use Prim.Native.Nat.{_≤_};
 ghost use lib.ListN.{length};
 ghost use Rattle.trail.specs.View as trail;
 ghost use Rattle.state.specs.declared.Line.the-variants as followed;
-ghost use Rattle.follow.specs.View.{HomingFit, courseOf, Follows};
+ghost use Rattle.state.specs.Guided.{whole};
+ghost use Rattle.follow.specs.View.{HomingFit, GuidedFit, courseOf, Follows, decidedIn};
 ghost use Rattle.segments.specs.Inner.{InLine};
 ghost use Rattle.calls.specs.Follow.{follow, followFrom, setFollowing, autoOff, setAutoFollow};
 ghost use Rattle.steer.specs.Decides.{Decides};
 
 // The course where it was found near, else the breadcrumb back.
-fn follow_best(best: Best, h: Homing, crumbs: &mut [f32], line: &[f32], now_ms: u64) -> Answered
-    requires { ⌜ HomingFit h (length (now crumbs)) (length (now line)) ⌝ }
+fn follow_best(
+    best: Best,
+    h: Guided,
+    window: &[f32; 96],
+    crumbs: &mut [f32],
+    line: &[f32],
+    now_ms: u64,
+) -> Decided
+    requires { ⌜ GuidedFit h (length (now crumbs)) (length (now line)) ⌝ }
     requires { ⌜ (h .follow .line ≡ followed.Nothing) × InLine (h .course .«line_len») best ⌝ }
-    ensures { λ r. ⌜ Decides (λ C. follow best C (courseOf h (now (line .entry))) «now_ms») h (now (crumbs .entry)) r
-        (now (crumbs .exit)) ⌝ }
+    ensures { λ r. ⌜ Decides (λ C. follow best C (courseOf (whole h (now (window .entry))) (now (line .entry))) «now_ms»)
+        (whole h (now (window .entry))) (now (crumbs .entry)) (decidedIn r (now (window .entry))) (now (crumbs .exit)) ⌝ }
 {
     let Best::Found(near) = best else {
-        return way_home::way_home(h, crumbs, line, now_ms);
+        return way_home::way_home(h, window, crumbs, line, now_ms);
     };
     let engaged = follow::engage_at(h, line, Line::Course, near.end, now_ms);
     way_home::brought(engaged, crumbs, line, now_ms)
 }
 
 // What is followed already is followed on.
-fn follow_from(h: Homing, crumbs: &mut [f32], line: &[f32], now_ms: u64) -> Answered
-    requires { ⌜ HomingFit h (length (now crumbs)) (length (now line)) ⌝ }
-    ensures { λ r. ⌜ Decides (λ C. followFrom (h .follow .line) C (courseOf h (now (line .entry))) «now_ms») h (now (crumbs .entry)) r
-        (now (crumbs .exit)) ⌝ }
+fn follow_from(
+    h: Guided,
+    window: &[f32; 96],
+    crumbs: &mut [f32],
+    line: &[f32],
+    now_ms: u64,
+) -> Decided
+    requires { ⌜ GuidedFit h (length (now crumbs)) (length (now line)) ⌝ }
+    ensures { λ r. ⌜ Decides (λ C. followFrom (h .follow .line) C (courseOf (whole h (now (window .entry))) (now (line .entry))) «now_ms»)
+        (whole h (now (window .entry))) (now (crumbs .entry)) (decidedIn r (now (window .entry))) (now (crumbs .exit)) ⌝ }
 {
     let f = h.follow;
     let on = f.line;
     match on {
         Line::Nothing => {
             let best = way_home::near_here(h, line);
-            follow_best(best, h, crumbs, line, now_ms)
+            follow_best(best, h, window, crumbs, line, now_ms)
         }
         Line::Breadcrumb => way_home::brought(h, crumbs, line, now_ms),
         Line::Course => way_home::brought(h, crumbs, line, now_ms),
     }
 }
 
-// Start or stop following. Starting follows the course while it is near, else the breadcrumb back, and
-// answers no where there is no way back.
+// Starting follows the course while it is near, else the breadcrumb back, and answers no where there is no way back.
+fn set_on(
+    h: Guided,
+    window: &[f32; 96],
+    crumbs: &mut [f32],
+    line: &[f32],
+    follow: bool,
+    now_ms: u64,
+) -> Decided
+    requires { ⌜ GuidedFit h (length (now crumbs)) (length (now line)) ⌝ }
+    ensures { λ r. ⌜ Decides (λ C. setFollowing follow C (courseOf (whole h (now (window .entry))) (now (line .entry))) «now_ms»)
+        (whole h (now (window .entry))) (now (crumbs .entry)) (decidedIn r (now (window .entry))) (now (crumbs .exit)) ⌝ }
+{
+    if follow {
+        return follow_from(h, window, crumbs, line, now_ms);
+    }
+    let stopped = follow::stop_following(h, crumbs);
+    way_home::brought(stopped, crumbs, line, now_ms)
+}
+
+// Start or stop following.
 pub fn set_following(
     h: Homing,
     crumbs: &mut [f32],
@@ -60,11 +95,14 @@ pub fn set_following(
     ensures { λ r. ⌜ Decides (λ C. setFollowing follow C (courseOf h (now (line .entry))) «now_ms») h (now (crumbs .entry)) r
         (now (crumbs .exit)) ⌝ }
 {
-    if follow {
-        return follow_from(h, crumbs, line, now_ms);
+    let g = state::without_window(h);
+    let window = h.window;
+    let d = set_on(g, &window, crumbs, line, follow, now_ms);
+    let guided = d.guided;
+    Answered {
+        homing: state::with_window(guided, window),
+        yes: d.yes,
     }
-    let stopped = follow::stop_following(h, crumbs);
-    way_home::brought(stopped, crumbs, line, now_ms)
 }
 
 // ---- following by itself
@@ -76,9 +114,11 @@ fn auto_off(h: Homing, crumbs: &mut [f32]) -> Homing
     ensures { λ r. ⌜ Follows (autoOff (h .«auto_follow»)) h (now (crumbs .entry)) r (now (crumbs .exit)) ⌝ }
 {
     if h.auto_follow {
-        let mut stopped = follow::stop_following(h, crumbs);
+        let g = state::without_window(h);
+        let window = h.window;
+        let mut stopped = follow::stop_following(g, crumbs);
         stopped.auto_follow = false;
-        return stopped;
+        return state::with_window(stopped, window);
     }
     let mut next = h;
     next.auto_follow = false;

@@ -11,12 +11,14 @@ use Rattle.state.specs.declared.Event.{Event}
 use Rattle.state.specs.declared.Event.the-variants as event
 use Rattle.state.specs.declared.Homing.{Homing}
 use Rattle.state.specs.State.{State, stateOf}
+use Rattle.state.specs.Guided.{whole}
 use Rattle.state.specs.Rule.{Done, done}
 use Rattle.follow.specs.View.{Follows}
 use Rattle.matching.specs.declared.followed.Followed.{Followed}
 use Rattle.matching.specs.View.{WhereFollowed}
 use Rattle.guide.specs.declared.Told.{Told}
 use Rattle.guide.specs.Guide.{direct}
+use Rattle.update.specs.declared.Updated.{Updated}
 use Rattle.update.specs.declared.Outcome.{Outcome}
 use Rattle.update.specs.declared.Outcome.the-variants.{Straight, Stays, Ends, GoesOn}
 use Rattle.update.specs.Update.{begun, endedWith, matchedAt, update}
@@ -25,6 +27,10 @@ use Rattle.update.specs.Update.{begun, endedWith, matchedAt, update}
 pub record Updates (rule : ℕ → State → Done Event) (h : Homing) (entry : List Float) (r : Told) (exit : List Float) : Type 0 where
   pub told : r .event ≡ rule (capacity (length entry)) (stateOf h entry) .answer
   pub follows : Follows rule h entry (r .homing) exit
+
+-- the state with this window, and what the fix changed
+abbrev pub toldIn : Updated → List Float → Told
+toldIn u w = record { homing = whole (u .guided) w; event = u .event }
 
 -- what an outcome does to a state
 unfoldable pub comesTo : Outcome → ℕ → List Crumb → Point → ℕ → State → Done Event

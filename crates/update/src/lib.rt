@@ -3,7 +3,6 @@
 use crumbs::along;
 use guide::Display;
 use guide::Standing;
-use guide::Told;
 use matching::distances;
 use matching::followed;
 use matching::followed::Followed;
@@ -12,7 +11,7 @@ use segments::Best;
 use segments::costs::Nearest;
 use state::Course;
 use state::Event;
-use state::Homing;
+use state::Guided;
 use state::Line;
 use state::Shown;
 ghost use mathlib.Core.Path.{_≡_};
@@ -25,15 +24,22 @@ ghost use lib.Ieee.{Float};
 ghost use Rattle.crumbs.specs.declared.Crumb.{Crumb};
 ghost use Rattle.crumbs.specs.Crumb.{capacity};
 ghost use Rattle.state.specs.State.{State, withCourse};
-ghost use Rattle.follow.specs.View.{HomingFit, courseOf, Changes};
+ghost use Rattle.state.specs.Guided.{whole};
+ghost use Rattle.follow.specs.View.{GuidedFit, courseOf, Changes};
 ghost use Rattle.matching.specs.Match.{onLine, courseMatched};
 ghost use Rattle.matching.specs.View.{lineIn, Lent, IsFollowed, WhereFollowed};
 ghost use Rattle.guide.specs.View.{Tells, courseHeld, displaying, WhereStanding};
 ghost use Rattle.update.specs.Update.{begun, matchedAt, atCourseEnd, endedWith, matchedTo, followOn, update};
-ghost use Rattle.update.specs.View.{Updates, comesTo, MatchedIn, Becomes};
+ghost use Rattle.update.specs.View.{Updates, toldIn, comesTo, MatchedIn, Becomes};
 
 // A rider this near the course comes to its end there.
 const COURSE_END_M: f32 = 25.0;
+
+// The state after a fix without its window, and what the fix changed.
+pub struct Updated {
+    pub guided: Guided,
+    pub event: Event,
+}
 
 // What becomes of a following.
 enum Outcome {
@@ -145,8 +151,8 @@ fn matched_at(
 // ---- the state after it
 
 // Every update begins so: it is timed, and the lap is stepped.
-fn begun(h: Homing, p: Point, now_ms: u64) -> Homing
-    ensures { λ r. ⌜ Changes (begun p «now_ms») h r ⌝ }
+fn begun(h: Guided, p: Point, now_ms: u64) -> Guided
+    ensures { λ r. ⌜ ((w : List Float) → Changes (begun p «now_ms») (whole h w) (whole r w)) ⌝ }
 {
     let m = h.motion;
     let heading = m.heading;
@@ -158,8 +164,9 @@ fn begun(h: Homing, p: Point, now_ms: u64) -> Homing
 }
 
 // Begun so, with this course, and with the guide shown: built in one step.
-fn shown(h: Homing, course: Course, p: Point, now_ms: u64, d: Display) -> Told
-    ensures { λ r. ⌜ ((b : List Float) → Tells (λ s. displaying d (begun p «now_ms» (withCourse course s))) h b r) ⌝ }
+fn shown(h: Guided, course: Course, p: Point, now_ms: u64, d: Display) -> Updated
+    ensures { λ r. ⌜ ((b w : List Float)
+        → Tells (λ s. displaying d (begun p «now_ms» (withCourse course s))) (whole h w) b (toldIn r w)) ⌝ }
 {
     let m = h.motion;
     let heading = m.heading;
@@ -168,7 +175,7 @@ fn shown(h: Homing, course: Course, p: Point, now_ms: u64, d: Display) -> Told
     let follow = a.follow;
     let guide = d.guide;
     let event = a.event;
-    let homing = Homing {
+    let guided = Guided {
         lap: lap::step_pass(was, p, heading),
         updated_ms: now_ms,
         follow,
@@ -177,14 +184,21 @@ fn shown(h: Homing, course: Course, p: Point, now_ms: u64, d: Display) -> Told
         guide: Shown::Guide(guide),
         ..h
     };
-    Told { homing, event }
+    Updated { guided, event }
 }
 
 // Following ends, and the guide is made anew without it.
-fn ended_with(e: Event, h: Homing, crumbs: &mut [f32], line: &[f32], p: Point, now_ms: u64) -> Told
-    requires { ⌜ HomingFit h (length (now crumbs)) (length (now line)) ⌝ }
-    ensures { λ r. ⌜ Updates (λ C. endedWith e C (courseOf h (now (line .entry))) p «now_ms») h (now (crumbs .entry)) r
-        (now (crumbs .exit)) ⌝ }
+fn ended_with(
+    e: Event,
+    h: Guided,
+    crumbs: &mut [f32],
+    line: &[f32],
+    p: Point,
+    now_ms: u64,
+) -> Updated
+    requires { ⌜ GuidedFit h (length (now crumbs)) (length (now line)) ⌝ }
+    ensures { λ r. ⌜ ((w : List Float) → Updates (λ C. endedWith e C (courseOf (whole h w) (now (line .entry))) p «now_ms») (whole h w)
+        (now (crumbs .entry)) (toldIn r w) (now (crumbs .exit))) ⌝ }
 {
     let stopped = follow::stop_following(h, crumbs);
     let follow = stopped.follow;
@@ -205,14 +219,15 @@ fn ended_with(e: Event, h: Homing, crumbs: &mut [f32], line: &[f32], p: Point, n
         now_ms,
         guide::direct(x, crumbs, line, p),
     );
-    let homing = last.homing;
-    Told { homing, event: e }
+    let guided = last.guided;
+    Updated { guided, event: e }
 }
 
 // The guide after a fix at p.
-pub fn update(h: Homing, crumbs: &mut [f32], line: &[f32], p: Point, now_ms: u64) -> Told
-    requires { ⌜ HomingFit h (length (now crumbs)) (length (now line)) ⌝ }
-    ensures { λ r. ⌜ Updates (λ C. update C (courseOf h (now (line .entry))) p «now_ms») h (now (crumbs .entry)) r (now (crumbs .exit)) ⌝ }
+pub fn update(h: Guided, crumbs: &mut [f32], line: &[f32], p: Point, now_ms: u64) -> Updated
+    requires { ⌜ GuidedFit h (length (now crumbs)) (length (now line)) ⌝ }
+    ensures { λ r. ⌜ ((w : List Float) → Updates (λ C. update C (courseOf (whole h w) (now (line .entry))) p «now_ms») (whole h w)
+        (now (crumbs .entry)) (toldIn r w) (now (crumbs .exit))) ⌝ }
 {
     let follow = h.follow;
     let course = h.course;
@@ -230,8 +245,8 @@ pub fn update(h: Homing, crumbs: &mut [f32], line: &[f32], p: Point, now_ms: u64
     let o = outcome_at(f, crumbs, line, p);
     match o {
         Outcome::Straight => shown(h, course, p, now_ms, guide::direct(x, crumbs, line, p)),
-        Outcome::Stays => Told {
-            homing: begun(h, p, now_ms),
+        Outcome::Stays => Updated {
+            guided: begun(h, p, now_ms),
             event: Event::Nothing,
         },
         Outcome::Ends(e) => ended_with(e, begun(h, p, now_ms), crumbs, line, p, now_ms),

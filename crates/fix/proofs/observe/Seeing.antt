@@ -27,10 +27,14 @@ use Rattle.state.specs.declared.Frame.{Frame}
 use Rattle.state.specs.declared.Follow.{Follow}
 use Rattle.state.specs.declared.Course.{Course}
 use Rattle.state.specs.declared.Homing.{Homing}
+use Rattle.state.specs.declared.Guided.{Guided}
+use Rattle.state.specs.Guided.{guidedOf, whole}
 use Rattle.state.specs.State.{State, stateOf, withFrame, withFed, withHere, withHereMs, withMotion}
 use Rattle.state.specs.Rule.{done}
 use Rattle.follow.specs.View.{HomingFit, courseOf, Changes}
+use Rattle.update.specs.declared.Updated.{Updated}
 use Rattle.update.specs.Update.{update}
+use Rattle.update.specs.View.{Updates, toldIn}
 use Rattle.matching.proofs.Choosing.{picked, passed-by}
 use Rattle.update.proofs.Updating.{fit-same}
 use Rattle.course.specs.Fix.{Fix, located, framed}
@@ -228,3 +232,15 @@ module _ (x : Fix) (now : ℕ) (h r : Homing) (c : Changes (arrivedNow x now) h 
       ∙ ap (λ (k : List Crumb). fixOn (h .follow .line) C k p now (stateOf r b)) (arrived-course line)
       ∙ ap (λ (q : Point). fixOn (h .follow .line) C (courseOf h line) q now (stateOf r b)) (ep ∙ ap (λ (f : Frame). framed f x) ef)
       ∙ ap (λ (s : State). fixOn (h .follow .line) C (courseOf h line) (framed (located x (h .frame)) x) now s) (c .same b))
+
+-- the state without its window is seen on, and put together with it again
+pub seen-whole : {h r : Homing} {x y : Fix} (now : ℕ) (line : List Float) {g : Guided} {u : Updated} {w entry exit : List Float} → x ≡ y
+    → g ≡ guidedOf h → r ≡ whole (u .guided) w
+    → Updates (λ C. seen C (courseOf (whole g (h .window)) line) x now) (whole g (h .window)) entry (toldIn u w) exit
+    → Updates (λ C. seen C (courseOf h line) y now) h entry (record { homing = r; event = u .event }) exit
+seen-whole {h = h} {r = r} {x = x} {y = y} now line {u = u} {w = w} {entry = entry} {exit = exit} at apart together f =
+    subst (λ (z : Fix). Updates (λ C. seen C (courseOf h line) z now) h entry (record { homing = r; event = u .event }) exit) at
+    (subst (λ (t : Homing). Updates (λ C. seen C (courseOf h line) x now) h entry (record { homing = t; event = u .event }) exit)
+    (sym together)
+    (subst (λ (k : Guided). Updates (λ C. seen C (courseOf (whole k (h .window)) line) x now) (whole k (h .window)) entry (toldIn u w) exit)
+    apart f))

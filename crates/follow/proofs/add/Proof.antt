@@ -1,5 +1,7 @@
 -- `follow::add` meets its contract. Assumes nothing.
+use denote.Ref.{now}
 use Rattle.trail.specs.Trail as trail
+use Rattle.state.specs.Guided.{whole}
 use Rattle.follow.specs.Record.{addIn}
 use Rattle.follow.proofs.Recording.{taken-over}
 use borrow.Author.Needs.{needs}
@@ -20,7 +22,7 @@ unfolding addIn
 returns c =
     let added = c .before .before .before .before in
     let a = added .before .before .before .before .before .before .args in
-    taken-over (λ C. trail.add C (a .p)) (a .h) (added .add .ensures) (c .after-thinning .ensures)
+    taken-over (λ C. trail.add C (a .p)) (whole (a .h) (now (a .window))) (added .add .ensures) (c .after-thinning .ensures)
 
 pub add-spec : {M : Type 1} → statement M
 add-spec = tie.close (tie.spec add-requires after-thinning-requires same-length returns)

@@ -4,6 +4,7 @@ use Prim.Native.Nat.{_≤_}
 use native.Mathlib.Omega.{arith}
 use borrow.Author.Needs.{needs}
 use denote.Ref.{now}
+use Rattle.state.specs.Guided.{whole}
 use Rattle.follow.specs.View.{courseOf}
 use Rattle.follow.proofs.Engaging.{leads-some, engaged, refused}
 use Rattle.follow.proofs.engage.Statement.{statement}
@@ -22,15 +23,16 @@ engage-at-requires : tie.Need-engage-at-requires
 engage-at-requires c κs = search needs
 
 returns : tie.Need-returns
-returns c =
+returns c = λ w.
     let g = c .before .before .before .before .before .before .args in
-    engaged (courseOf (g .h) (now (g .line))) (g .now-ms) (g .h) (now (g .crumbs)) (c .engage-at .result)
-    (sym (c .before .before .leads .ensures) ∙ c .before .if1 .taken) (c .engage-at .ensures)
+    engaged (courseOf (whole (g .h) w) (now (g .line))) (g .now-ms) (whole (g .h) w) (now (g .crumbs)) (whole (c .engage-at .result) w)
+    (sym (c .before .before .leads .ensures) ∙ c .before .if1 .taken) (c .engage-at .ensures w)
 
 returns-2 : tie.Need-returns-2
-returns-2 c =
+returns-2 c = λ w.
     let g = c .before .before .before .before .before .args in
-    refused (courseOf (g .h) (now (g .line))) (g .now-ms) (g .h) (now (g .crumbs)) (sym (c .before .leads .ensures) ∙ c .if1 .left)
+    refused (courseOf (whole (g .h) w) (now (g .line))) (g .now-ms) (whole (g .h) w) (now (g .crumbs))
+    (sym (c .before .leads .ensures) ∙ c .if1 .left)
 
 pub engage-spec : {M : Type 1} → statement M
 engage-spec = tie.close (tie.spec leads-requires sub-engage-at engage-at-requires returns returns-2)

@@ -10,7 +10,7 @@ course-from-requires c κs = search needs
 
 returns : tie.Need-returns
 unfolding engageAt
-returns c = record { same = λ b. simp (← c .course-from .ensures); trail = refl }
+returns c = λ w. record { same = λ b. simp (← c .course-from .ensures); trail = refl }
 
 pub engage-at-spec : {M : Type 1} → statement M
 engage-at-spec = tie.close (tie.spec course-from-requires returns)

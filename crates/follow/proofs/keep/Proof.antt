@@ -1,5 +1,6 @@
 -- `follow::keep` meets its contract. Assumes nothing.
 use Rattle.trail.specs.Trail as trail
+use Rattle.state.specs.Guided.{whole}
 use Rattle.follow.specs.Record.{keepIn}
 use Rattle.follow.proofs.Recording.{taken-over}
 use borrow.Author.Needs.{needs}
@@ -17,10 +18,10 @@ same-length c = search needs
 
 returns : tie.Need-returns
 unfolding keepIn
-returns c =
+returns c = λ w.
     let kept = c .before .before .before .before .before in
     let a = kept .before .before .before .before .args in
-    taken-over (λ C. trail.keep C (a .p)) (a .h) (kept .keep .ensures (a .h .window)) (c .after-thinning .ensures)
+    taken-over (λ C. trail.keep C (a .p)) (whole (a .h) w) (kept .keep .ensures w) (c .after-thinning .ensures)
 
 pub keep-spec : {M : Type 1} → statement M
 keep-spec = tie.close (tie.spec keep-requires after-thinning-requires same-length returns)

@@ -4,6 +4,7 @@ use Prim.Native.Nat.{ℕ}
 use denote.Ref.{now}
 use Rattle.plane.specs.declared.Spot.{Spot}
 use Rattle.trail.specs.View.{track}
+use Rattle.state.specs.Guided.{whole}
 use Rattle.follow.specs.Engage.{leaveAt}
 use Rattle.follow.specs.View.{Follows}
 use Rattle.follow.proofs.Recording.{left-at, cut-state, left-nowhere}
@@ -18,8 +19,8 @@ enum-told : tie.Need-enum-told
 enum-told c = search needs
 
 returns : tie.Need-returns
-returns c = let s = c .before .before .before in
-    left-nowhere (s .args .h) (s .args .matched) (s .args .segment) (now (s .args .crumbs)) (c .enum-told .given .1) (s .pre .0)
+returns c = λ w. let s = c .before .before .before in
+    left-nowhere (whole (s .args .h) w) (s .args .matched) (s .args .segment) (now (s .args .crumbs)) (c .enum-told .given .1) (s .pre .0)
 
 keep-requires : tie.Need-keep-requires
 keep-requires c κs = search needs
@@ -29,11 +30,12 @@ same-length c = search needs
 
 returns-2 : tie.Need-returns-2
 unfolding track
-returns-2 c = let m = c .before .before .before .before .before .before in
+returns-2 c = λ w. let m = c .before .before .before .before .before .before in
     let s = m .before .before .before in let g = s .args in let k = c .before .before .keep in
-    subst (λ (x : Spot). Follows (λ C. leaveAt C x (g .segment)) (g .h) (now (g .crumbs)) (k .result) (k .last .1 .0))
-    (sym (m .matched .given .1)) (left-at (g .h) _ (k .result) (m .matched .given .0 .0) (g .segment) (now (g .crumbs)) (k .last .1 .0)
-    (cut-state (g .h) (g .segment) (now (g .crumbs)) (s .pre .1)) (s .pre .1) (k .ensures))
+    subst (λ (x : Spot). Follows (λ C. leaveAt C x (g .segment)) (whole (g .h) w) (now (g .crumbs)) (whole (k .result) w) (k .last .1 .0))
+    (sym (m .matched .given .1))
+    (left-at (whole (g .h) w) _ (whole (k .result) w) (m .matched .given .0 .0) (g .segment) (now (g .crumbs)) (k .last .1 .0)
+    (cut-state (whole (g .h) w) (g .segment) (now (g .crumbs)) (s .pre .1)) (s .pre .1) (k .ensures w))
 
 pub leave-at-spec : {M : Type 1} → statement M
 leave-at-spec =

@@ -4,6 +4,7 @@ use denote.Ref.{now}
 use Rattle.trail.specs.View.{track, places}
 use Rattle.state.specs.declared.Follow.{Follow}
 use Rattle.state.specs.State.{stateOf, withTrack, withFollow}
+use Rattle.state.specs.Guided.{whole}
 use Rattle.follow.specs.Engage.{forgotten}
 use Rattle.follow.proofs.Recording.{stops-at}
 use borrow.Author.Needs.{needs}
@@ -21,10 +22,12 @@ same-length c = search needs
 
 returns : tie.Need-returns
 unfolding forgotten track places
-returns c = let s = c .before .before .before .before .before .before .before .before .before in let g = s .args in
-    let k = c .before .before .leave-at in stops-at (g .h) _ (k .result) (now (g .crumbs)) (k .last .1 .0) (ap (λ (x : Follow). withFollow x
-    (withTrack (forgotten (track (g .h .trail) (g .h .window) (now (g .crumbs)))) (stateOf (g .h) (now (g .crumbs)))))
-    (c .before .before .before .before .before .before .stopped .ensures)) refl (k .ensures)
+returns c = λ w. let s = c .before .before .before .before .before .before .before .before .before in let g = s .args in
+    let h = whole (g .h) w in
+    let k = c .before .before .leave-at in
+    stops-at h _ (whole (k .result) w) (now (g .crumbs)) (k .last .1 .0) (ap (λ (x : Follow). withFollow x
+    (withTrack (forgotten (track (h .trail) w (now (g .crumbs)))) (stateOf h (now (g .crumbs)))))
+    (c .before .before .before .before .before .before .stopped .ensures)) refl (k .ensures w)
 
 pub stop-breadcrumb-spec : {M : Type 1} → statement M
 stop-breadcrumb-spec = tie.close (tie.spec stopped-requires leave-at-requires same-length returns)

@@ -13,7 +13,7 @@ held-off-requires c κs = search needs
 
 returns : tie.Need-returns
 unfolding stopCourse
-returns c = record { same = λ b. simp (← c .before .stopped .ensures, ← c .held-off .ensures); trail = refl }
+returns c = λ w. record { same = λ b. simp (← c .before .stopped .ensures, ← c .held-off .ensures); trail = refl }
 
 pub stop-course-spec : {M : Type 1} → statement M
 stop-course-spec = tie.close (tie.spec stopped-requires held-off-requires returns)

@@ -10,7 +10,7 @@ stopped-requires c κs = search needs
 
 returns : tie.Need-returns
 unfolding stopNothing
-returns c = record { same = λ b. simp (← c .stopped .ensures); trail = refl }
+returns c = λ w. record { same = λ b. simp (← c .stopped .ensures); trail = refl }
 
 pub stop-nothing-spec : {M : Type 1} → statement M
 stop-nothing-spec = tie.close (tie.spec stopped-requires returns)

@@ -18,16 +18,19 @@ use Rattle.trail.specs.declared.Trail.{Trail}
 use Rattle.trail.specs.View as trail
 use Rattle.state.specs.declared.Line.the-variants as line
 use Rattle.state.specs.declared.Homing.{Homing}
+use Rattle.state.specs.declared.Guided.{Guided}
 use Rattle.state.specs.State.{State, stateOf, withAutoFollow}
+use Rattle.state.specs.Guided.{guidedOf, whole}
 use Rattle.state.specs.Rule.{Done, done, andThen}
 use Rattle.follow.specs.declared.Answered.{Answered}
+use Rattle.follow.specs.declared.Decided.{Decided}
 use Rattle.follow.specs.Record.{flushIn}
 use Rattle.follow.specs.Engage.{engageAt, engage, stop}
-use Rattle.follow.specs.View.{HomingFit, courseOf, Changes, Follows, Asks}
+use Rattle.follow.specs.View.{HomingFit, GuidedFit, courseOf, Changes, Follows, Asks, decidedIn}
 use Rattle.guide.specs.declared.Told.{Told}
 use Rattle.update.specs.Update.{update}
 use Rattle.update.specs.View.{Updates}
-use Rattle.update.proofs.Updating.{follows-from}
+use Rattle.update.proofs.Updating.{follows-from, fit-same}
 use Rattle.calls.specs.Follow.{updateHere, brought, engagedOr, wayHome, follow, setFollowing}
 use Rattle.steer.specs.Decides.{Decides}
 use Rattle.steer.proofs.way_home.Keeping.{idle-keeps, home-keeps}
@@ -208,3 +211,18 @@ auto-set rule on h m r entry exit f c =
       beyond = subst (λ (t : Trail). behind (max (h .trail .len) (t .len)) exit ≡ behind (max (h .trail .len) (t .len)) entry)
           (sym (c .trail)) (f .beyond);
     }
+
+-- ---- the state without its window, put together with it again
+pub fit-apart : {h : Homing} {g : Guided} {room lineRoom : ℕ} → g ≡ guidedOf h → HomingFit h room lineRoom → GuidedFit g room lineRoom
+fit-apart {h = h} {g = g} {room = room} {lineRoom = lineRoom} apart f =
+    subst (λ (x : Guided). GuidedFit x room lineRoom) (sym apart) (λ w. fit-same h (whole (guidedOf h) w) room lineRoom f refl refl refl)
+
+pub set-whole : {h r : Homing} (on : Bool) (now : ℕ) (line : List Float) {g : Guided} {d : Decided} {entry exit : List Float}
+    → g ≡ guidedOf h → r ≡ whole (d .guided) (h .window)
+    → Decides (λ C. setFollowing on C (courseOf (whole g (h .window)) line) now) (whole g (h .window)) entry (decidedIn d (h .window)) exit
+    → Decides (λ C. setFollowing on C (courseOf h line) now) h entry (record { homing = r; yes = d .yes }) exit
+set-whole {h = h} on now line {d = d} {entry = entry} {exit = exit} apart together f =
+    subst (λ (t : Homing). Decides (λ C. setFollowing on C (courseOf h line) now) h entry (record { homing = t; yes = d .yes }) exit)
+    (sym together)
+    (subst (λ (k : Guided). Decides (λ C. setFollowing on C (courseOf (whole k (h .window)) line) now) (whole k (h .window)) entry
+    (decidedIn d (h .window)) exit) apart f)

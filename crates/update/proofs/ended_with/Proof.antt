@@ -1,6 +1,9 @@
 -- `update::ended_with` meets its contract. Assumes nothing.
 use denote.Ref.{now}
 use native.Mathlib.Omega.{arith}
+use mathlib.Core.List.{[]}
+use Rattle.state.specs.Guided.{whole}
+use Rattle.update.specs.View.{toldIn}
 use Rattle.update.proofs.Updating.{stands-begun}
 use Rattle.update.proofs.Ending.{placed-after, ends-with}
 use borrow.Author.Needs.{needs}
@@ -8,7 +11,7 @@ use Rattle.update.proofs.ended_with.Statement.{statement}
 use Rattle.update.proofs.ended_with.Tie as tie
 
 stop-following-requires : tie.Need-stop-following-requires
-stop-following-requires c κs = let f = c .before .before .before .pre in (f .trail, λ e. omega (arith, f .onTrail e .1))
+stop-following-requires c κs = let f = c .before .before .before .pre [] in (f .trail, λ e. omega (arith, f .onTrail e .1))
 
 direct-requires : tie.Need-direct-requires
 direct-requires c κs =
@@ -16,8 +19,8 @@ direct-requires c κs =
     let k = stopped .stop-following in
     let start = stopped .before .before .before .before in
     let g = start .args in
-    let placed = placed-after (g .h) (k .result) (now (g .crumbs)) (k .last .1 .0) (now (g .line)) (k .ensures) (start .pre .course) in
-    (k .ensures .fit .held, placed)
+    let placed = placed-after (whole (g .h) []) (whole (k .result) []) (now (g .crumbs)) (k .last .1 .0) (now (g .line)) (k .ensures [])
+    (start .pre [] .course) in (k .ensures [] .fit .held, placed)
 
 shown-requires : tie.Need-shown-requires
 shown-requires c κs = search needs
@@ -26,7 +29,7 @@ same-length : tie.Need-same-length
 same-length c = search needs
 
 returns : tie.Need-returns
-returns c =
+returns c = λ w.
     let stopped = c .before .before .before .before .before .before .before .before .before in
     let k = stopped .stop-following in
     let g = stopped .before .before .before .before .args in
@@ -34,9 +37,9 @@ returns c =
     let line = now (g .line) in
     let direct = c .before .before .direct in
     let shown = c .before .shown in
-    let shows = direct .ensures _ (stands-begun (k .result) exit line (g .p) (g .now-ms)) in
-    ends-with (g .h) (k .result) (now (g .crumbs)) exit line (k .ensures) (g .p) (g .now-ms) (g .e)
-    (direct .result) (shown .result) shows (shown .ensures exit)
+    let shows = direct .ensures _ (stands-begun (whole (k .result) w) exit line (g .p) (g .now-ms)) in
+    ends-with (whole (g .h) w) (whole (k .result) w) (now (g .crumbs)) exit line (k .ensures w) (g .p) (g .now-ms) (g .e)
+    (direct .result) (toldIn (shown .result) w) shows (shown .ensures exit w)
 
 pub ended-with-spec : {M : Type 1} → statement M
 ended-with-spec =

@@ -1,5 +1,8 @@
 -- `update::update` meets its contract. Assumes nothing.
 use denote.Ref.{now}
+use mathlib.Core.List.{[]}
+use Rattle.state.specs.Guided.{whole}
+use Rattle.update.specs.View.{toldIn}
 use Rattle.update.specs.Update.{begun}
 use Rattle.update.proofs.Deciding.{begun-followed}
 use Rattle.update.proofs.Updating.{fit-begun, stands-begun, followed-here, lent-here, last-here}
@@ -16,13 +19,16 @@ outcome-at-requires c κs =
     let start = c .before .before .before .before .before .before .before in
     let g = start .args in
     let f = c .before .followed-by .ensures in
-    (lent-here (g .h) (now (g .crumbs)) (now (g .line)) f (start .pre), last-here (g .h) (now (g .crumbs)) (now (g .line)) f (start .pre))
+    let h = whole (g .h) [] in
+    (lent-here h (now (g .crumbs)) (now (g .line)) f (start .pre []), last-here h (now (g .crumbs)) (now (g .line)) f (start .pre []))
 
 enum-told : tie.Need-enum-told
 enum-told c = search needs
 
 direct-requires : tie.Need-direct-requires
-direct-requires c κs = search needs
+direct-requires c κs =
+    let fit = c .before .before .before .before .before .before .before .before .before .before .before .pre [] in
+    (fit .trail .held, fit .course)
 
 shown-requires : tie.Need-shown-requires
 shown-requires c κs = search needs
@@ -44,7 +50,7 @@ ended-with-requires c κs =
     let start = c .before .before .before .before .before .before .before .before .before .before .before .before .before in
     let g = start .args in
     let begun = c .before .begun2 in
-    fit-begun (g .p) (g .now-ms) (g .h) (begun .result) _ _ (begun .ensures) (start .pre)
+    λ w. fit-begun (g .p) (g .now-ms) (whole (g .h) w) (whole (begun .result) w) _ _ (begun .ensures w) (start .pre w)
 
 enum-known-o-2 : tie.Need-enum-known-o-2
 enum-known-o-2 c = search needs
@@ -61,8 +67,9 @@ matched-at-requires c κs =
     let g = start .args in
     let b = now (g .crumbs) in
     let line = now (g .line) in
-    let near = match-on (g .h) b line (g .p) (g .now-ms) followed becomes (c .before .before .before .o2 .given .1) in
-    ((start .pre .trail .held, start .pre .course), (lent-here (g .h) b line followed (start .pre), near .0, near .1))
+    let near = match-on (whole (g .h) []) b line (g .p) (g .now-ms) followed becomes (c .before .before .before .o2 .given .1) in
+    let fit = start .pre [] in
+    ((fit .trail .held, fit .course), (lent-here (whole (g .h) []) b line followed fit, near .0, near .1))
 
 shown-requires-2 : tie.Need-shown-requires-2
 shown-requires-2 c κs = search needs
@@ -71,7 +78,7 @@ same-length : tie.Need-same-length
 same-length c = search needs
 
 returns : tie.Need-returns
-returns c =
+returns c = λ w.
     let became = c .before .before .before .before .before in
     let start = became .before .before .before .before .before .before .before .before in
     let followed = became .before .before .followed-by .ensures in
@@ -79,16 +86,16 @@ returns c =
     let g = start .args in
     let b = now (g .crumbs) in
     let line = now (g .line) in
-    let shows = c .before .direct .ensures _ (stands-begun (g .h) b line (g .p) (g .now-ms)) in
+    let shows = c .before .direct .ensures _ (stands-begun (whole (g .h) w) b line (g .p) (g .now-ms)) in
     let told = c .before .before .before .enum-told .given .1 in
-    goes-straight (g .h) b line (g .p) (g .now-ms) followed becomes (start .pre .trail) told
-    (c .before .direct .result) shows (c .shown .result) (c .shown .ensures b)
+    goes-straight (whole (g .h) w) b line (g .p) (g .now-ms) followed becomes (start .pre w .trail) told
+    (c .before .direct .result) shows (toldIn (c .shown .result) w) (c .shown .ensures b w)
 
 same-length-2 : tie.Need-same-length-2
 same-length-2 c = search needs
 
 returns-2 : tie.Need-returns-2
-returns-2 c =
+returns-2 c = λ w.
     let became = c .before .before .before in
     let start = became .before .before .before .before .before .before .before .before in
     let followed = became .before .before .followed-by .ensures in
@@ -96,14 +103,14 @@ returns-2 c =
     let g = start .args in
     let b = now (g .crumbs) in
     let line = now (g .line) in
-    stays (g .h) b line (g .p) (g .now-ms) followed becomes (start .pre .trail) (c .before .enum-told2 .given .1)
-    (c .begun .result) (c .begun .ensures)
+    stays (whole (g .h) w) b line (g .p) (g .now-ms) followed becomes (start .pre w .trail) (c .before .enum-told2 .given .1)
+    (whole (c .begun .result) w) (c .begun .ensures w)
 
 same-length-3 : tie.Need-same-length-3
 same-length-3 c = search needs
 
 returns-3 : tie.Need-returns-3
-returns-3 c =
+returns-3 c = λ w.
     let became = c .before .before .before .before .before .before .before .before in
     let start = became .before .before .before .before .before .before .before .before in
     let followed = became .before .before .followed-by .ensures in
@@ -113,15 +120,15 @@ returns-3 c =
     let line = now (g .line) in
     let ended = c .before .before .ended-with in
     let begun = c .before .before .before .before in
-    ends (g .h) b line (g .p) (g .now-ms) followed becomes (begun .before .before .o .given .1)
-    (begun .begun2 .result) (begun .begun2 .ensures) (ended .result) (ended .last .1 .1 .0) (ended .ensures)
+    ends (whole (g .h) w) b line (g .p) (g .now-ms) followed becomes (begun .before .before .o .given .1)
+    (whole (begun .begun2 .result) w) (begun .begun2 .ensures w) (toldIn (ended .result) w) (ended .last .1 .1 .0) (ended .ensures w)
 
 same-length-4 : tie.Need-same-length-4
 same-length-4 c = search needs
 
 returns-4 : tie.Need-returns-4
 unfolding begun
-returns-4 c =
+returns-4 c = λ w.
     let became = c .before .before .before .before .before .before .before in
     let start = became .before .before .before .before .before .before .before .before in
     let followed = became .before .before .followed-by .ensures in
@@ -130,11 +137,12 @@ returns-4 c =
     let b = now (g .crumbs) in
     let line = now (g .line) in
     let matched = c .before .matched-at in
-    let i = begun-followed (followed-here (g .h) b line followed) (g .p) (g .now-ms) in
-    let shows = matched .ensures _ (stands-begun (g .h) b line (g .p) (g .now-ms)) i in
+    let i = begun-followed (followed-here (whole (g .h) w) b line followed) (g .p) (g .now-ms) in
+    let shows = matched .ensures _ (stands-begun (whole (g .h) w) b line (g .p) (g .now-ms)) i in
     let told = c .before .before .before .before .before .o2 .given .1 in
-    goes-on (g .h) b line (g .p) (g .now-ms) followed becomes (start .pre .trail) told
-    (matched .result) shows (c .before .before .before .course-matched .ensures) (c .shown2 .result) (c .shown2 .ensures b)
+    goes-on (whole (g .h) w) b line (g .p) (g .now-ms) followed becomes (start .pre w .trail) told
+    (matched .result) shows (c .before .before .before .course-matched .ensures) (toldIn (c .shown2 .result) w)
+    (c .shown2 .ensures b w)
 
 pub update-spec : {M : Type 1} → statement M
 update-spec =

@@ -11,6 +11,8 @@ use Rattle.state.specs.State.{State, stateOf}
 use Rattle.follow.specs.View.{courseOf}
 use Rattle.update.specs.Update.{update}
 use Rattle.calls.specs.Fix.{stillMs, stillAt}
+use Rattle.state.specs.Guided.{whole}
+use Rattle.update.specs.View.{toldIn}
 use Rattle.fix.proofs.recording.Moving.{updates-after, updates-nothing, same-len}
 use Rattle.fix.proofs.observe.Seeing.{still-nowhere, still-early, still-due, movedOn, turns, headed-fit}
 use borrow.Author.Needs.{needs}
@@ -24,24 +26,24 @@ enum-told : tie.Need-enum-told
 enum-told c = search needs
 
 returns : tie.Need-returns
-returns c =
+returns c = λ w.
     let s = c .before .before .before .before in
     let g = s .args in
-    let l = courseOf (g .h) (now (g .line)) in
-    updates-nothing (λ C. stillAt (g .here) C l (g .now-ms)) (g .h) (now (g .crumbs)) (s .pre .trail)
-    (still-nowhere (g .here) (capacity (length (now (g .crumbs)))) l (g .now-ms) (stateOf (g .h) (now (g .crumbs)))
+    let l = courseOf (whole (g .h) w) (now (g .line)) in
+    updates-nothing (λ C. stillAt (g .here) C l (g .now-ms)) (whole (g .h) w) (now (g .crumbs)) (s .pre w .trail)
+    (still-nowhere (g .here) (capacity (length (now (g .crumbs)))) l (g .now-ms) (stateOf (whole (g .h) w) (now (g .crumbs)))
     (c .enum-told .given .1))
 
 elapsed-requires : tie.Need-elapsed-requires
 elapsed-requires c κs = search needs
 
 returns-2 : tie.Need-returns-2
-returns-2 c =
+returns-2 c = λ w.
     let s = c .before .before .before .before .before .before .before in
     let g = s .args in
-    let l = courseOf (g .h) (now (g .line)) in
-    updates-nothing (λ C. stillAt (g .here) C l (g .now-ms)) (g .h) (now (g .crumbs)) (s .pre .trail)
-    (still-early (g .here) (capacity (length (now (g .crumbs)))) l (g .now-ms) (stateOf (g .h) (now (g .crumbs)))
+    let l = courseOf (whole (g .h) w) (now (g .line)) in
+    updates-nothing (λ C. stillAt (g .here) C l (g .now-ms)) (whole (g .h) w) (now (g .crumbs)) (s .pre w .trail)
+    (still-early (g .here) (capacity (length (now (g .crumbs)))) l (g .now-ms) (stateOf (whole (g .h) w) (now (g .crumbs)))
     (c .before .before .before .here .given .0 .0) (c .before .before .before .here .given .1)
     (ap (λ (n : ℕ). ltb n stillMs) (sym (c .before .elapsed .ensures)) ∙ lt-ltb _ _ (c .if1 .taken)))
 
@@ -54,31 +56,31 @@ update-requires c κs =
     let p = headed .before .before .before .before .before .here .given .0 .0 in
     let s = headed .before .before .before .before .before .before .before .before .before in
     let g = s .args in
-    headed-fit p (g .now-ms) (g .h) _ _ _ (turns p (g .now-ms) (g .h) (headed .track-heading .ensures)) (s .pre)
+    λ w. headed-fit p (g .now-ms) (whole (g .h) w) _ _ _ (turns p (g .now-ms) (whole (g .h) w) (headed .track-heading .ensures)) (s .pre w)
 
 same-length : tie.Need-same-length
 same-length c = search needs
 
 returns-3 : tie.Need-returns-3
-returns-3 c =
+returns-3 c = λ w.
     let u = c .before .before in
     let headed = u .before .before in
     let due = headed .before .before in
     let at = due .before .before .before in
     let g = at .before .before .before .before .args in
     let b = now (g .crumbs) in
-    let l = courseOf (g .h) (now (g .line)) in
+    let l = courseOf (whole (g .h) w) (now (g .line)) in
     let p = at .here .given .0 .0 in
-    let on = movedOn (g .h) (headed .track-heading .result) in
-    let turned = turns p (g .now-ms) (g .h) (headed .track-heading .ensures) in
+    let on = movedOn (whole (g .h) w) (headed .track-heading .result) in
+    let turned = turns p (g .now-ms) (whole (g .h) w) (headed .track-heading .ensures) in
     let C = capacity (length b) in
-    updates-after (λ C. stillAt (g .here) C l (g .now-ms)) (λ C. update C l p (g .now-ms)) (g .h) on b (u .update .last .1 .0)
-    (u .update .result)
-    (same-len (g .h) on refl)
-    (still-due (g .here) C l (g .now-ms) (stateOf (g .h) b) p (at .here .given .1)
+    updates-after (λ C. stillAt (g .here) C l (g .now-ms)) (λ C. update C l p (g .now-ms)) (whole (g .h) w) on b
+    (u .update .last .1 .0) (toldIn (u .update .result) w)
+    (same-len (whole (g .h) w) on refl)
+    (still-due (g .here) C l (g .now-ms) (stateOf (whole (g .h) w) b) p (at .here .given .1)
     (ap (λ (n : ℕ). ltb n stillMs) (sym (due .before .elapsed .ensures)) ∙ le-ltb _ _ (due .if1 .left))
     ∙ ap (λ (x : State). update C l p (g .now-ms) x) (sym (turned .same b)))
-    (u .update .ensures)
+    (u .update .ensures w)
 
 pub still-at-spec : {M : Type 1} → statement M
 still-at-spec =

@@ -3,6 +3,9 @@ use denote.Ref.{now}
 use mathlib.Core.Path.{_≡_, sym, ap, _∙_}
 use lib.ListN.{length}
 use Rattle.state.specs.declared.Follow.{Follow}
+use Rattle.follow.specs.View.{decidedIn}
+use Rattle.state.specs.Guided.{whole}
+use Rattle.update.specs.View.{toldIn}
 use Rattle.fix.proofs.recording.Beginning.{engaged-fit, unengaged-fit, unengaged-follow}
 use Rattle.fix.proofs.recording.Turning.{idle-grows, back-room, back-idle, back-fit, turned-on, engaged-on, unengaged-on}
 use borrow.Author.Needs.{needs}
@@ -17,16 +20,20 @@ engage-requires c κs =
     let s = c .before .before .before .before in
     let g = s .args in
     let back = c .before .turned-back in
-    (back .ensures .fit _ (s .pre .0 .trail) .held, back-room (g .h) (back .result) (back .ensures) _ (s .pre .0 .course))
+    let w = now (g .window) in (
+      back .ensures w .fit _ (s .pre .0 .1 .trail) .held,
+      back-room (whole (g .h) w) (whole (back .result) w) (back .ensures w) _ (s .pre .0 .1 .course),
+    )
 
 update-requires : tie.Need-update-requires
 update-requires c κs =
     let s = c .before .before .before .before .before .before .before .before in
     let g = s .args in
     let back = c .before .before .before .before .before .turned-back in
-    engaged-fit (back .result) (now (g .crumbs)) (now (g .line)) (g .now-ms) (c .before .before .before .engage .result)
-    (c .before .before .before .engage .ensures) _ (c .before .if1 .taken) (back .ensures .fit _ (s .pre .0 .trail))
-    (back-room (g .h) (back .result) (back .ensures) _ (s .pre .0 .course))
+    let e = c .before .before .before .engage in
+    λ w. engaged-fit (whole (back .result) w) (now (g .crumbs)) (now (g .line)) (g .now-ms) (decidedIn (e .result) w)
+    (e .ensures w) _ (c .before .if1 .taken) (back .ensures w .fit _ (s .pre .0 .1 .trail))
+    (back-room (whole (g .h) w) (whole (back .result) w) (back .ensures w) _ (s .pre .0 .1 .course))
 
 same-length : tie.Need-same-length
 same-length c = search needs
@@ -37,23 +44,32 @@ returns c =
     let g = s .args in
     let back = c .before .before .before .before .before .before .before .before .before .turned-back in
     let u = c .before .before .before .update in
-    turned-on (g .h) (back .result) (back .ensures) (now (g .line)) (now (g .crumbs)) (u .last .1 .0) (g .p) (g .now-ms) _
-    (engaged-on (back .result) (now (g .line)) (now (g .crumbs)) (u .last .1 .0) (g .p)
-    (g .now-ms) (c .before .before .before .before .before .before .before .engage .result)
-    (c .before .before .before .before .before .before .before .engage .ensures) (u .result)
-    (c .before .before .before .before .before .if1 .taken) (u .ensures))
+    let e = c .before .before .before .before .before .before .before .engage in
+    let w = now (g .window) in
+    turned-on (whole (g .h) w) (whole (back .result) w) (back .ensures w) (now (g .line)) (now (g .crumbs)) (u .last .1 .0) (g .p)
+    (g .now-ms) _
+    (engaged-on (whole (back .result) w) (now (g .line)) (now (g .crumbs)) (u .last .1 .0) (g .p)
+    (g .now-ms) (decidedIn (e .result) w) (e .ensures w) (toldIn (u .result) w)
+    (c .before .before .before .before .before .if1 .taken) (u .ensures w))
 
 add-update-requires : tie.Need-add-update-requires
 add-update-requires c κs =
-    let s = c .before .before .before .before .before .before .before .before in
+    let s = c .before .before .before .before .before .before .before .before .before in
     let g = s .args in
-    let back = c .before .before .before .before .before .turned-back in
-    let e = c .before .before .before .engage in
-    let idle = back-idle (g .h) (back .result) (back .ensures) (s .pre .1 .1) in (
-      unengaged-fit (back .result) (now (g .crumbs)) (now (g .line)) (g .now-ms) (e .result) (e .ensures) _ (c .before .if1 .left)
-          (back-fit (g .h) (back .result) (back .ensures) _ _ (s .pre .1 .1) (s .pre .0)),
-      idle-grows (e .result .homing) (ap (λ (f : Follow). f .line) (unengaged-follow (back .result) (now (g .crumbs)) (now (g .line))
-          (g .now-ms) (e .result) (e .ensures) (c .before .if1 .left)) ∙ idle),
+    let back = c .before .before .before .before .before .before .turned-back in
+    let e = c .before .before .before .before .engage in
+    let w = now (g .window) in
+    let h = whole (g .h) w in
+    let cut = whole (back .result) w in
+    let r = decidedIn (e .result) w in
+    let idle = back-idle h cut (back .ensures w) (s .pre .1 .1) in (
+      (
+        s .pre .0 .0,
+        unengaged-fit cut (now (g .crumbs)) (now (g .line)) (g .now-ms) r (e .ensures w) _ (c .before .before .if1 .left)
+            (back-fit h cut (back .ensures w) _ _ (s .pre .1 .1) (s .pre .0 .1)),
+      ),
+      idle-grows (r .homing) (ap (λ (f : Follow). f .line) (unengaged-follow cut (now (g .crumbs)) (now (g .line))
+          (g .now-ms) r (e .ensures w) (c .before .before .if1 .left)) ∙ idle),
     )
 
 same-length-2 : tie.Need-same-length-2
@@ -61,14 +77,17 @@ same-length-2 c = search needs
 
 returns-2 : tie.Need-returns-2
 returns-2 c =
-    let s = c .before .before .before .before .before .before .before .before .before .before .before in
+    let s = c .before .before .before .before .before .before .before .before .before .before .before .before in
     let g = s .args in
-    let back = c .before .before .before .before .before .before .before .before .turned-back in
+    let back = c .before .before .before .before .before .before .before .before .before .turned-back in
     let u = c .before .before .add-update in
-    turned-on (g .h) (back .result) (back .ensures) (now (g .line)) (now (g .crumbs)) (u .last .1 .0) (g .p) (g .now-ms) (u .result)
-    (unengaged-on (back .result) (now (g .line)) (now (g .crumbs)) (u .last .1 .0) (g .p)
-    (g .now-ms) (c .before .before .before .before .before .before .engage .result)
-    (c .before .before .before .before .before .before .engage .ensures) (u .result) (c .before .before .before .before .if1 .left)
+    let e = c .before .before .before .before .before .before .before .engage in
+    let w = now (g .window) in
+    let t = toldIn (u .result) (u .last .1 .0) in
+    turned-on (whole (g .h) w) (whole (back .result) w) (back .ensures w) (now (g .line)) (now (g .crumbs)) (u .last .1 .1 .0) (g .p)
+    (g .now-ms) t
+    (unengaged-on (whole (back .result) w) (now (g .line)) (now (g .crumbs)) (u .last .1 .1 .0) (g .p)
+    (g .now-ms) (decidedIn (e .result) w) (e .ensures w) t (c .before .before .before .before .before .if1 .left)
     (u .ensures))
 
 pub retraced-spec : {M : Type 1} → statement M

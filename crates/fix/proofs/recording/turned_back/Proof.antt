@@ -11,12 +11,13 @@ use Rattle.trail.specs.View as trail
 use Rattle.state.specs.State.{stateOf, withTrack}
 use Rattle.follow.specs.Engage.{cutTo, forgotten}
 use Rattle.calls.specs.Fix.{turnedBack}
+use Rattle.state.specs.Guided.{whole}
 use Rattle.fix.proofs.recording.turned_back.Statement.{statement}
 use Rattle.fix.proofs.recording.turned_back.Tie as tie
 
 returns : tie.Need-returns
 unfolding turnedBack cutTo forgotten track places
-returns c =
+returns c = λ w.
     let s = c .before .before .before in
     let t = s .args .h .trail in
     record {
@@ -28,7 +29,7 @@ returns c =
             retrace = 0;
             retraceLen =
                 t .«retrace_len»;
-          }) (stateOf (s .args .h) b))
+          }) (stateOf (whole (s .args .h) w) b))
           (sym (take-crumbs (t .«retrace_len») (t .len) b (s .pre)));
       fit = λ size f.
           record {

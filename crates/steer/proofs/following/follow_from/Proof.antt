@@ -1,14 +1,16 @@
 -- `steer::following::follow_from` meets its contract. Assumes nothing.
 use mathlib.Core.Path.{sym, ap, _∙_, subst}
+use mathlib.Core.List.{[]}
 use lib.ListN.{length}
 use denote.Ref.{now}
 use Rattle.crumbs.specs.Crumb.{capacity}
 use Rattle.segments.specs.declared.Best.{Best}
 use Rattle.state.specs.declared.Line.{Line}
 use Rattle.state.specs.State.{stateOf}
-use Rattle.follow.specs.View.{courseOf}
+use Rattle.follow.specs.View.{courseOf, decidedIn}
 use Rattle.segments.specs.Inner.{InLine}
 use Rattle.calls.specs.Follow.{brought, follow, followFrom}
+use Rattle.state.specs.Guided.{whole}
 use Rattle.steer.proofs.way_home.Fitting.{near-in}
 use Rattle.steer.proofs.way_home.Deciding.{decides-as}
 use borrow.Author.Needs.{needs}
@@ -19,7 +21,7 @@ enum-told : tie.Need-enum-told
 enum-told c = search needs
 
 near-here-requires : tie.Need-near-here-requires
-near-here-requires c κs = c .before .before .before .before .before .pre .course
+near-here-requires c κs = c .before .before .before .before .before .pre [] .course
 
 follow-best-requires : tie.Need-follow-best-requires
 follow-best-requires c κs =
@@ -29,7 +31,7 @@ follow-best-requires c κs =
       (
         c .before .before .enum-told .given .1,
         subst (λ (b : Best). InLine (g .h .course .«line_len») b)
-            (sym (c .before .near-here .ensures)) (near-in (g .h .here) (g .h) (now (g .line))),
+            (sym (c .before .near-here .ensures [])) (near-in (g .h .here) (whole (g .h) []) (now (g .line))),
       ),
     )
 
@@ -54,13 +56,16 @@ returns c =
     let g = c .before .before .before .before .before .before .before .before .before .before .args in
     let k = c .before .before .follow-best in
     let C = capacity (length (now (g .crumbs))) in
-    let l = courseOf (g .h) (now (g .line)) in
+    let w = now (g .window) in
+    let h = whole (g .h) w in
+    let l = courseOf h (now (g .line)) in
     decides-as (λ C. followFrom (g .h .follow .line) C l (g .now-ms)) (λ C. follow
-    (c .before .before .before .before .near-here .result) C l (g .now-ms)) (g .h) (now (g .crumbs)) (k .result) (k .last .1 .1 .0)
-    (ap (λ (x : Line). followFrom x C l (g .now-ms) (stateOf (g .h) (now (g .crumbs))))
+    (c .before .before .before .before .near-here .result) C l (g .now-ms)) h (now (g .crumbs)) (decidedIn (k .result) w)
+    (k .last .1 .1 .1 .0)
+    (ap (λ (x : Line). followFrom x C l (g .now-ms) (stateOf h (now (g .crumbs))))
     (c .before .before .before .before .before .enum-told .given .1)
-    ∙ sym (ap (λ (b : Best). follow b C l (g .now-ms) (stateOf (g .h) (now (g .crumbs))))
-    (c .before .before .before .before .near-here .ensures)))
+    ∙ sym (ap (λ (b : Best). follow b C l (g .now-ms) (stateOf h (now (g .crumbs))))
+    (c .before .before .before .before .near-here .ensures w)))
     (k .ensures)
 
 same-length-2 : tie.Need-same-length-2
@@ -71,12 +76,14 @@ unfolding followFrom
 returns-2 c =
     let g = c .before .before .before .before .before .before .before .before .before .args in
     let k = c .before .before .brought in
-    let l = courseOf (g .h) (now (g .line)) in
-    decides-as (λ C. followFrom (g .h .follow .line) C l (g .now-ms)) (λ C. brought C l (g .now-ms)) (g .h) (now (g .crumbs)) (k .result)
-    (k .last .1 .0)
-    (ap (λ (x : Line). followFrom x (capacity (length (now (g .crumbs)))) l (g .now-ms) (stateOf (g .h) (now (g .crumbs))))
+    let w = now (g .window) in
+    let h = whole (g .h) w in
+    let l = courseOf h (now (g .line)) in
+    decides-as (λ C. followFrom (g .h .follow .line) C l (g .now-ms)) (λ C. brought C l (g .now-ms)) h (now (g .crumbs))
+    (decidedIn (k .result) w) (k .last .1 .0)
+    (ap (λ (x : Line). followFrom x (capacity (length (now (g .crumbs)))) l (g .now-ms) (stateOf h (now (g .crumbs))))
     (c .before .before .before .before .enum-told2 .given .1))
-    (k .ensures)
+    (k .ensures w)
 
 same-length-3 : tie.Need-same-length-3
 same-length-3 c = search needs
@@ -86,12 +93,14 @@ unfolding followFrom
 returns-3 c =
     let g = c .before .before .before .before .before .before .before .before .before .args in
     let k = c .before .before .brought2 in
-    let l = courseOf (g .h) (now (g .line)) in
-    decides-as (λ C. followFrom (g .h .follow .line) C l (g .now-ms)) (λ C. brought C l (g .now-ms)) (g .h) (now (g .crumbs)) (k .result)
-    (k .last .1 .0)
-    (ap (λ (x : Line). followFrom x (capacity (length (now (g .crumbs)))) l (g .now-ms) (stateOf (g .h) (now (g .crumbs))))
+    let w = now (g .window) in
+    let h = whole (g .h) w in
+    let l = courseOf h (now (g .line)) in
+    decides-as (λ C. followFrom (g .h .follow .line) C l (g .now-ms)) (λ C. brought C l (g .now-ms)) h (now (g .crumbs))
+    (decidedIn (k .result) w) (k .last .1 .0)
+    (ap (λ (x : Line). followFrom x (capacity (length (now (g .crumbs)))) l (g .now-ms) (stateOf h (now (g .crumbs))))
     (c .before .before .before .before .enum-told3 .given .1))
-    (k .ensures)
+    (k .ensures w)
 
 pub follow-from-spec : {M : Type 1} → statement M
 follow-from-spec =
