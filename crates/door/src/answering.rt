@@ -49,8 +49,7 @@ pub extern "C" fn cittumay_len(words: &[u64], numbers: &[f32], len: &mut usize) 
     if !there.held {
         return NO_STATE;
     }
-    let homing = there.homing;
-    let answer = answers::len(homing);
+    let answer = answers::len(there.homing);
     match answer {
         Count::Is(n) => {
             *len = n;
@@ -69,8 +68,7 @@ pub extern "C" fn cittumay_following(words: &[u64], numbers: &[f32], yes: &mut u
     if !there.held {
         return NO_STATE;
     }
-    let homing = there.homing;
-    let answer = answers::following(homing);
+    let answer = answers::following(there.homing);
     numbering::put_verdict(answer, yes)
 }
 
@@ -83,8 +81,7 @@ pub extern "C" fn cittumay_following_course(words: &[u64], numbers: &[f32], yes:
     if !there.held {
         return NO_STATE;
     }
-    let homing = there.homing;
-    let answer = answers::following_course(homing);
+    let answer = answers::following_course(there.homing);
     numbering::put_verdict(answer, yes)
 }
 
@@ -152,8 +149,7 @@ pub extern "C" fn cittumay_course_ahead(
     if !there.held {
         return NO_STATE;
     }
-    let homing = there.homing;
-    let answer = answers::course_ahead(homing);
+    let answer = answers::course_ahead(there.homing);
     put_ahead(answer, known, count, matched, east, north)
 }
 
@@ -176,8 +172,7 @@ pub extern "C" fn cittumay_route_home(
     if !there.held {
         return NO_STATE;
     }
-    let homing = there.homing;
-    let answer = answers::route_home(homing);
+    let answer = answers::route_home(there.homing);
     put_ahead(answer, known, count, matched, east, north)
 }
 
@@ -208,8 +203,7 @@ pub extern "C" fn cittumay_heading(
     if !there.held {
         return NO_STATE;
     }
-    let homing = there.homing;
-    let answer = answers::heading(homing);
+    let answer = answers::heading(there.homing);
     match answer {
         Riding::Heading(way) => {
             put_heading(way, known, heading);
@@ -289,8 +283,7 @@ pub extern "C" fn cittumay_guide(
     if !there.held {
         return NO_STATE;
     }
-    let homing = there.homing;
-    let answer = answers::guide(homing);
+    let answer = answers::guide(there.homing);
     match answer {
         Showing::Guide(g) => {
             *shown = 1;
@@ -326,8 +319,7 @@ pub extern "C" fn cittumay_way_back(
     if !there.held {
         return numbering::no_state_with(crumbs.len());
     }
-    let homing = there.homing;
-    let answer = answers::way_back(homing, crumbs);
+    let answer = answers::way_back(there.homing, crumbs);
     match answer {
         Back::Metres(straight, over) => {
             *known = 1;
@@ -366,9 +358,8 @@ pub extern "C" fn cittumay_crumbs(
     if !there.held {
         return no_part(numbering::no_state_with(crumbs.len()), len);
     }
-    let homing = there.homing;
     let mut refused = 0;
-    let held = answers::crumbs(homing, crumbs, &mut refused);
+    let held = answers::crumbs(there.homing, crumbs, &mut refused);
     *len = crumbs::capacity(held.len());
     refused
 }
@@ -388,9 +379,8 @@ pub extern "C" fn cittumay_course(
     if !there.held {
         return no_part(NO_STATE, len);
     }
-    let homing = there.homing;
     let mut refused = 0;
-    let placed = answers::course(homing, line, &mut refused);
+    let placed = answers::course(there.homing, line, &mut refused);
     *len = crumbs::capacity(placed.len());
     refused
 }

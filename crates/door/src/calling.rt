@@ -72,9 +72,8 @@ fn keep_changed(c: Changed, words: &mut [u64], numbers: &mut [f32]) -> u8
     ensures { λ r. ⌜ r ≡ numberOf (saysReply (c .answer)) ⌝ }
     ensures { λ r. ⌜ Leaves r (c .homing) (now (words .entry)) (now (numbers .entry)) (now (words .exit)) (now (numbers .exit)) ⌝ }
 {
-    let homing = c.homing;
     let answer = c.answer;
-    keep(numbering::number_of_reply(answer), homing, words, numbers)
+    keep(numbering::number_of_reply(answer), c.homing, words, numbers)
 }
 
 // ---- the guide made anew
@@ -100,8 +99,7 @@ pub extern "C" fn cittumay_reset(words: &mut [u64], numbers: &mut [f32]) -> u8
     if !read.held {
         return NO_STATE;
     }
-    let h = read.homing;
-    let c = homing::reset(h);
+    let c = homing::reset(read.homing);
     keep_changed(c, words, numbers)
 }
 
@@ -114,8 +112,7 @@ pub extern "C" fn cittumay_end_replay(words: &mut [u64], numbers: &mut [f32]) ->
     if !read.held {
         return NO_STATE;
     }
-    let h = read.homing;
-    let c = homing::end_replay(h);
+    let c = homing::end_replay(read.homing);
     keep_changed(c, words, numbers)
 }
 
@@ -137,8 +134,7 @@ pub extern "C" fn cittumay_set_course(
     if !read.held {
         return NO_STATE;
     }
-    let h = read.homing;
-    let c = homing::set_course(h, line, lats, lons);
+    let c = homing::set_course(read.homing, line, lats, lons);
     keep_changed(c, words, numbers)
 }
 
@@ -160,12 +156,10 @@ fn observe_place(
     if !read.held {
         return numbering::no_state_with(crumbs.len());
     }
-    let h = read.homing;
-    let o = homing::observe(h, crumbs, line, place, now_ms);
-    let homing = o.homing;
+    let o = homing::observe(read.homing, crumbs, line, place, now_ms);
     let answer = o.answer;
     *event = event_written(answer, *event);
-    keep(number_of_sight(answer), homing, words, numbers)
+    keep(number_of_sight(answer), o.homing, words, numbers)
 }
 
 // The ride's position. What it changed is written to `event`.
@@ -227,8 +221,7 @@ pub extern "C" fn cittumay_replay(
     if !read.held {
         return numbering::no_state_with(crumbs.len());
     }
-    let h = read.homing;
-    let c = homing::replay(h, crumbs, lat, lon, at_ms);
+    let c = homing::replay(read.homing, crumbs, lat, lon, at_ms);
     keep_changed(c, words, numbers)
 }
 
@@ -249,8 +242,7 @@ pub extern "C" fn cittumay_set_auto_follow(
     if !read.held {
         return numbering::no_state_with(crumbs.len());
     }
-    let h = read.homing;
-    let c = homing::set_auto_follow(h, crumbs, on != 0);
+    let c = homing::set_auto_follow(read.homing, crumbs, on != 0);
     keep_changed(c, words, numbers)
 }
 
@@ -273,10 +265,12 @@ pub extern "C" fn cittumay_set_following(
     if !read.held {
         return numbering::no_state_with(crumbs.len());
     }
-    let h = read.homing;
-    let f = homing::set_following(h, crumbs, line, on != 0, now_ms);
-    let homing = f.homing;
+    let f = homing::set_following(read.homing, crumbs, line, on != 0, now_ms);
     let answer = f.answer;
-    let number = numbering::put_verdict(answer, done);
-    keep(number, homing, words, numbers)
+    keep(
+        numbering::put_verdict(answer, done),
+        f.homing,
+        words,
+        numbers,
+    )
 }

@@ -38,8 +38,7 @@ pub extern "C" fn cittumay_rebuild_caught_up(rebuild: &[u64], upper: usize, yes:
     if !begun.held {
         return NO_STATE;
     }
-    let r = begun.rebuild;
-    *yes = numbering::flag_of(restart::caught_up(r, upper));
+    *yes = numbering::flag_of(restart::caught_up(begun.rebuild, upper));
     0
 }
 
@@ -86,21 +85,20 @@ pub extern "C" fn cittumay_rebuild_step(
         (slices (now (rebuild .exit)) (now (words .exit)) (now (numbers .exit))) ⌝ }
 {
     let begun = stored::load_rebuild(rebuild);
-    if !begun.held {
-        return numbering::no_state_with(crumbs.len());
-    }
     let there = stored::load(words, numbers);
-    if !there.held {
+    if !(begun.held & there.held) {
         return numbering::no_state_with(crumbs.len());
     }
-    let r = begun.rebuild;
-    let h = there.homing;
-    let stepped = restart::step(r, h, crumbs, file, upper, budget);
+    let stepped = restart::step(begun.rebuild, there.homing, crumbs, file, upper, budget);
     let answer = stepped.answer;
-    let number = numbering::put_verdict(answer, done);
-    let next = stepped.rebuild;
-    let homing = stepped.homing;
-    keep_both(number, next, homing, rebuild, words, numbers)
+    keep_both(
+        numbering::put_verdict(answer, done),
+        stepped.rebuild,
+        stepped.homing,
+        rebuild,
+        words,
+        numbers,
+    )
 }
 
 // A time that is known where the flag is set.
@@ -127,23 +125,16 @@ pub extern "C" fn cittumay_rebuild_settle(
         (slices (now (rebuild .exit)) (now (words .exit)) (now (numbers .exit))) ⌝ }
 {
     let begun = stored::load_rebuild(rebuild);
-    if !begun.held {
-        return NO_STATE;
-    }
     let there = stored::load(words, numbers);
-    if !there.held {
+    if !(begun.held & there.held) {
         return NO_STATE;
     }
-    let r = begun.rebuild;
-    let h = there.homing;
-    let settled = restart::settle(r, h, utc_of(known, utc));
+    let settled = restart::settle(begun.rebuild, there.homing, utc_of(known, utc));
     let answer = settled.answer;
-    let next = settled.rebuild;
-    let homing = settled.homing;
     keep_both(
         numbering::number_of_reply(answer),
-        next,
-        homing,
+        settled.rebuild,
+        settled.homing,
         rebuild,
         words,
         numbers,

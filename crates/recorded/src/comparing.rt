@@ -35,84 +35,33 @@ pub fn print_unreadable(number: u64) {
     print(b" calls stands no record\n");
 }
 
-fn print_guide(k: usize) {
-    match k {
-        0 => print(b"mode"),
-        1 => print(b"guide's following"),
-        2 => print(b"guide's course"),
-        3 => print(b"course_near"),
-        4 => print(b"direct_m"),
-        5 => print(b"track_m"),
-        6 => print(b"off_m"),
-        7 => print(b"bearing"),
-        8 => print(b"whether the guide has a heading"),
-        _ => print(b"guide's heading"),
-    }
-}
-
-fn print_ahead(k: usize) {
-    match k {
-        0 => print(b" known"),
-        1 => print(b" end"),
-        2 => print(b" matched"),
-        3 => print(b" east"),
-        _ => print(b" north"),
-    }
-}
-
-fn print_riding(field: usize) {
-    match field {
-        records::FOLLOWING => print(b"following"),
-        records::FOLLOWING_COURSE => print(b"following_course"),
-        records::HEADING_KNOWN => print(b"heading known"),
-        records::HEADING => print(b"heading"),
-        records::BACK_KNOWN => print(b"way_back known"),
-        records::DIRECT => print(b"way_back direct"),
-        records::TRACK => print(b"way_back track"),
-        _ => print(b"len"),
-    }
-}
-
-fn print_last(field: usize) {
-    match field {
-        records::SLOT => print(b"slot"),
-        records::CLOCK => print(b"clock"),
-        records::PENDING => print(b"pending"),
-        records::UTC_KNOWN => print(b"pending time known"),
-        records::UTC => print(b"pending time"),
-        records::TOLERANCE => print(b"tolerance"),
-        records::PASSES => print(b"passes"),
-        records::CRUMBS => print(b"count of crumbs"),
-        _ => print(b"count of the course"),
-    }
-}
-
-fn print_first(field: usize) {
-    match field {
-        records::REFUSED => print(b"refusal"),
-        records::ANSWER => print(b"answer"),
-        records::BEHIND => print(b"refusal behind it"),
-        records::SHOWN => print(b"guide shown"),
-        _ => print(b"arrow"),
-    }
-}
-
-// An answer's name.
-fn print_field(field: usize) {
-    match field {
-        records::GUIDE..=13 => print_guide(field - records::GUIDE),
-        records::COURSE_AHEAD..=21 => {
-            print(b"course_ahead");
-            print_ahead(field - records::COURSE_AHEAD);
+// Prints line `k` of a text in which every line is ended.
+fn print_line(text: &[u8], k: usize) {
+    let mut left = k;
+    for i in 0..text.len() {
+        if text[i] == b'\n' {
+            if left == 0 {
+                return;
+            }
+            left -= 1;
+        } else if left == 0 {
+            print(&[text[i]]);
         }
-        records::ROUTE_HOME..=26 => {
-            print(b"route_home");
-            print_ahead(field - records::ROUTE_HOME);
-        }
-        records::FOLLOWING..=records::LEN => print_riding(field),
-        records::SLOT..=records::COURSE => print_last(field),
-        _ => print_first(field),
     }
+}
+
+// Prints an answer's name.
+fn print_field(k: usize) {
+    print_line(
+        b"\
+          refusal\nanswer\nrefusal behind it\nguide shown\nmode\nguide's following\nguide's course\ncourse_near\n\
+          direct_m\ntrack_m\noff_m\nbearing\nwhether the guide has a heading\nguide's heading\narrow\nfollowing\n\
+          following_course\ncourse_ahead known\ncourse_ahead end\ncourse_ahead matched\ncourse_ahead east\n\
+          course_ahead north\nroute_home known\nroute_home end\nroute_home matched\nroute_home east\nroute_home north\n\
+          heading known\nheading\nway_back known\nway_back direct\nway_back track\nlen\nslot\nclock\npending\n\
+          pending time known\npending time\ntolerance\npasses\ncount of crumbs\ncount of the course\n",
+        k,
+    );
 }
 
 // The number behind this one.

@@ -18,13 +18,11 @@ mod records;
 use course::POINTS;
 use performing::MOST_CRUMBS;
 use performing::MOST_LINE;
+use performing::State;
 use records::ANSWERS;
 use records::BLOCK;
 use records::HEADER;
 use records::RECORD;
-use stored::NUMBERS;
-use stored::REBUILD_WORDS;
-use stored::WORDS;
 
 // ---- the format
 
@@ -77,33 +75,25 @@ fn parts_agree(
     comparing::numbers_agree(number, is_end, b"course, number ", course, block)
 }
 
-// Performs a call that is given the front of the block, and compares it.
-fn perform(
+// The state behind a call, and whether it agrees with what is stored.
+struct Replayed {
+    state: State,
+    agrees: bool,
+}
+
+// Asks a question, and compares it.
+fn ask(
     number: u64,
     is_end: bool,
     record: &[u8; RECORD],
-    own: usize,
-    words: &mut [u64; WORDS],
-    numbers: &mut [f32; NUMBERS],
-    rebuild: &mut [u64; REBUILD_WORDS],
-    crumbs: &mut [f32; MOST_CRUMBS],
-    line: &mut [f32; MOST_LINE],
+    s: State,
+    crumbs: &[f32],
+    line: &[f32],
     block: &mut [u8; BLOCK],
 ) -> bool {
     let mut told = [0u64; ANSWERS];
     let mut thinned = [0.0; MOST_CRUMBS];
-    performing::perform(
-        record,
-        block,
-        own,
-        words,
-        numbers,
-        rebuild,
-        crumbs,
-        line,
-        &mut thinned,
-        &mut told,
-    );
+    performing::ask(record, s, crumbs, line, &mut thinned, &mut told);
     if !comparing::agrees(number, is_end, record, &told) {
         return false;
     }
@@ -113,86 +103,69 @@ fn perform(
     parts_agree(number, is_end, &told, crumbs, line, block)
 }
 
-// Replays call `number`, from 0, or the end of so many calls. False: it differs or is not there, which is printed.
+// Performs a call that is given the front of the block, and compares it.
+fn perform(
+    number: u64,
+    record: &[u8; RECORD],
+    block: &[u8; BLOCK],
+    own: usize,
+    s: State,
+    crumbs: &mut [f32],
+    line: &mut [f32],
+) -> Replayed {
+    let mut told = [0u64; ANSWERS];
+    let state = performing::perform(record, block, own, s, crumbs, line, &mut told);
+    let agrees = comparing::agrees(number, false, record, &told);
+    Replayed { state, agrees }
+}
+
+// Reads a record, and to the front of the block what its call is given. False: they are not there, which is printed.
+fn read_call(
+    number: u64,
+    is_end: bool,
+    record: &mut [u8; RECORD],
+    block: &mut [u8; BLOCK],
+) -> bool {
+    if !records::read_record(record) {
+        comparing::print_cut_off();
+        return false;
+    }
+    if !fits(record, is_end) {
+        comparing::print_unreadable(number);
+        return false;
+    }
+    if !records::read(block, records::field(record, records::GIVEN) as usize) {
+        comparing::print_cut_off();
+        return false;
+    }
+    true
+}
+
+// Replays call `number`, from 0, or the end of so many calls. Where it differs or is not there, that is printed.
 fn replay(
     number: u64,
     is_end: bool,
     own: usize,
-    words: &mut [u64; WORDS],
-    numbers: &mut [f32; NUMBERS],
-    rebuild: &mut [u64; REBUILD_WORDS],
+    s: State,
     crumbs: &mut [f32; MOST_CRUMBS],
     line: &mut [f32; MOST_LINE],
-    block: &mut [u8; BLOCK],
-) -> bool {
+) -> Replayed {
     let mut record = [0u8; RECORD];
-    if !records::read_record(&mut record) {
-        comparing::print_cut_off();
-        return false;
+    let mut block = [0u8; BLOCK];
+    if !read_call(number, is_end, &mut record, &mut block) {
+        return Replayed {
+            state: s,
+            agrees: false,
+        };
     }
-    if !fits(&record, is_end) {
-        comparing::print_unreadable(number);
-        return false;
+    if records::field(&record, records::CALL) > performing::CAUGHT_UP {
+        let agrees = ask(number, is_end, &record, s, crumbs, line, &mut block);
+        return Replayed { state: s, agrees };
     }
-    if !records::read(block, records::field(&record, records::GIVEN) as usize) {
-        comparing::print_cut_off();
-        return false;
-    }
-    perform(
-        number,
-        is_end,
-        &record,
-        own,
-        words,
-        numbers,
-        rebuild,
-        crumbs,
-        line,
-        block,
-    )
+    perform(number, &record, &block, own, s, crumbs, line)
 }
 
 // ---- the ride
-
-// Replays so many calls and the end behind them, with a rebuild that has nothing to read. False: as `replay`.
-fn replay_all(
-    calls: u64,
-    own: usize,
-    words: &mut [u64; WORDS],
-    numbers: &mut [f32; NUMBERS],
-    rebuild: &mut [u64; REBUILD_WORDS],
-    crumbs: &mut [f32; MOST_CRUMBS],
-    line: &mut [f32; MOST_LINE],
-    block: &mut [u8; BLOCK],
-) -> bool {
-    door::rebuilding::cittumay_rebuild_new(rebuild, 0, 0);
-    for number in 0..calls {
-        if !replay(
-            number,
-            false,
-            own,
-            words,
-            numbers,
-            rebuild,
-            crumbs,
-            line,
-            block,
-        ) {
-            return false;
-        }
-    }
-    replay(
-        calls,
-        true,
-        own,
-        words,
-        numbers,
-        rebuild,
-        crumbs,
-        line,
-        block,
-    )
-}
 
 // All calls agree.
 fn finish(calls: u64) {
@@ -204,23 +177,20 @@ fn finish(calls: u64) {
     comparing::print(b"\n");
 }
 
+// Replays so many calls and the end behind them.
 fn replay_ride(calls: u64, own: usize) {
-    let mut words = [0u64; WORDS];
-    let mut numbers = [0.0; NUMBERS];
-    let mut rebuild = [0u64; REBUILD_WORDS];
     let mut crumbs = [0.0; MOST_CRUMBS];
     let mut line = [0.0; MOST_LINE];
-    let mut block = [0u8; BLOCK];
-    if replay_all(
-        calls,
-        own,
-        &mut words,
-        &mut numbers,
-        &mut rebuild,
-        &mut crumbs,
-        &mut line,
-        &mut block,
-    ) {
+    let mut state = performing::none();
+    for number in 0..calls {
+        let replayed = replay(number, false, own, state, &mut crumbs, &mut line);
+        if !replayed.agrees {
+            return;
+        }
+        state = replayed.state;
+    }
+    let end = replay(calls, true, own, state, &mut crumbs, &mut line);
+    if end.agrees {
         finish(calls);
     }
 }

@@ -42,7 +42,7 @@ pub const STEP: u64 = 10;
 
 const SETTLE: u64 = 11;
 
-const CAUGHT_UP: u64 = 12;
+pub const CAUGHT_UP: u64 = 12;
 
 pub const THIN: u64 = 13;
 
@@ -59,6 +59,33 @@ pub const MOST_LINE: usize = crumbs::STRIDE * (POINTS + 1);
 // Bytes of a point: latitude and longitude.
 pub const POINT: usize = 8;
 
+// What the door is lent besides the buffers: a guide's words and numbers, and a rebuild's words.
+pub struct State {
+    pub words: [u64; WORDS],
+    pub numbers: [f32; NUMBERS],
+    pub rebuild: [u64; REBUILD_WORDS],
+}
+
+// What a call gives: the state behind it, the number of its refusal, and its event or flag.
+struct Reply {
+    state: State,
+    refused: u8,
+    answer: u8,
+}
+
+// A guide that holds nothing, with a rebuild that has nothing to read.
+pub fn none() -> State {
+    let mut rebuild = [0u64; REBUILD_WORDS];
+    rebuilding::cittumay_rebuild_new(&mut rebuild, 0, 0);
+    let words = [0u64; WORDS];
+    let numbers = [0.0; NUMBERS];
+    State {
+        words,
+        numbers,
+        rebuild,
+    }
+}
+
 fn flag(number: u64) -> u8 {
     if number == 0 {
         return 0;
@@ -66,7 +93,64 @@ fn flag(number: u64) -> u8 {
     1
 }
 
+fn least(a: usize, b: usize) -> usize
+    ensures { λ r. ⌜ r ≤ b ⌝ }
+{
+    if a < b {
+        return a;
+    }
+    b
+}
+
+// The first numbers of a buffer, as many as there are of `count`.
+fn front(buffer: &[f32], count: usize) -> &[f32] {
+    let n = least(count, buffer.len());
+    &buffer[..n]
+}
+
 // ---- the guide's calls
+
+// The reply of a call that leaves the rebuild as it is.
+fn guide_reply(
+    s: State,
+    words: [u64; WORDS],
+    numbers: [f32; NUMBERS],
+    refused: u8,
+    answer: u8,
+) -> Reply {
+    let rebuild = s.rebuild;
+    let state = State {
+        words,
+        numbers,
+        rebuild,
+    };
+    Reply {
+        state,
+        refused,
+        answer,
+    }
+}
+
+fn new(s: State, crumbs: &[f32]) -> Reply {
+    let mut words = s.words;
+    let mut numbers = s.numbers;
+    let refused = calling::cittumay_new(&mut words, &mut numbers, crumbs);
+    guide_reply(s, words, numbers, refused, 0)
+}
+
+fn reset(s: State) -> Reply {
+    let mut words = s.words;
+    let mut numbers = s.numbers;
+    let refused = calling::cittumay_reset(&mut words, &mut numbers);
+    guide_reply(s, words, numbers, refused, 0)
+}
+
+fn end_replay(s: State) -> Reply {
+    let mut words = s.words;
+    let mut numbers = s.numbers;
+    let refused = calling::cittumay_end_replay(&mut words, &mut numbers);
+    guide_reply(s, words, numbers, refused, 0)
+}
 
 fn lat(record: &[u8; RECORD]) -> i32 {
     records::signed(records::low(records::field(record, FIRST)))
@@ -76,18 +160,13 @@ fn lon(record: &[u8; RECORD]) -> i32 {
     records::signed(records::low(records::field(record, SECOND)))
 }
 
-fn observe(
-    record: &[u8; RECORD],
-    words: &mut [u64],
-    numbers: &mut [f32],
-    crumbs: &mut [f32],
-    line: &[f32],
-    told: &mut [u64; ANSWERS],
-) -> u8 {
+fn observe(record: &[u8; RECORD], s: State, crumbs: &mut [f32], line: &[f32]) -> Reply {
+    let mut words = s.words;
+    let mut numbers = s.numbers;
     let mut event = 0;
     let refused = calling::cittumay_observe(
-        words,
-        numbers,
+        &mut words,
+        &mut numbers,
         crumbs,
         line,
         lat(record),
@@ -95,185 +174,229 @@ fn observe(
         records::field(record, THIRD),
         &mut event,
     );
-    told[records::ANSWER] = event as u64;
-    refused
+    guide_reply(s, words, numbers, refused, event)
 }
 
-fn missing(
-    record: &[u8; RECORD],
-    words: &mut [u64],
-    numbers: &mut [f32],
-    crumbs: &mut [f32],
-    line: &[f32],
-    told: &mut [u64; ANSWERS],
-) -> u8 {
+fn missing(record: &[u8; RECORD], s: State, crumbs: &mut [f32], line: &[f32]) -> Reply {
+    let mut words = s.words;
+    let mut numbers = s.numbers;
     let mut event = 0;
     let refused = calling::cittumay_observe_missing(
-        words,
-        numbers,
+        &mut words,
+        &mut numbers,
         crumbs,
         line,
         records::field(record, THIRD),
         &mut event,
     );
-    told[records::ANSWER] = event as u64;
-    refused
+    guide_reply(s, words, numbers, refused, event)
 }
 
-fn replay(record: &[u8; RECORD], words: &mut [u64], numbers: &mut [f32], crumbs: &mut [f32]) -> u8 {
-    let at_ms = records::field(record, THIRD);
-    calling::cittumay_replay(words, numbers, crumbs, lat(record), lon(record), at_ms)
+fn replay(record: &[u8; RECORD], s: State, crumbs: &mut [f32]) -> Reply {
+    let mut words = s.words;
+    let mut numbers = s.numbers;
+    let refused = calling::cittumay_replay(
+        &mut words,
+        &mut numbers,
+        crumbs,
+        lat(record),
+        lon(record),
+        records::field(record, THIRD),
+    );
+    guide_reply(s, words, numbers, refused, 0)
 }
 
 // The points that a call is given, and how many there are.
-fn points(given: &[u8], lats: &mut [i32; POINTS], lons: &mut [i32; POINTS]) -> usize {
+struct Points {
+    lats: [i32; POINTS],
+    lons: [i32; POINTS],
+    count: usize,
+}
+
+fn read_points(given: &[u8]) -> Points {
+    let mut lats = [0i32; POINTS];
+    let mut lons = [0i32; POINTS];
     for i in 0..POINTS {
         if given.len() / POINT <= i {
-            return i;
+            return Points {
+                lats,
+                lons,
+                count: i,
+            };
         }
         lats[i] = records::signed(records::pattern_at(given, 2 * i));
         lons[i] = records::signed(records::pattern_at(given, 2 * i + 1));
     }
-    POINTS
+    Points {
+        lats,
+        lons,
+        count: POINTS,
+    }
 }
 
-// Sets the course of so many points.
-fn set_points(
-    count: usize,
-    lats: &[i32],
-    lons: &[i32],
-    words: &mut [u64],
-    numbers: &mut [f32],
-    line: &mut [f32],
-) -> u8 {
+// Sets the course of the first `count` points.
+fn set_points(count: usize, lats: &[i32], lons: &[i32], s: State, line: &mut [f32]) -> Reply {
+    let mut words = s.words;
+    let mut numbers = s.numbers;
     let n = least(count, lats.len());
     let m = least(count, lons.len());
-    calling::cittumay_set_course(words, numbers, line, &lats[..n], &lons[..m])
+    let refused = calling::cittumay_set_course(
+        &mut words,
+        &mut numbers,
+        line,
+        &lats[..n],
+        &lons[..m],
+    );
+    guide_reply(s, words, numbers, refused, 0)
 }
 
-// Sets the course that is given, which is read to these latitudes and longitudes.
-fn set_read(
-    given: &[u8],
-    lats: &mut [i32; POINTS],
-    lons: &mut [i32; POINTS],
-    words: &mut [u64],
-    numbers: &mut [f32],
-    line: &mut [f32],
-) -> u8 {
-    let count = points(given, lats, lons);
-    set_points(count, lats, lons, words, numbers, line)
+fn set_course(given: &[u8], s: State, line: &mut [f32]) -> Reply {
+    let read = read_points(given);
+    let lats = read.lats;
+    let lons = read.lons;
+    set_points(read.count, &lats, &lons, s, line)
 }
 
-fn set_course(given: &[u8], words: &mut [u64], numbers: &mut [f32], line: &mut [f32]) -> u8 {
-    let mut lats = [0i32; POINTS];
-    let mut lons = [0i32; POINTS];
-    set_read(given, &mut lats, &mut lons, words, numbers, line)
+fn set_auto_follow(record: &[u8; RECORD], s: State, crumbs: &mut [f32]) -> Reply {
+    let mut words = s.words;
+    let mut numbers = s.numbers;
+    let on = flag(records::field(record, FIRST));
+    let refused = calling::cittumay_set_auto_follow(&mut words, &mut numbers, crumbs, on);
+    guide_reply(s, words, numbers, refused, 0)
 }
 
-fn set_following(
-    record: &[u8; RECORD],
-    words: &mut [u64],
-    numbers: &mut [f32],
-    crumbs: &mut [f32],
-    line: &[f32],
-    told: &mut [u64; ANSWERS],
-) -> u8 {
+fn set_following(record: &[u8; RECORD], s: State, crumbs: &mut [f32], line: &[f32]) -> Reply {
+    let mut words = s.words;
+    let mut numbers = s.numbers;
     let mut done = 0;
     let refused = calling::cittumay_set_following(
-        words,
-        numbers,
+        &mut words,
+        &mut numbers,
         crumbs,
         line,
         flag(records::field(record, FIRST)),
         records::field(record, THIRD),
         &mut done,
     );
-    told[records::ANSWER] = done as u64;
-    refused
+    guide_reply(s, words, numbers, refused, done)
 }
 
 fn change(
     which: u64,
     record: &[u8; RECORD],
     given: &[u8],
-    words: &mut [u64],
-    numbers: &mut [f32],
+    s: State,
     crumbs: &mut [f32],
     line: &mut [f32],
-    told: &mut [u64; ANSWERS],
-) -> u8 {
+) -> Reply {
     match which {
-        NEW => calling::cittumay_new(words, numbers, crumbs),
-        RESET => calling::cittumay_reset(words, numbers),
-        OBSERVE => observe(record, words, numbers, crumbs, line, told),
-        MISSING => missing(record, words, numbers, crumbs, line, told),
-        REPLAY => replay(record, words, numbers, crumbs),
-        END_REPLAY => calling::cittumay_end_replay(words, numbers),
-        SET_COURSE => set_course(given, words, numbers, line),
-        SET_AUTO_FOLLOW => {
-            let on = flag(records::field(record, FIRST));
-            calling::cittumay_set_auto_follow(words, numbers, crumbs, on)
-        }
-        _ => set_following(record, words, numbers, crumbs, line, told),
+        NEW => new(s, crumbs),
+        RESET => reset(s),
+        OBSERVE => observe(record, s, crumbs, line),
+        MISSING => missing(record, s, crumbs, line),
+        REPLAY => replay(record, s, crumbs),
+        END_REPLAY => end_replay(s),
+        SET_COURSE => set_course(given, s, line),
+        SET_AUTO_FOLLOW => set_auto_follow(record, s, crumbs),
+        _ => set_following(record, s, crumbs, line),
     }
 }
 
 // ---- a rebuild's calls
 
-fn step(
-    record: &[u8; RECORD],
-    file: &[u8],
-    words: &mut [u64],
-    numbers: &mut [f32],
-    rebuild: &mut [u64],
-    crumbs: &mut [f32],
-    told: &mut [u64; ANSWERS],
-) -> u8 {
-    let mut done = 0;
-    let refused = rebuilding::cittumay_rebuild_step(
-        rebuild,
+fn begin(record: &[u8; RECORD], s: State) -> Reply {
+    let mut rebuild = s.rebuild;
+    let refused = rebuilding::cittumay_rebuild_new(
+        &mut rebuild,
+        records::low(records::field(record, FIRST)),
+        records::field(record, SECOND) as usize,
+    );
+    let words = s.words;
+    let numbers = s.numbers;
+    let state = State {
         words,
         numbers,
+        rebuild,
+    };
+    Reply {
+        state,
+        refused,
+        answer: 0,
+    }
+}
+
+fn step(record: &[u8; RECORD], file: &[u8], s: State, crumbs: &mut [f32]) -> Reply {
+    let mut words = s.words;
+    let mut numbers = s.numbers;
+    let mut rebuild = s.rebuild;
+    let mut answer = 0;
+    let refused = rebuilding::cittumay_rebuild_step(
+        &mut rebuild,
+        &mut words,
+        &mut numbers,
         crumbs,
         file,
         records::field(record, FIRST) as usize,
         records::field(record, SECOND) as usize,
-        &mut done,
+        &mut answer,
     );
-    told[records::ANSWER] = done as u64;
-    refused
-}
-
-fn restart(
-    which: u64,
-    record: &[u8; RECORD],
-    file: &[u8],
-    words: &mut [u64],
-    numbers: &mut [f32],
-    rebuild: &mut [u64],
-    crumbs: &mut [f32],
-    told: &mut [u64; ANSWERS],
-) -> u8 {
-    let first = records::field(record, FIRST);
-    let second = records::field(record, SECOND);
-    match which {
-        REBUILD => {
-            rebuilding::cittumay_rebuild_new(rebuild, records::low(first), second as usize)
-        }
-        STEP => step(record, file, words, numbers, rebuild, crumbs, told),
-        _ => rebuilding::cittumay_rebuild_settle(rebuild, words, numbers, flag(first), second),
+    let state = State {
+        words,
+        numbers,
+        rebuild,
+    };
+    Reply {
+        state,
+        refused,
+        answer,
     }
 }
 
-// ---- calls that change neither
-
-fn caught_up(record: &[u8; RECORD], rebuild: &[u64], told: &mut [u64; ANSWERS]) -> u8 {
-    let mut yes = 0;
-    let upper = records::field(record, FIRST) as usize;
-    let refused = rebuilding::cittumay_rebuild_caught_up(rebuild, upper, &mut yes);
-    told[records::ANSWER] = yes as u64;
-    refused
+fn settle(record: &[u8; RECORD], s: State) -> Reply {
+    let mut words = s.words;
+    let mut numbers = s.numbers;
+    let mut rebuild = s.rebuild;
+    let refused = rebuilding::cittumay_rebuild_settle(
+        &mut rebuild,
+        &mut words,
+        &mut numbers,
+        flag(records::field(record, FIRST)),
+        records::field(record, SECOND),
+    );
+    let state = State {
+        words,
+        numbers,
+        rebuild,
+    };
+    Reply {
+        state,
+        refused,
+        answer: 0,
+    }
 }
+
+fn caught_up(record: &[u8; RECORD], s: State) -> Reply {
+    let rebuild = s.rebuild;
+    let upper = records::field(record, FIRST) as usize;
+    let mut yes = 0;
+    let refused = rebuilding::cittumay_rebuild_caught_up(&rebuild, upper, &mut yes);
+    Reply {
+        state: s,
+        refused,
+        answer: yes,
+    }
+}
+
+fn restart(which: u64, record: &[u8; RECORD], file: &[u8], s: State, crumbs: &mut [f32]) -> Reply {
+    match which {
+        REBUILD => begin(record, s),
+        STEP => step(record, file, s, crumbs),
+        SETTLE => settle(record, s),
+        _ => caught_up(record, s),
+    }
+}
+
+// ---- questions
 
 // A number of the held crumbs, 0 behind them.
 fn number_of(held: &[f32], i: usize) -> f32 {
@@ -320,119 +443,116 @@ fn thin_held(
 }
 
 fn aside(
-    which: u64,
     record: &[u8; RECORD],
     words: &[u64],
     numbers: &[f32],
-    rebuild: &[u64],
     crumbs: &[f32],
     line: &[f32],
     thinned: &mut [f32],
     told: &mut [u64; ANSWERS],
 ) -> u8 {
+    let which = records::field(record, records::CALL);
     match which {
-        CAUGHT_UP => caught_up(record, rebuild, told),
         THIN => thin_held(record, asking::held(words, numbers, crumbs), thinned, told),
         DUMP | END => asking::ask_parts(words, numbers, crumbs, line, told),
         _ => asking::ask(which, words, numbers, crumbs, line, told),
     }
 }
 
-// ---- any call
+// ---- what a call is lent
 
-fn least(a: usize, b: usize) -> usize
-    ensures { λ r. ⌜ r ≤ b ⌝ }
-{
-    if a < b {
-        return a;
+fn replaced_word(words: [u64; WORDS], at: usize, word: u64) -> [u64; WORDS] {
+    let mut next = words;
+    if at < WORDS {
+        next[at] = word;
     }
-    b
+    next
 }
 
-// Whether there is a word at this place, which is replaced.
-fn replace_word(words: &mut [u64; WORDS], at: usize, word: u64) -> bool {
-    if at >= WORDS {
-        return false;
+fn replaced_number(numbers: [f32; NUMBERS], at: usize, number: f32) -> [f32; NUMBERS] {
+    let mut next = numbers;
+    if at < NUMBERS {
+        next[at] = number;
     }
-    words[at] = word;
-    true
+    next
 }
 
-fn replace_number(numbers: &mut [f32; NUMBERS], at: usize, number: f32) -> bool {
-    if at >= NUMBERS {
-        return false;
-    }
-    numbers[at] = number;
-    true
-}
-
-// Puts into a state what the record replaces. Whether that is anything.
-fn replace(record: &[u8; RECORD], words: &mut [u64; WORDS], numbers: &mut [f32; NUMBERS]) -> bool {
-    let first = replace_word(
-        words,
+// The state with what the record replaces.
+fn replaced(record: &[u8; RECORD], s: State) -> State {
+    let own = s.words;
+    let first = replaced_word(
+        own,
         records::field(record, records::WORD_AT) as usize,
         records::field(record, records::WORD),
     );
-    let second = replace_word(
-        words,
+    let words = replaced_word(
+        first,
         records::field(record, records::NEXT_WORD_AT) as usize,
         records::field(record, records::NEXT_WORD),
     );
-    let third = replace_number(
-        numbers,
+    let held = s.numbers;
+    let numbers = replaced_number(
+        held,
         records::field(record, records::NUMBER_AT) as usize,
         records::float(records::low(records::field(record, records::NUMBER))),
     );
-    first | second | third
-}
-
-fn call(
-    record: &[u8; RECORD],
-    given: &[u8],
-    words: &mut [u64; WORDS],
-    numbers: &mut [f32; NUMBERS],
-    rebuild: &mut [u64],
-    crumbs: &mut [f32],
-    line: &mut [f32],
-    thinned: &mut [f32],
-    told: &mut [u64; ANSWERS],
-) -> u8 {
-    let which = records::field(record, records::CALL);
-    if which < REBUILD {
-        return change(which, record, given, words, numbers, crumbs, line, told);
-    }
-    if which < CAUGHT_UP {
-        return restart(which, record, given, words, numbers, rebuild, crumbs, told);
-    }
-    aside(
-        which,
-        record,
+    let rebuild = s.rebuild;
+    State {
         words,
         numbers,
         rebuild,
-        crumbs,
-        line,
-        thinned,
-        told,
-    )
+    }
 }
 
-// Performs a call with the buffers and the state that it is lent, and given the front of the block. Behind one that is lent
-// another state, the guide has its own again.
-fn perform_lent(
+// Whether the record replaces anything.
+fn replaces(record: &[u8; RECORD]) -> bool {
+    let first = records::field(record, records::WORD_AT) as usize;
+    let second = records::field(record, records::NEXT_WORD_AT) as usize;
+    let third = records::field(record, records::NUMBER_AT) as usize;
+    (first < WORDS) | (second < WORDS) | (third < NUMBERS)
+}
+
+// The state behind a call. Behind one that is lent another state, the guide has its own again.
+fn kept(record: &[u8; RECORD], s: State, behind: State) -> State {
+    if !replaces(record) {
+        return behind;
+    }
+    let words = s.words;
+    let numbers = s.numbers;
+    let rebuild = behind.rebuild;
+    State {
+        words,
+        numbers,
+        rebuild,
+    }
+}
+
+// ---- any call
+
+// A call that may change something, with the buffers that it is lent.
+fn call(
     record: &[u8; RECORD],
-    block: &[u8],
-    words: &mut [u64; WORDS],
-    numbers: &mut [f32; NUMBERS],
-    rebuild: &mut [u64],
+    given: &[u8],
+    s: State,
     crumbs: &mut [f32],
     line: &mut [f32],
-    thinned: &mut [f32],
-    told: &mut [u64; ANSWERS],
-) -> u8 {
-    let mut lent_words = *words;
-    let mut lent_numbers = *numbers;
-    let is_other = replace(record, &mut lent_words, &mut lent_numbers);
+) -> Reply {
+    let which = records::field(record, records::CALL);
+    if which < REBUILD {
+        return change(which, record, given, s, crumbs, line);
+    }
+    restart(which, record, given, s, crumbs)
+}
+
+// The same with the fronts of the buffers and of the block.
+fn call_lent(
+    record: &[u8; RECORD],
+    block: &[u8],
+    s: State,
+    crumbs: &mut [f32],
+    line: &mut [f32],
+) -> Reply {
+    let given = least(records::field(record, records::GIVEN) as usize, block.len());
     let n = least(
         records::field(record, records::CRUMBS_LENT) as usize,
         crumbs.len(),
@@ -441,67 +561,57 @@ fn perform_lent(
         records::field(record, records::LINE_LENT) as usize,
         line.len(),
     );
-    let given = least(records::field(record, records::GIVEN) as usize, block.len());
-    let refused = call(
-        record,
-        &block[..given],
-        &mut lent_words,
-        &mut lent_numbers,
-        rebuild,
-        &mut crumbs[..n],
-        &mut line[..m],
-        thinned,
-        told,
-    );
-    if is_other {
-        return refused;
-    }
-    *words = lent_words;
-    *numbers = lent_numbers;
-    refused
+    call(record, &block[..given], s, &mut crumbs[..n], &mut line[..m])
 }
 
 // What the guide and the rebuild answer behind a call, of the guide's own `own` numbers for crumbs.
-fn tell_behind(
-    own: usize,
-    words: &[u64],
-    numbers: &[f32],
-    rebuild: &[u64],
-    crumbs: &[f32],
-    told: &mut [u64; ANSWERS],
-) {
-    let n = least(own, crumbs.len());
-    let refused = asking::ask_all(words, numbers, &crumbs[..n], told);
+fn tell_behind(own: usize, s: State, crumbs: &[f32], told: &mut [u64; ANSWERS]) {
+    let words = s.words;
+    let numbers = s.numbers;
+    let rebuild = s.rebuild;
+    let refused = asking::ask_all(&words, &numbers, front(crumbs, own), told);
     told[records::BEHIND] = refused as u64;
-    asking::tell_rebuild(rebuild, told);
+    asking::tell_rebuild(&rebuild, told);
 }
 
-// Performs a call, and tells what it answers, and all that is asked behind it where it may have changed something.
+// Performs a call, and tells what it answers, and all that is asked behind it where it may have changed something. The
+// state behind it.
 pub fn perform(
     record: &[u8; RECORD],
     block: &[u8],
     own: usize,
-    words: &mut [u64; WORDS],
-    numbers: &mut [f32; NUMBERS],
-    rebuild: &mut [u64; REBUILD_WORDS],
+    s: State,
     crumbs: &mut [f32],
     line: &mut [f32],
+    told: &mut [u64; ANSWERS],
+) -> State {
+    let made = call_lent(record, block, replaced(record, s), crumbs, line);
+    told[records::REFUSED] = made.refused as u64;
+    told[records::ANSWER] = made.answer as u64;
+    let next = kept(record, s, made.state);
+    if records::field(record, records::CALL) < CAUGHT_UP {
+        tell_behind(own, next, crumbs, told);
+    }
+    next
+}
+
+// Asks a question, or thins the held crumbs in a buffer of their own, and tells what is answered.
+pub fn ask(
+    record: &[u8; RECORD],
+    s: State,
+    crumbs: &[f32],
+    line: &[f32],
     thinned: &mut [f32],
     told: &mut [u64; ANSWERS],
 ) {
-    let refused = perform_lent(
-        record,
-        block,
-        words,
-        numbers,
-        rebuild,
+    let lent = replaced(record, s);
+    let words = lent.words;
+    let numbers = lent.numbers;
+    let held = front(
         crumbs,
-        line,
-        thinned,
-        told,
+        records::field(record, records::CRUMBS_LENT) as usize,
     );
+    let course = front(line, records::field(record, records::LINE_LENT) as usize);
+    let refused = aside(record, &words, &numbers, held, course, thinned, told);
     told[records::REFUSED] = refused as u64;
-    if records::field(record, records::CALL) < CAUGHT_UP {
-        tell_behind(own, words, numbers, rebuild, crumbs, told);
-    }
 }

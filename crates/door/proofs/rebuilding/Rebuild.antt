@@ -3,7 +3,7 @@ use Prim.Native.Nat.{ℕ, _≤_, _<_}
 use native.Mathlib.Omega.{arith}
 use mathlib.Core.Path.{_≡_, refl, sym, ap, subst, _∙_}
 use mathlib.Core.Logic.{_≢_}
-use mathlib.Core.Bool.{Bool, true, false, not}
+use mathlib.Core.Bool.{Bool, true, false, not, _&&_, and-eq-true-iff, false≢true}
 use mathlib.Core.List.{List}
 use mathlib.Core.Option.{none, some}
 use borrow.Author.Tests.{not-true, not-false, le-leb, lt-leb}
@@ -15,9 +15,10 @@ use Rattle.rebuild.specs.declared.Rebuild.{Rebuild}
 use Rattle.rebuild.specs.Rebuild.{newRebuild, caughtUp}
 use Rattle.restart.specs.declared.Settled.{Settled}
 use Rattle.restart.specs.Promises.{SettlesBreadcrumb}
-use Rattle.stored.specs.Stored.{stored, Stores}
+use Rattle.stored.specs.Stored.{stored, wordCount, numberCount, Stores}
 use Rattle.stored.specs.Rebuilt.{rebuildCount, storedRebuild, StoresRebuild}
-use Rattle.stored.specs.Inner.{LoadsRebuild}
+use Rattle.stored.specs.Inner.{Loads, LoadsRebuild}
+use Rattle.stored.proofs.Holding.{has-room, rebuild-has-room}
 use Rattle.stored.specs.Fields.{flagOf}
 use Rattle.door.specs.Through.{noState, Leaves}
 use Rattle.door.specs.Rebuild.{LeavesRebuild, RebuildNew, RebuildCaughtUp, Slices, OnBoth}
@@ -28,6 +29,19 @@ begun l e = l .there (not-false _ e)
 
 pub not-begun : {v : List ℕ} {r : Rebuild} {b : Bool} → LoadsRebuild v r b → not b ≡ true → storedRebuild v ≡ none
 not-begun l e = l .nothing (not-true _ e)
+
+-- both are held where the test of both lets the call go on
+pub both-held : {v w : List ℕ} {n : List Float} {r : Rebuild} {h : Homing} {a b : Bool} → LoadsRebuild v r a → Loads w n h b
+    → not (a && b) ≡ false → (storedRebuild v ≡ some r) × (stored w n ≡ some h)
+both-held {a = a} {b = b} l m e =
+    let two = and-eq-true-iff a b .0 (not-false _ e) in
+    (l .there (two .0), m .there (two .1))
+
+pub room-for-both : {v w : List ℕ} {n : List Float} {r : Rebuild} {h : Homing} {a b : Bool} → LoadsRebuild v r a → Loads w n h b
+    → not (a && b) ≡ false → (rebuildCount ≤ length v) × ((wordCount ≤ length w) × (numberCount ≤ length n))
+room-for-both l m e =
+    let two = both-held l m e in
+    (rebuild-has-room _ _ (two .0), has-room _ _ _ (two .1))
 
 -- ---- the rebuild alone
 pub new-refused : (recovered : ℕ) (v : List ℕ) → length v < rebuildCount → RebuildNew recovered v 10 v
@@ -58,15 +72,17 @@ module _ {v : List ℕ} {was : ℕ} (upper : ℕ) where
 
 -- ---- the rebuild and the guide
 module _ {unread : ℕ} {untouched : Type 0} {does : Rebuild → Homing → Type 0} {s : Slices} {number : ℕ} where
-  pub without-rebuild : storedRebuild (s .rebuild) ≡ none → number ≡ unread → untouched → OnBoth unread untouched does s number
-  without-rebuild e told same = record { noRebuild = λ _. (told, same); noGuide = λ _. (told, same); both = λ r h f g. held-none f e }
+  pub without-one : {r : Rebuild} {h : Homing} (a b : Bool) → LoadsRebuild (s .rebuild) r a → Loads (s .words) (s .numbers) h b
+      → not (a && b) ≡ true → number ≡ unread → untouched → OnBoth unread untouched does s number
+  without-one true true l m e told same = absurd (false≢true e)
+  without-one true false l m e told same =
+      record { noRebuild = λ _. (told, same); noGuide = λ _. (told, same); both = λ r h f g. held-none g (m .nothing refl) }
+  without-one false b l m e told same =
+      record { noRebuild = λ _. (told, same); noGuide = λ _. (told, same); both = λ r h f g. held-none f (l .nothing refl) }
 
-  pub without-guide : stored (s .words) (s .numbers) ≡ none → number ≡ unread → untouched → OnBoth unread untouched does s number
-  without-guide e told same = record { noRebuild = λ _. (told, same); noGuide = λ _. (told, same); both = λ r h f g. held-none g e }
-
-  pub with-both : (r : Rebuild) (h : Homing) → storedRebuild (s .rebuild) ≡ some r → stored (s .words) (s .numbers) ≡ some h → does r h
-      → OnBoth unread untouched does s number
-  with-both r h e f d =
+  pub with-both : (r : Rebuild) (h : Homing) → (storedRebuild (s .rebuild) ≡ some r) × (stored (s .words) (s .numbers) ≡ some h)
+      → does r h → OnBoth unread untouched does s number
+  with-both r h (e, f) d =
       record {
         noRebuild = λ g. held-none e g;
         noGuide = λ g. held-none f g;

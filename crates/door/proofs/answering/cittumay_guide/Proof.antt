@@ -27,7 +27,7 @@ enum-known-answer c = search needs
 
 put-guide-requires : tie.Need-put-guide-requires
 put-guide-requires c κs =
-    let first = c .before .before .before .before .before .before .before .before .before in
+    let first = c .before .before .before .before .before .before .before .before in
     first .if1 .left
 
 enum-told : tie.Need-enum-told
@@ -44,7 +44,7 @@ unfolding saysShowing showing numberOf
 returns-3 c =
     let answer = c .before .before .before .before .before in
     let guide = answer .before .before in
-    let second = guide .before .before in
+    let second = guide .before in
     let load = second .before .before in
     let first = load .before in
     answered-with (roomy _ (first .if1 .left)
@@ -55,15 +55,15 @@ returns-3 c =
 
 returns-4 : tie.Need-returns-4
 unfolding saysShowing showing numberOf
-returns-4 c = answered (roomy _ (c .before .before .before .before .before .before .before .if1 .left)
-    (loaded (c .before .before .before .before .before .before .load .ensures) (c .before .before .before .before .if2 .left)))
+returns-4 c = answered (roomy _ (c .before .before .before .before .before .before .if1 .left)
+    (loaded (c .before .before .before .before .before .load .ensures) (c .before .before .before .if2 .left)))
     (c .before .before .guide .ensures) (c .enum-told .given .1)
 
 returns-5 : tie.Need-returns-5
 unfolding saysShowing numberOf
 returns-5 c =
     let guide = c .before .before .before in
-    let second = guide .before .before in
+    let second = guide .before in
     let load = second .before .before in
     let first = load .before in
     answered (roomy _ (first .if1 .left) (loaded

@@ -30,7 +30,7 @@ unfolding saysRiding numberOf
 returns-2 c =
     let answer = c .before .before .before .before in
     let heading = answer .before .before in
-    let first = heading .before .before in
+    let first = heading .before in
     let load = first .before .before in
     answered-with (loaded (load .load .ensures)
     (first .if1 .left))
@@ -39,8 +39,8 @@ returns-2 c =
 
 returns-3 : tie.Need-returns-3
 unfolding saysRiding numberOf
-returns-3 c = answered (loaded (c .before .before .before .before .before .before .before .load .ensures)
-    (c .before .before .before .before .before .if1 .left)) (c .before .before .before .heading .ensures) (c .before .answer2 .given .1)
+returns-3 c = answered (loaded (c .before .before .before .before .before .before .load .ensures)
+    (c .before .before .before .before .if1 .left)) (c .before .before .before .heading .ensures) (c .before .answer2 .given .1)
 
 pub cittumay-heading-spec : {M : Type 1} → statement M
 cittumay-heading-spec =

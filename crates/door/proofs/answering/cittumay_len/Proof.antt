@@ -24,13 +24,13 @@ enum-known-answer-2 c = search needs
 
 returns-2 : tie.Need-returns-2
 unfolding saysCount numberOf
-returns-2 c = answered (loaded (c .before .before .before .before .before .before .before .load .ensures)
-    (c .before .before .before .before .before .if1 .left)) (c .before .before .before .len .ensures) (c .before .answer .given .1)
+returns-2 c = answered (loaded (c .before .before .before .before .before .before .load .ensures)
+    (c .before .before .before .before .if1 .left)) (c .before .before .before .len .ensures) (c .before .answer .given .1)
 
 returns-3 : tie.Need-returns-3
 unfolding saysCount numberOf
-returns-3 c = answered (loaded (c .before .before .before .before .before .before .before .load .ensures)
-    (c .before .before .before .before .before .if1 .left)) (c .before .before .before .len .ensures) (c .before .answer2 .given .1)
+returns-3 c = answered (loaded (c .before .before .before .before .before .before .load .ensures)
+    (c .before .before .before .before .if1 .left)) (c .before .before .before .len .ensures) (c .before .answer2 .given .1)
 
 pub cittumay-len-spec : {M : Type 1} → statement M
 cittumay-len-spec =

@@ -30,18 +30,18 @@ enum-known-answer-2 c = search needs
 
 returns-2 : tie.Need-returns-2
 unfolding saysBack returning numberOf
-returns-2 c = answered (loaded (c .before .before .before .before .before .before .before .load .ensures)
-    (c .before .before .before .before .before .if1 .left)) (c .before .before .before .way-back .ensures) (c .before .answer .given .1)
+returns-2 c = answered (loaded (c .before .before .before .before .before .before .load .ensures)
+    (c .before .before .before .before .if1 .left)) (c .before .before .before .way-back .ensures) (c .before .answer .given .1)
 
 returns-3 : tie.Need-returns-3
 unfolding saysBack returning numberOf
-returns-3 c = answered (loaded (c .before .before .before .before .before .before .load .ensures)
-    (c .before .before .before .before .if1 .left)) (c .before .before .way-back .ensures) (c .enum-told .given .1)
+returns-3 c = answered (loaded (c .before .before .before .before .before .load .ensures)
+    (c .before .before .before .if1 .left)) (c .before .before .way-back .ensures) (c .enum-told .given .1)
 
 returns-4 : tie.Need-returns-4
 unfolding saysBack numberOf
-returns-4 c = answered (loaded (c .before .before .before .before .before .before .before .load .ensures)
-    (c .before .before .before .before .before .if1 .left)) (c .before .before .before .way-back .ensures) (c .before .answer2 .given .1)
+returns-4 c = answered (loaded (c .before .before .before .before .before .before .load .ensures)
+    (c .before .before .before .before .if1 .left)) (c .before .before .before .way-back .ensures) (c .before .answer2 .given .1)
 
 pub cittumay-way-back-spec : {M : Type 1} → statement M
 cittumay-way-back-spec =

@@ -26,7 +26,7 @@ replay-requires c κs = search needs
 
 keep-changed-requires : tie.Need-keep-changed-requires
 keep-changed-requires c κs =
-    let first = c .before .before .before .before .before .before .before in
+    let first = c .before .before .before .before .before .before in
     let load = first .before .before in
     room-read (load .load .ensures)
     (first .if1 .left)
@@ -44,7 +44,7 @@ returns-2 : tie.Need-returns-2
 returns-2 c =
     let keep-changed = c .before .before .before .before in
     let replay = keep-changed .before .before .before .before .before in
-    let first = replay .before .before .before in
+    let first = replay .before .before in
     let load = first .before .before in
     let there = load .before .before .before .before .before .before in
     let kept = keep-changed .keep-changed .ensures in

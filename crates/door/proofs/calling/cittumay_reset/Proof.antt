@@ -22,7 +22,7 @@ reset-requires c κs = search needs
 
 keep-changed-requires : tie.Need-keep-changed-requires
 keep-changed-requires c κs =
-    room-read (c .before .before .before .before .before .before .load .ensures) (c .before .before .before .before .if1 .left)
+    room-read (c .before .before .before .before .before .load .ensures) (c .before .before .before .if1 .left)
 
 same-length-3 : tie.Need-same-length-3
 same-length-3 c = search needs
@@ -34,7 +34,7 @@ returns-2 : tie.Need-returns-2
 returns-2 c =
     let keep-changed = c .before .before .before .before in
     let reset = keep-changed .before .before .before in
-    let first = reset .before .before in
+    let first = reset .before in
     let load = first .before .before in
     let kept = keep-changed .keep-changed .ensures in
     let made = reset .reset in

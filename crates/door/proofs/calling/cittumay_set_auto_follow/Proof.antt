@@ -26,7 +26,7 @@ set-auto-follow-requires c κs = search needs
 
 keep-changed-requires : tie.Need-keep-changed-requires
 keep-changed-requires c κs =
-    let first = c .before .before .before .before .before .before .before in
+    let first = c .before .before .before .before .before .before in
     let load = first .before .before in
     room-read (load .load .ensures)
     (first .if1 .left)
@@ -45,7 +45,7 @@ unfolding isSet
 returns-2 c =
     let keep-changed = c .before .before .before .before in
     let set-auto-follow = keep-changed .before .before .before .before .before in
-    let first = set-auto-follow .before .before .before in
+    let first = set-auto-follow .before .before in
     let load = first .before .before in
     let kept = keep-changed .keep-changed .ensures in
     let made = set-auto-follow .set-auto-follow in

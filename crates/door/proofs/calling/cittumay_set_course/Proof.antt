@@ -22,7 +22,7 @@ set-course-requires c κs = search needs
 
 keep-changed-requires : tie.Need-keep-changed-requires
 keep-changed-requires c κs =
-    let first = c .before .before .before .before .before .before .before in
+    let first = c .before .before .before .before .before .before in
     let load = first .before .before in
     room-read (load .load .ensures)
     (first .if1 .left)
@@ -40,7 +40,7 @@ returns-2 : tie.Need-returns-2
 returns-2 c =
     let keep-changed = c .before .before .before .before in
     let set-course = keep-changed .before .before .before .before .before in
-    let first = set-course .before .before .before in
+    let first = set-course .before .before in
     let load = first .before .before in
     let kept = keep-changed .keep-changed .ensures in
     let made = set-course .set-course in

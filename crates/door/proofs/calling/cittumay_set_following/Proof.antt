@@ -29,8 +29,7 @@ put-verdict-requires c κs = search needs
 
 keep-requires : tie.Need-keep-requires
 keep-requires c κs =
-    let there = c .before .before .before .before .before .before .before .before .before .before in
-    let answered = there in
+    let answered = c .before .before .before .before .before .before .before .before in
     room-read (answered .before .before .load .ensures) (answered .if1 .left)
 
 same-length-3 : tie.Need-same-length-3
@@ -49,9 +48,9 @@ returns-2 c =
     let kept = last .keep .ensures in
     let told = last .before .before .before in
     let put = told .put-verdict .ensures in
-    let asked = told .before .before .before .before .before in
+    let asked = told .before .before .before .before in
     let made = asked .set-following in
-    let answered = asked .before .before .before in
+    let answered = asked .before .before in
     on-held (answered .before .before .load .ensures) (answered .if1 .left)
     (record {
       made = record { answer = made .result; promised = made .ensures; told = kept .0 ∙ put .0; written = put .1 };

@@ -31,7 +31,7 @@ number-of-sight-requires c κs = search needs
 
 keep-requires : tie.Need-keep-requires
 keep-requires c κs =
-    let first = c .before .before .before .before .before .before .before .before .before .before .before in
+    let first = c .before .before .before .before .before .before .before .before .before in
     let load = first .before .before in
     room-read (load .load .ensures)
     (first .if1 .left)
@@ -50,8 +50,8 @@ returns-2 c =
     let keep = c .before .before .before .before in
     let number-of-sight = keep .before .before .before in
     let event-written = number-of-sight .before in
-    let observe = event-written .before .before .before .before .before in
-    let first = observe .before .before .before in
+    let observe = event-written .before .before .before .before in
+    let first = observe .before .before in
     let load = first .before .before in
     let kept = keep .keep .ensures in
     let made = observe .observe in

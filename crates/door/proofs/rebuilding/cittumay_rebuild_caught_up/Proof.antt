@@ -19,7 +19,7 @@ flag-of-requires : tie.Need-flag-of-requires
 flag-of-requires c κs = search needs
 
 returns-2 : tie.Need-returns-2
-returns-2 c = caught _ (begun (c .before .before .before .before .before .load-rebuild .ensures) (c .before .before .before .if1 .left))
+returns-2 c = caught _ (begun (c .before .before .before .before .load-rebuild .ensures) (c .before .before .if1 .left))
     (c .flag-of .ensures ∙ ap flagOf (c .before .caught-up .ensures))
 
 pub cittumay-rebuild-caught-up-spec : {M : Type 1} → statement M

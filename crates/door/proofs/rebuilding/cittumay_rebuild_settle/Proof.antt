@@ -1,8 +1,6 @@
 -- `door::rebuilding::cittumay_rebuild_settle` meets its contract. Assumes nothing.
 use mathlib.Core.Path.{refl, _∙_}
-use Rattle.stored.proofs.Holding.{has-room, rebuild-has-room}
-use Rattle.door.proofs.answering.Answers.{loaded, unloaded}
-use Rattle.door.proofs.rebuilding.Rebuild.{begun, not-begun, without-rebuild, without-guide, with-both, settled-at}
+use Rattle.door.proofs.rebuilding.Rebuild.{without-one, with-both, both-held, room-for-both, settled-at}
 use borrow.Author.Needs.{needs}
 use Rattle.door.proofs.rebuilding.cittumay_rebuild_settle.Statement.{statement}
 use Rattle.door.proofs.rebuilding.cittumay_rebuild_settle.Tie as tie
@@ -10,14 +8,11 @@ use Rattle.door.proofs.rebuilding.cittumay_rebuild_settle.Tie as tie
 load-rebuild-requires : tie.Need-load-rebuild-requires
 load-rebuild-requires c κs = search needs
 
-same-length : tie.Need-same-length
-same-length c = search needs
-
-returns : tie.Need-returns
-returns c = without-rebuild (not-begun (c .before .before .load-rebuild .ensures) (c .if1 .taken)) refl refl
-
 load-requires : tie.Need-load-requires
 load-requires c κs = search needs
+
+same-length : tie.Need-same-length
+same-length c = search needs
 
 same-length-2 : tie.Need-same-length-2
 same-length-2 c = search needs
@@ -25,11 +20,10 @@ same-length-2 c = search needs
 same-length-3 : tie.Need-same-length-3
 same-length-3 c = search needs
 
-same-length-4 : tie.Need-same-length-4
-same-length-4 c = search needs
-
-returns-2 : tie.Need-returns-2
-returns-2 c = without-guide (unloaded (c .before .before .load .ensures) (c .if2 .taken)) refl refl
+returns : tie.Need-returns
+returns c =
+    let load = c .before .before .before in
+    without-one _ _ (load .before .before .before .load-rebuild .ensures) (load .load .ensures) (c .if1 .taken) refl refl
 
 utc-of-requires : tie.Need-utc-of-requires
 utc-of-requires c κs = search needs
@@ -42,17 +36,12 @@ number-of-reply-requires c κs = search needs
 
 keep-both-requires : tie.Need-keep-both-requires
 keep-both-requires c κs =
-    let second = c .before .before .before .before .before .before .before .before .before .before in
-    let load = second .before .before in
-    let first = load .before .before .before in
-    let load-rebuild = first .before .before in (
-      rebuild-has-room _ _ (begun
-          (load-rebuild .load-rebuild .ensures)
-          (first .if1 .left)),
-      has-room _ _ _
-          (loaded (load .load .ensures)
-          (second .if2 .left)),
-    )
+    let first = c .before .before .before .before .before .before in
+    let load = first .before .before .before in
+    room-for-both (load .before .before .before .load-rebuild .ensures) (load .load .ensures) (first .if1 .left)
+
+same-length-4 : tie.Need-same-length-4
+same-length-4 c = search needs
 
 same-length-5 : tie.Need-same-length-5
 same-length-5 c = search needs
@@ -60,32 +49,21 @@ same-length-5 c = search needs
 same-length-6 : tie.Need-same-length-6
 same-length-6 c = search needs
 
-same-length-7 : tie.Need-same-length-7
-same-length-7 c = search needs
-
-returns-3 : tie.Need-returns-3
-returns-3 c =
+returns-2 : tie.Need-returns-2
+returns-2 c =
     let keep-both = c .before .before .before .before .before .before in
     let number-of-reply = keep-both .before .before .before .before in
-    let settle = number-of-reply .before .before .before in
+    let settle = number-of-reply .before in
     let utc-of = settle .before in
-    let second = utc-of .before .before .before in
-    let load = second .before .before in
-    let first = load .before .before .before in
-    let load-rebuild = first .before .before in
-    let kept = keep-both .keep-both .ensures in with-both _ _ (begun
-    (load-rebuild .load-rebuild .ensures) (first .if1 .left)) (loaded (load .load .ensures) (second .if2 .left))
+    let first = utc-of .before in
+    let load = first .before .before .before in
+    let kept = keep-both .keep-both .ensures in
+    with-both _ _ (both-held (load .before .before .before .load-rebuild .ensures) (load .load .ensures) (first .if1 .left))
     (record {
-      call =
-          settle .settle .result;
-      promised =
-          settled-at
-          (utc-of .utc-of .ensures)
-          (settle .settle .ensures);
-      refusal =
-          kept .0 ∙ number-of-reply .number-of-reply .ensures;
-      rebuilt =
-          kept .1 .0;
+      call = settle .settle .result;
+      promised = settled-at (utc-of .utc-of .ensures) (settle .settle .ensures);
+      refusal = kept .0 ∙ number-of-reply .number-of-reply .ensures;
+      rebuilt = kept .1 .0;
       state = kept .1 .1;
     })
 
@@ -94,18 +72,16 @@ cittumay-rebuild-settle-spec =
     tie.close
     (tie.spec
     load-rebuild-requires
-    same-length
-    returns
     load-requires
+    same-length
     same-length-2
     same-length-3
-    same-length-4
-    returns-2
+    returns
     utc-of-requires
     settle-requires
     number-of-reply-requires
     keep-both-requires
+    same-length-4
     same-length-5
     same-length-6
-    same-length-7
-    returns-3)
+    returns-2)

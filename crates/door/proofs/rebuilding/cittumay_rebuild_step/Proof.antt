@@ -1,8 +1,6 @@
 -- `door::rebuilding::cittumay_rebuild_step` meets its contract. Assumes nothing.
 use mathlib.Core.Path.{refl, _∙_}
-use Rattle.stored.proofs.Holding.{has-room, rebuild-has-room}
-use Rattle.door.proofs.answering.Answers.{loaded, unloaded}
-use Rattle.door.proofs.rebuilding.Rebuild.{begun, not-begun, without-rebuild, without-guide, with-both}
+use Rattle.door.proofs.rebuilding.Rebuild.{without-one, with-both, both-held, room-for-both}
 use borrow.Author.Needs.{needs}
 use Rattle.door.proofs.rebuilding.cittumay_rebuild_step.Statement.{statement}
 use Rattle.door.proofs.rebuilding.cittumay_rebuild_step.Tie as tie
@@ -10,21 +8,14 @@ use Rattle.door.proofs.rebuilding.cittumay_rebuild_step.Tie as tie
 load-rebuild-requires : tie.Need-load-rebuild-requires
 load-rebuild-requires c κs = search needs
 
+load-requires : tie.Need-load-requires
+load-requires c κs = search needs
+
 no-state-with-requires : tie.Need-no-state-with-requires
 no-state-with-requires c κs = search needs
 
 same-length : tie.Need-same-length
 same-length c = search needs
-
-returns : tie.Need-returns
-returns c = without-rebuild (not-begun (c .before .before .before .load-rebuild .ensures) (c .before .if1 .taken))
-    (c .no-state-with .ensures) (refl, (refl, refl))
-
-load-requires : tie.Need-load-requires
-load-requires c κs = search needs
-
-no-state-with-requires-2 : tie.Need-no-state-with-requires-2
-no-state-with-requires-2 c κs = search needs
 
 same-length-2 : tie.Need-same-length-2
 same-length-2 c = search needs
@@ -32,12 +23,11 @@ same-length-2 c = search needs
 same-length-3 : tie.Need-same-length-3
 same-length-3 c = search needs
 
-same-length-4 : tie.Need-same-length-4
-same-length-4 c = search needs
-
-returns-2 : tie.Need-returns-2
-returns-2 c = without-guide (unloaded (c .before .before .before .load .ensures) (c .before .if2 .taken)) (c .no-state-with2 .ensures)
-    (refl, (refl, refl))
+returns : tie.Need-returns
+returns c =
+    let load = c .before .before .before .before in
+    without-one _ _ (load .before .before .before .load-rebuild .ensures) (load .load .ensures) (c .before .if1 .taken)
+    (c .no-state-with .ensures) (refl, (refl, refl))
 
 step-requires : tie.Need-step-requires
 step-requires c κs = search needs
@@ -47,16 +37,12 @@ put-verdict-requires c κs = search needs
 
 keep-both-requires : tie.Need-keep-both-requires
 keep-both-requires c κs =
-    let second = c .before .before .before .before .before .before .before .before .before .before .before .before .before in
-    let load = second .before .before in
-    let first = load .before .before .before in
-    let load-rebuild = first .before .before in (
-      rebuild-has-room _ _ (begun
-          (load-rebuild .load-rebuild .ensures) (first .if1 .left)),
-      has-room _ _ _ (loaded
-          (load .load .ensures)
-          (second .if2 .left)),
-    )
+    let first = c .before .before .before .before .before .before .before .before .before in
+    let load = first .before .before .before in
+    room-for-both (load .before .before .before .load-rebuild .ensures) (load .load .ensures) (first .if1 .left)
+
+same-length-4 : tie.Need-same-length-4
+same-length-4 c = search needs
 
 same-length-5 : tie.Need-same-length-5
 same-length-5 c = search needs
@@ -67,28 +53,18 @@ same-length-6 c = search needs
 same-length-7 : tie.Need-same-length-7
 same-length-7 c = search needs
 
-same-length-8 : tie.Need-same-length-8
-same-length-8 c = search needs
-
-returns-3 : tie.Need-returns-3
-returns-3 c =
+returns-2 : tie.Need-returns-2
+returns-2 c =
     let keep-both = c .before .before .before .before .before .before in
-    let put-verdict = keep-both .before .before .before .before .before .before in
+    let put-verdict = keep-both .before .before .before .before in
     let step = put-verdict .before .before .before .before in
-    let second = step .before .before .before .before in
-    let load = second .before .before in
-    let first = load .before .before .before in
-    let load-rebuild = first .before .before in
-    let kept = keep-both .keep-both .ensures in with-both _ _ (begun
-    (load-rebuild .load-rebuild .ensures) (first .if1 .left)) (loaded (load .load .ensures) (second .if2 .left)) (record {
-      made = record {
-        answer = step .step .result;
-        promised = step .step .ensures;
-        told =
-            kept .0 ∙ put-verdict .put-verdict .ensures .0;
-        written =
-            put-verdict .put-verdict .ensures .1;
-      };
+    let first = step .before .before in
+    let load = first .before .before .before in
+    let kept = keep-both .keep-both .ensures in
+    let put = put-verdict .put-verdict .ensures in
+    with-both _ _ (both-held (load .before .before .before .load-rebuild .ensures) (load .load .ensures) (first .if1 .left))
+    (record {
+      made = record { answer = step .step .result; promised = step .step .ensures; told = kept .0 ∙ put .0; written = put .1 };
       rebuilt = kept .1 .0;
       state = kept .1 .1;
     })
@@ -98,20 +74,17 @@ cittumay-rebuild-step-spec =
     tie.close
     (tie.spec
     load-rebuild-requires
+    load-requires
     no-state-with-requires
     same-length
-    returns
-    load-requires
-    no-state-with-requires-2
     same-length-2
     same-length-3
-    same-length-4
-    returns-2
+    returns
     step-requires
     put-verdict-requires
     keep-both-requires
+    same-length-4
     same-length-5
     same-length-6
     same-length-7
-    same-length-8
-    returns-3)
+    returns-2)

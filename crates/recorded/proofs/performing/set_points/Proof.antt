@@ -13,22 +13,25 @@ least-requires-2 : tie.Need-least-requires-2
 least-requires-2 c κs = search needs
 
 slice-aggregate-cittumay-set-course : tie.Need-slice-aggregate-cittumay-set-course
-slice-aggregate-cittumay-set-course c = sym (length-take-le _ _ (omega arith))
+slice-aggregate-cittumay-set-course c = search needs
 
 slice-aggregate-cittumay-set-course-2 : tie.Need-slice-aggregate-cittumay-set-course-2
-slice-aggregate-cittumay-set-course-2 c = sym (length-take-le _ _ (omega arith))
+slice-aggregate-cittumay-set-course-2 c = search needs
+
+slice-aggregate-cittumay-set-course-3 : tie.Need-slice-aggregate-cittumay-set-course-3
+slice-aggregate-cittumay-set-course-3 c = sym (length-take-le _ _ (omega arith))
+
+slice-aggregate-cittumay-set-course-4 : tie.Need-slice-aggregate-cittumay-set-course-4
+slice-aggregate-cittumay-set-course-4 c = sym (length-take-le _ _ (omega arith))
 
 cittumay-set-course-requires : tie.Need-cittumay-set-course-requires
 cittumay-set-course-requires c κs = search needs
 
+guide-reply-requires : tie.Need-guide-reply-requires
+guide-reply-requires c κs = search needs
+
 same-length : tie.Need-same-length
 same-length c = search needs
-
-same-length-2 : tie.Need-same-length-2
-same-length-2 c = search needs
-
-same-length-3 : tie.Need-same-length-3
-same-length-3 c = search needs
 
 returns : tie.Need-returns
 returns c = search needs
@@ -41,8 +44,9 @@ set-points-spec =
     least-requires-2
     slice-aggregate-cittumay-set-course
     slice-aggregate-cittumay-set-course-2
+    slice-aggregate-cittumay-set-course-3
+    slice-aggregate-cittumay-set-course-4
     cittumay-set-course-requires
+    guide-reply-requires
     same-length
-    same-length-2
-    same-length-3
     returns)

@@ -1,17 +1,17 @@
--- `recorded::replay_all` is safe and ends.
+-- `recorded::replay_ride` is safe and ends.
 use Prim.Native.Nat.{_-_}
 use borrow.Author.Needs.{needs}
-use Rattle.recorded.proofs.replay_all.Statement.{statement}
-use Rattle.recorded.proofs.replay_all.Tie as tie
+use Rattle.recorded.proofs.replay_ride.Statement.{statement}
+use Rattle.recorded.proofs.replay_ride.Tie as tie
 
 abbrev Inv-loop : tie.InvT-loop
-Inv-loop calls own words₀ numbers₀ rebuild₀ crumbs₀ line₀ block₀ number₀ words numbers rebuild crumbs line block number = Unit
+Inv-loop calls own crumbs₀ line₀ state₀ number₀ crumbs line state number = Unit
 
 abbrev μ-loop : tie.MeasureT-loop
-μ-loop calls own words₀ numbers₀ rebuild₀ crumbs₀ line₀ block₀ number₀ words numbers rebuild crumbs line block number = calls - number
+μ-loop calls own crumbs₀ line₀ state₀ number₀ crumbs line state number = calls - number
 
-cittumay-rebuild-new-requires : tie.Need-cittumay-rebuild-new-requires Inv-loop μ-loop
-cittumay-rebuild-new-requires c κs = search needs
+none-requires : tie.Need-none-requires Inv-loop μ-loop
+none-requires c κs = search needs
 
 loop-holds : tie.Need-loop-holds Inv-loop μ-loop
 loop-holds c = search needs
@@ -34,16 +34,22 @@ loop-again c = search needs
 replay-requires-2 : tie.Need-replay-requires-2 Inv-loop μ-loop
 replay-requires-2 c κs = search needs
 
+finish-requires : tie.Need-finish-requires Inv-loop μ-loop
+finish-requires c κs = search needs
+
 returns-2 : tie.Need-returns-2 Inv-loop μ-loop
 returns-2 c = search needs
 
-pub replay-all-spec : {M : Type 1} → statement M
-replay-all-spec =
+returns-3 : tie.Need-returns-3 Inv-loop μ-loop
+returns-3 c = search needs
+
+pub replay-ride-spec : {M : Type 1} → statement M
+replay-ride-spec =
     tie.close
     (tie.spec
     Inv-loop
     μ-loop
-    cittumay-rebuild-new-requires
+    none-requires
     loop-holds
     replay-requires
     returns
@@ -51,4 +57,6 @@ replay-all-spec =
     loop-less
     loop-again
     replay-requires-2
-    returns-2)
+    finish-requires
+    returns-2
+    returns-3)

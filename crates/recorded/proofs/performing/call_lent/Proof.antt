@@ -1,13 +1,10 @@
--- `recorded::performing::perform_lent` is safe and ends.
+-- `recorded::performing::call_lent` is safe and ends.
 use mathlib.Core.Path.{sym}
 use lib.Seq.{length-take-le}
 use native.Mathlib.Omega.{arith}
 use borrow.Author.Needs.{needs}
-use Rattle.recorded.proofs.performing.perform_lent.Statement.{statement}
-use Rattle.recorded.proofs.performing.perform_lent.Tie as tie
-
-replace-requires : tie.Need-replace-requires
-replace-requires c κs = search needs
+use Rattle.recorded.proofs.performing.call_lent.Statement.{statement}
+use Rattle.recorded.proofs.performing.call_lent.Tie as tie
 
 field-requires : tie.Need-field-requires
 field-requires c κs = search needs
@@ -51,35 +48,13 @@ same-length c = search needs
 same-length-2 : tie.Need-same-length-2
 same-length-2 c = search needs
 
-same-length-3 : tie.Need-same-length-3
-same-length-3 c = search needs
-
-same-length-4 : tie.Need-same-length-4
-same-length-4 c = search needs
-
 returns : tie.Need-returns
 returns c = search needs
 
-same-length-5 : tie.Need-same-length-5
-same-length-5 c = search needs
-
-same-length-6 : tie.Need-same-length-6
-same-length-6 c = search needs
-
-same-length-7 : tie.Need-same-length-7
-same-length-7 c = search needs
-
-same-length-8 : tie.Need-same-length-8
-same-length-8 c = search needs
-
-returns-2 : tie.Need-returns-2
-returns-2 c = search needs
-
-pub perform-lent-spec : {M : Type 1} → statement M
-perform-lent-spec =
+pub call-lent-spec : {M : Type 1} → statement M
+call-lent-spec =
     tie.close
     (tie.spec
-    replace-requires
     field-requires
     least-requires
     field-requires-2
@@ -94,11 +69,4 @@ perform-lent-spec =
     call-requires
     same-length
     same-length-2
-    same-length-3
-    same-length-4
-    returns
-    same-length-5
-    same-length-6
-    same-length-7
-    same-length-8
-    returns-2)
+    returns)

@@ -1,8 +1,8 @@
--- `recorded::performing::points` is safe and ends.
+-- `recorded::performing::read_points` is safe and ends.
 use Prim.Native.Nat.{_-_}
 use borrow.Author.Needs.{needs}
-use Rattle.recorded.proofs.performing.points.Statement.{statement}
-use Rattle.recorded.proofs.performing.points.Tie as tie
+use Rattle.recorded.proofs.performing.read_points.Statement.{statement}
+use Rattle.recorded.proofs.performing.read_points.Tie as tie
 
 abbrev Inv-loop : tie.InvT-loop
 Inv-loop given lats₀ lons₀ i₀ lats lons i = Unit
@@ -25,11 +25,11 @@ pattern-at-requires c κs = search needs
 signed-requires : tie.Need-signed-requires Inv-loop μ-loop
 signed-requires c κs = search needs
 
-mul-lons : tie.Need-mul-lons Inv-loop μ-loop
-mul-lons c = search needs
+mul-lats : tie.Need-mul-lats Inv-loop μ-loop
+mul-lats c = search needs
 
-element-set-from-lons : tie.Need-element-set-from-lons Inv-loop μ-loop
-element-set-from-lons c = search needs
+array-set-from-lats : tie.Need-array-set-from-lats Inv-loop μ-loop
+array-set-from-lats c = search needs
 
 mul-pattern-at-2 : tie.Need-mul-pattern-at-2 Inv-loop μ-loop
 mul-pattern-at-2 c = search needs
@@ -43,11 +43,11 @@ pattern-at-requires-2 c κs = search needs
 signed-requires-2 : tie.Need-signed-requires-2 Inv-loop μ-loop
 signed-requires-2 c κs = search needs
 
-mul-t12 : tie.Need-mul-t12 Inv-loop μ-loop
-mul-t12 c = search needs
+mul-lons : tie.Need-mul-lons Inv-loop μ-loop
+mul-lons c = search needs
 
-element-set-from-lons-2 : tie.Need-element-set-from-lons-2 Inv-loop μ-loop
-element-set-from-lons-2 c = search needs
+array-set-from-lons : tie.Need-array-set-from-lons Inv-loop μ-loop
+array-set-from-lons c = search needs
 
 add-i : tie.Need-add-i Inv-loop μ-loop
 add-i c = search needs
@@ -61,8 +61,8 @@ loop-again c = search needs
 returns-2 : tie.Need-returns-2 Inv-loop μ-loop
 returns-2 c = search needs
 
-pub points-spec : {M : Type 1} → statement M
-points-spec =
+pub read-points-spec : {M : Type 1} → statement M
+read-points-spec =
     tie.close
     (tie.spec
     Inv-loop
@@ -72,14 +72,14 @@ points-spec =
     mul-pattern-at
     pattern-at-requires
     signed-requires
-    mul-lons
-    element-set-from-lons
+    mul-lats
+    array-set-from-lats
     mul-pattern-at-2
     add-pattern-at
     pattern-at-requires-2
     signed-requires-2
-    mul-t12
-    element-set-from-lons-2
+    mul-lons
+    array-set-from-lons
     add-i
     loop-less
     loop-again
