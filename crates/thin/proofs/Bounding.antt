@@ -63,6 +63,10 @@ module _ (p a b : Point) {s : Float} (S : s ≡ offSquare p a b) where
     pub by-root : {r : Float} {t : Bool} → r ≡ root binary32 s → t ≡ not (le r most) → t ≡ not (le (offSegment p a b) most)
     by-root R e = e ∙ ap (λ (z : Float). not (le z most)) (R ∙ root-is)
 
+pub was-true : (b : Bool) → not b ≡ false → b ≡ true
+was-true true k = refl
+was-true false k = absurd (subst (λ (c : Bool). T c) k tt)
+
 -- what the test of a place that was read says of the rule's
 module _ (most : Float) {t : Bool} {p a b x y z : Point} (e : t ≡ not (le (offSegment p a b) most)) (f : p ≡ x) (g : a ≡ y)
     (h : b ≡ z) where
@@ -70,11 +74,7 @@ module _ (most : Float) {t : Bool} {p a b x y z : Point} (e : t ≡ not (le (off
   read = cc
 
   pub stays : t ≡ false → le (offSegment x y z) most ≡ true
-  stays n = flip (le (offSegment x y z) most) (sym read ∙ n)
-    where
-      flip : (b : Bool) → not b ≡ false → b ≡ true
-      flip true k = refl
-      flip false k = absurd (subst (λ (c : Bool). T c) k tt)
+  stays n = was-true (le (offSegment x y z) most) (sym read ∙ n)
 
   pub leaves : t ≡ true → le (offSegment x y z) most ≡ false
   leaves n = flip (le (offSegment x y z) most) (sym read ∙ n)

@@ -6,3 +6,5 @@ pub mod Theorems
 pub mod Thinning
 pub mod Answers
 pub mod Bounding
+pub mod Testing
+pub mod Rowing

@@ -1,22 +1,22 @@
 -- The steps of a pass over a buffer: what its loop carries on. Assumes nothing.
-use Prim.Native.Nat.{ℕ, suc, _+_, _-_, _≤_, _<_}
-use mathlib.Core.Path.{_≡_, refl, sym, ap, ap₂, _∙_}
+use Prim.Native.Nat.{ℕ, zero, suc, _+_, _-_, _*_, _≤_, _<_}
+use mathlib.Core.Path.{_≡_, refl, sym, ap, ap₂, _∙_, subst}
 use mathlib.Core.Bool.{Bool, true}
 use mathlib.Core.List.{List, [], _∷_, _++_, append-assoc, append-nil}
 use native.Mathlib.Omega.{arith}
 use native.Mathlib.Numerals.{add-one}
 use native.Mathlib.Decide.{ℕ-discrete}
 use lib.ListN.{length, take, drop, set, drop-of-length-le}
-use lib.Seq.{drop-drop, drop-set-lt, take-suc-set}
-use lib.Ieee.{Float}
+use lib.Seq.{drop-drop, drop-set-lt, take-suc-set, set-getD}
+use lib.Ieee.{Float, nan}
 use Rattle.crumbs.specs.declared.Crumb.{Crumb}
-use Rattle.crumbs.specs.Crumb.{capacity, crumbAt, crumbs, behind}
+use Rattle.crumbs.specs.Crumb.{capacity, stride, crumbAt, crumbs, behind}
 use Rattle.crumbs.specs.Inner.{putAt}
 use Rattle.crumbs.proofs.Crumbs.{length-crumbs, drop-crumbs, take-crumbs}
 use Rattle.crumbs.proofs.Crumbs.{crumbs-put, behind-put, length-put, put-same, put-other, put-copied}
 use Rattle.thin.specs.Crumb.{twoOn, passBy}
 use Rattle.thin.specs.Promises.{Stood}
-use Rattle.thin.specs.Inner.{stepBy, Passed}
+use Rattle.thin.specs.Inner.{stepBy, OneByOne, Passed}
 use Rattle.thin.proofs.Passes.{step-within, pass-drop, pass-none, pass-keep, pass-few}
 use Rattle.thin.proofs.Reaching.{after, length-after}
 
@@ -46,6 +46,11 @@ stood-put n buf to from fits inside = record { among = λ i h. at i h (ℕ-discr
     at : (i : ℕ) → i < n → Dec (i ≡ to) → (j : ℕ) × ((j < n) × (crumbAt (putAt buf to (crumbAt buf from)) i ≡ crumbAt buf j))
     at i h (yes e) = (from, (inside, ap (crumbAt (putAt buf to (crumbAt buf from))) e ∙ put-same buf to (crumbAt buf from) fits))
     at i h (no ne) = (i, (h, put-other buf to (crumbAt buf from) i ne))
+
+-- a crumb put where it is
+put-back : (buf : List Float) (i : ℕ) → putAt buf i (crumbAt buf i) ≡ buf
+unfolding putAt crumbAt
+put-back buf i = rw (set-getD buf (stride * i) nan, set-getD buf (stride * i + 1) nan) (set-getD buf (stride * i + 2) nan)
 
 -- What the loop carries on: the crumbs kept so far, and what is still to come, are what the pass leaves.
 pub record Kept (halve : Bool) (t : Float) (len : ℕ) (buf₀ buf : List Float) (kept anchor : ℕ) : Type 0 where
@@ -171,3 +176,13 @@ module _ {halve : Bool} {t : Float} {len : ℕ} where
       pub kept-put : {exit : List Float} {x : Crumb} → exit ≡ putAt buf kept x → x ≡ crumbAt buf next
           → Kept halve t len buf₀ exit (kept + 1) next
       kept-put e f = rw (e, f) kept-next
+
+  -- where it goes on by one, the crumbs stay where they are
+  pub kept-along : {buf : List Float} {r : ℕ} → len ≤ capacity (length buf) → OneByOne halve t len buf r → (n : ℕ) → n ≤ r
+      → Kept halve t len buf buf (n + 1) n
+  kept-along fits o zero h = kept-start (omega (arith, o .within)) fits
+  kept-along {buf} fits o (suc n) h =
+      let one : n + 1 ≡ n + stepBy halve t (crumbAt buf n) (after buf len n) = omega (arith, o .each n (omega arith)) in
+      let k = kept-along fits o n (omega arith) in
+      let e : n + 1 ≡ suc n = omega arith in
+      subst (λ m. Kept halve t len buf buf (m + 1) m) e (kept-put k (omega (arith, o .within)) one (sym (put-back buf (n + 1))) refl)

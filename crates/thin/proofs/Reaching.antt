@@ -1,6 +1,6 @@
 -- The steps of a reach: what the loops over the ends, and over the points between, carry on. Assumes nothing.
-use Prim.Native.Nat.{ℕ, suc, _+_, _-_, _≤_, _<_, min}
-use mathlib.Core.Path.{_≡_, sym, ap, _∙_}
+use Prim.Native.Nat.{ℕ, zero, suc, _+_, _-_, _≤_, _<_, min}
+use mathlib.Core.Path.{_≡_, refl, sym, ap, _∙_, subst}
 use mathlib.Core.Bool.{true, false}
 use mathlib.Core.List.{List, [], _∷_}
 use native.Mathlib.Omega.{arith}
@@ -8,7 +8,6 @@ use lib.ListN.{length, getD, take, drop, length-drop, drop-of-length-le}
 use lib.Seq.{drop-cons, getD-drop, getD-take, length-take-le}
 use lib.Ieee.{Float, le}
 use Rattle.plane.specs.Plane.{offSegment}
-use Rattle.plane.specs.declared.Point.{Point}
 use Rattle.crumbs.specs.declared.Crumb.{Crumb}
 use Rattle.crumbs.specs.Crumb.{crumbAt, crumbs, point}
 use Rattle.crumbs.proofs.Crumbs.{length-crumbs, getD-crumbs}
@@ -48,10 +47,6 @@ getD-after : (buf : List Float) (len anchor k : ℕ) (d : Crumb) (i : ℕ) → s
     → getD (after buf len anchor) k d ≡ crumbAt buf i
 getD-after buf len anchor k d i e b =
     getD-drop (suc anchor) (crumbs len buf) k d ∙ (getD-crumbs len buf (suc anchor + k) d (omega arith) ∙ ap (crumbAt buf) e)
-
--- a distance that was measured between places that were read
-pub measured : {r : Float} {p a b x y z : Point} → r ≡ offSegment p a b → p ≡ x → a ≡ y → b ≡ z → r ≡ offSegment x y z
-measured e f g h = cc
 
 -- ---- what the loops carry on
 -- how many ends are left to try, at an end
@@ -169,3 +164,14 @@ module _ {t : Float} {buf : List Float} {len anchor : ℕ} where
               ended
               (sym at-end
               ∙ farther-stop t (crumbAt buf anchor) (after buf len anchor) (end - (anchor + 1)) (left len anchor (end + 1)) (rw tried bad))
+
+      -- points that stay are passed over
+      pub between-over : {j : ℕ} → Between t buf len anchor end j → (n : ℕ) → j + n ≤ end
+          → ((i : ℕ) → j ≤ i → i < j + n
+          → le (offSegment (point (crumbAt buf i)) (point (crumbAt buf anchor)) (point (crumbAt buf end))) t ≡ true)
+          → Between t buf len anchor end (j + n)
+      between-over {j} u zero h s = let e : j ≡ j + 0 = omega arith in subst (Between t buf len anchor end) e u
+      between-over {j} u (suc n) h s =
+          let e : j + n + 1 ≡ j + suc n = omega arith in
+          let v = between-over u n (omega arith) (λ i low high. s i low (omega arith)) in
+          subst (Between t buf len anchor end) e (between-on v (omega arith) refl (s (j + n) (omega arith) (omega arith)))

@@ -3,4 +3,5 @@ pub mod Questions
 pub mod Promises
 pub mod Theorems
 pub mod Bounds
+pub mod Rows
 pub mod Inner

@@ -3,6 +3,8 @@
 // Passes repeat at a doubled tolerance until a quarter of the room is free; the last one takes every
 // other crumb.
 
+mod rows;
+
 ghost use mathlib.Core.Path.{_≡_};
 ghost use Prim.Native.Nat.{suc, _+_, _<_, _≤_};
 ghost use lib.ListN.{length, drop};
@@ -10,9 +12,9 @@ ghost use Rattle.crumbs.specs.Crumb.{capacity, crumbAt, crumbs};
 ghost use Rattle.thin.specs.Crumb.{reach};
 ghost use Rattle.thin.specs.Questions.{question9};
 ghost use Rattle.thin.specs.Promises.{ThinDone};
-ghost use Rattle.thin.specs.Inner.{stepBy, Passed};
+ghost use Rattle.thin.specs.Inner.{stepBy, OneByOne, Passed};
 ghost use mathlib.Core.Bool.{not};
-ghost use lib.Ieee.{le};
+ghost use lib.Ieee.{Float, le};
 ghost use Rattle.plane.specs.Plane.{offSegment};
 ghost use Rattle.thin.specs.Bounds.{Under, Over};
 use plane::Point;
@@ -73,7 +75,7 @@ fn strays(p: Point, a: Point, b: Point, tolerance: f32, lo: f32, hi: f32) -> boo
 }
 
 // The farthest crumb after `anchor`, at most `SPAN` on, whose chord from `anchor` passes within
-// `tolerance` of every crumb between.
+// `tolerance` of every crumb between. Those that are surely within it are passed over by fours.
 fn reach(buf: &[f32], len: usize, anchor: usize, tolerance: f32, lo: f32, hi: f32) -> usize
     requires { ⌜ (anchor < len) × (len ≤ capacity (length (now buf))) ⌝ }
     requires { ⌜ (Under tolerance lo) × (Over tolerance hi) ⌝ }
@@ -84,7 +86,8 @@ fn reach(buf: &[f32], len: usize, anchor: usize, tolerance: f32, lo: f32, hi: f3
     let mut end = anchor + 2;
     'ends: while end < len && end - anchor <= SPAN {
         let b = crumbs::point_at(buf, end);
-        for j in anchor + 1..end {
+        let first = rows::near_from(buf, anchor + 1, end, a, b, lo);
+        for j in first..end {
             let p = crumbs::point_at(buf, j);
             if strays(p, a, b, tolerance, lo, hi) {
                 break 'ends;
@@ -116,6 +119,17 @@ fn next(
     reach(buf, len, anchor, tolerance, lo, hi)
 }
 
+// Where a pass begins to look for crumbs to drop: it goes on by one from each crumb before.
+fn start(buf: &[f32], len: usize, hi: f32, halve: bool) -> usize
+    requires { ⌜ (2 ≤ len) × (len ≤ capacity (length (now buf))) ⌝ }
+    ensures { λ r. ⌜ ((t : Float) → Over t hi → OneByOne halve t len (now (buf .entry)) r) ⌝ }
+{
+    if halve {
+        return 0;
+    }
+    rows::far_from_start(buf, len, hi)
+}
+
 // One pass over the first `len` crumbs, compacted in place; returns how many are kept. Each kept
 // crumb is written at or before where it was, and the reach reads only from the last kept crumb on.
 fn pass(buf: &mut [f32], len: usize, tolerance: f32, halve: bool) -> usize
@@ -128,8 +142,8 @@ fn pass(buf: &mut [f32], len: usize, tolerance: f32, halve: bool) -> usize
     let bound = found(tolerance);
     let lo = bound.lo;
     let hi = bound.hi;
-    let mut kept = 1;
-    let mut anchor = 0;
+    let mut anchor = start(buf, len, hi, halve);
+    let mut kept = anchor + 1;
     while anchor + 1 < len - 1 {
         anchor = next(buf, len, anchor, tolerance, lo, hi, halve);
         let c = crumbs::crumb_at(buf, anchor);

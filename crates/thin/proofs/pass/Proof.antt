@@ -2,15 +2,15 @@
 use Prim.Native.Nat.{_-_}
 use mathlib.Core.Path.{_≡_, _∙_}
 use native.Mathlib.Omega.{arith}
-use Rattle.thin.proofs.Passing.{Kept, passed-few, kept-start, kept-end, kept-put, next-on, next-inside, next-last}
+use Rattle.thin.proofs.Passing.{Kept, passed-few, kept-along, kept-end, kept-put, next-on, next-inside, next-last}
 use Rattle.thin.proofs.pass.Statement.{statement}
 use Rattle.thin.proofs.pass.Tie as tie
 
 abbrev Inv-loop : tie.InvT-loop
-Inv-loop buf₀ len tolerance halve lo hi kept₀ anchor₀ buf kept anchor = Kept halve tolerance len buf₀ buf kept anchor
+Inv-loop buf₀ len tolerance halve lo hi anchor₀ kept₀ buf anchor kept = Kept halve tolerance len buf₀ buf kept anchor
 
 abbrev μ-loop : tie.MeasureT-loop
-μ-loop buf₀ len tolerance halve lo hi kept₀ anchor₀ buf kept anchor = len - anchor
+μ-loop buf₀ len tolerance halve lo hi anchor₀ kept₀ buf anchor kept = len - anchor
 
 returns : tie.Need-returns Inv-loop μ-loop
 returns c = passed-few _ (omega arith)
@@ -18,8 +18,15 @@ returns c = passed-few _ (omega arith)
 found-requires : tie.Need-found-requires Inv-loop μ-loop
 found-requires c κs = tt
 
+start-requires : tie.Need-start-requires Inv-loop μ-loop
+start-requires c κs = omega arith
+
+add-kept : tie.Need-add-kept Inv-loop μ-loop
+add-kept c = let s = c .start .ensures _ (c .before .before .found .ensures .1) in omega (arith, s .within)
+
 loop-holds : tie.Need-loop-holds Inv-loop μ-loop
-loop-holds c = kept-start (omega arith) (c .before .before .before .pre)
+loop-holds c =
+    kept-along (c .before .before .before .before .before .pre) (c .start .ensures _ (c .before .before .found .ensures .1)) _ (omega arith)
 
 add-loop : tie.Need-add-loop Inv-loop μ-loop
 add-loop c = omega arith
@@ -28,7 +35,7 @@ sub-loop : tie.Need-sub-loop Inv-loop μ-loop
 sub-loop c = omega arith
 
 next-requires : tie.Need-next-requires Inv-loop μ-loop
-next-requires c κs = (omega arith, c .before .before .before .found .ensures)
+next-requires c κs = (omega arith, c .before .before .before .before .before .found .ensures)
 
 crumb-at-requires : tie.Need-crumb-at-requires Inv-loop μ-loop
 crumb-at-requires c κs =
@@ -39,8 +46,8 @@ crumb-at-requires c κs =
 put-requires : tie.Need-put-requires Inv-loop μ-loop
 put-requires c κs = omega (arith, c .before .before .before .before .before .before .loop .inv)
 
-add-kept : tie.Need-add-kept Inv-loop μ-loop
-add-kept c = omega arith
+add-kept-2 : tie.Need-add-kept-2 Inv-loop μ-loop
+add-kept-2 c = omega arith
 
 loop-less : tie.Need-loop-less Inv-loop μ-loop
 loop-less c =
@@ -81,7 +88,7 @@ same-length-2 c = c .before .before .put2 .kept .0 ∙ c .before .before .before
 returns-3 : tie.Need-returns-3 Inv-loop μ-loop
 returns-3 c =
     let l = c .before .before .before .before .before .before .before .before in
-    let no : l .loop .anchor ≡ l .before .before .before .before .args .len - 1 → ⊥ =
+    let no : l .loop .anchor ≡ l .before .before .before .before .before .before .args .len - 1 → ⊥ =
     c .before .before .before .before .before .before .if2 .left in
     kept-end
     (kept-put (l .loop .inv) (omega arith) (next-last (l .loop .inv) (omega arith)) (c .before .before .put2 .ensures)
@@ -96,13 +103,15 @@ pass-spec =
     μ-loop
     returns
     found-requires
+    start-requires
+    add-kept
     loop-holds
     add-loop
     sub-loop
     next-requires
     crumb-at-requires
     put-requires
-    add-kept
+    add-kept-2
     loop-less
     loop-again
     sub-if2

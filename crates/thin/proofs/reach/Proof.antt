@@ -5,16 +5,17 @@ use mathlib.Core.Path.{refl}
 use native.Mathlib.Omega.{arith}
 use borrow.Author.Needs.{needs}
 use borrow.Author.Tests.{leb-true, leb-false}
-use Rattle.thin.proofs.Reaching.{Between, Ends, ends-start, ends-out, ends-on, ends-stray, between-start, between-on}
+use Rattle.thin.proofs.Reaching.{Between, Ends, ends-start, ends-out, ends-on, ends-stray, between-on}
+use Rattle.thin.proofs.Rowing.{between-near}
 use Rattle.thin.proofs.Bounding.{stays, leaves}
 use Rattle.thin.proofs.reach.Statement.{statement}
 use Rattle.thin.proofs.reach.Tie as tie
 
 abbrev Inv-loop : tie.InvT-loop
-Inv-loop buf len anchor tolerance lo hi a end b j₀ j = Between tolerance buf len anchor end j
+Inv-loop buf len anchor tolerance lo hi a end b first j₀ j = Between tolerance buf len anchor end j
 
 abbrev μ-loop : tie.MeasureT-loop
-μ-loop buf len anchor tolerance lo hi a end b j₀ j = end - j
+μ-loop buf len anchor tolerance lo hi a end b first j₀ j = end - j
 
 abbrev Inv-ends : tie.InvT-ends
 Inv-ends buf len anchor tolerance lo hi a end₀ end = Ends tolerance buf len anchor end
@@ -37,21 +38,29 @@ sub-if1 c = omega arith
 point-at-requires-2 : tie.Need-point-at-requires-2 Inv-loop μ-loop Inv-ends μ-ends
 point-at-requires-2 c κs = search needs
 
-add-j : tie.Need-add-j Inv-loop μ-loop Inv-ends μ-ends
-add-j c = omega arith
+add-near-from : tie.Need-add-near-from Inv-loop μ-loop Inv-ends μ-ends
+add-near-from c = omega arith
+
+near-from-requires : tie.Need-near-from-requires Inv-loop μ-loop Inv-ends μ-ends
+near-from-requires c κs = omega arith
 
 loop-holds : tie.Need-loop-holds Inv-loop μ-loop Inv-ends μ-ends
 loop-holds c =
-    between-start (c .before .before .before .ends .inv) (c .before .before .ends-test .taken) (leb-true _ _ (c .before .if1 .taken))
+    let e = c .before .before .before .before in
+    between-near (e .ends .inv) (c .before .before .before .ends-test .taken) (leb-true _ _ (c .before .before .if1 .taken))
+    (e .before .before .before .pre .1 .0)
+    (e .before .point-at .ensures)
+    (c .before .point-at2 .ensures)
+    (c .near-from .ensures)
 
 point-at-requires-3 : tie.Need-point-at-requires-3 Inv-loop μ-loop Inv-ends μ-ends
 point-at-requires-3 c κs = search needs
 
 strays-requires : tie.Need-strays-requires Inv-loop μ-loop Inv-ends μ-ends
-strays-requires c κs = c .before .before .before .before .before .before .before .before .before .pre .1
+strays-requires c κs = c .before .before .before .before .before .before .before .before .before .before .pre .1
 
-add-j-2 : tie.Need-add-j-2 Inv-loop μ-loop Inv-ends μ-ends
-add-j-2 c = omega arith
+add-j : tie.Need-add-j Inv-loop μ-loop Inv-ends μ-ends
+add-j c = omega arith
 
 loop-less : tie.Need-loop-less Inv-loop μ-loop Inv-ends μ-ends
 loop-less c = omega arith
@@ -59,12 +68,13 @@ loop-less c = omega arith
 loop-again : tie.Need-loop-again Inv-loop μ-loop Inv-ends μ-ends
 loop-again c =
     let l = c .before .before .before .before in
-    let e = l .before .before .before .before in
-    between-on (e .ends .inv) (l .before .before .before .ends-test .taken) (leb-true _ _ (l .before .before .if1 .taken)) (l .loop .inv)
+    let e = l .before .before .before .before .before in
+    between-on (e .ends .inv) (l .before .before .before .before .ends-test .taken) (leb-true _ _ (l .before .before .before .if1 .taken))
+    (l .loop .inv)
     (c .before .before .before .loop-test .taken)
     refl
     (stays _ (c .before .strays .ensures) (c .before .before .point-at3 .ensures) (e .before .point-at .ensures)
-    (l .before .point-at2 .ensures) (c .if2 .left))
+    (l .before .before .point-at2 .ensures) (c .if2 .left))
 
 add-end-2 : tie.Need-add-end-2 Inv-loop μ-loop Inv-ends μ-ends
 add-end-2 c = omega arith
@@ -75,8 +85,9 @@ ends-less c = omega arith
 ends-again : tie.Need-ends-again Inv-loop μ-loop Inv-ends μ-ends
 ends-again c =
     let l = c .before in
-    let e = l .before .before .before .before in
-    ends-on (e .ends .inv) (l .before .before .before .ends-test .taken) (leb-true _ _ (l .before .before .if1 .taken)) (l .loop .inv)
+    let e = l .before .before .before .before .before in
+    ends-on (e .ends .inv) (l .before .before .before .before .ends-test .taken) (leb-true _ _ (l .before .before .before .if1 .taken))
+    (l .loop .inv)
     (c .loop-test .left)
 
 sub-result : tie.Need-sub-result Inv-loop μ-loop Inv-ends μ-ends
@@ -91,9 +102,9 @@ returns c =
     (⊎-elim
     (λ w. ends-out (e .ends .inv) (omega arith))
     (λ w.
-    ends-stray (e .ends .inv) (w .0 .taken) (leb-true _ _ (w .1 .taken)) (w .3 .inv) (w .4 .taken)
+    ends-stray (e .ends .inv) (w .0 .taken) (leb-true _ _ (w .1 .taken)) (w .4 .inv) (w .5 .taken)
     refl
-    (leaves _ (w .6 .ensures) (w .5 .ensures) (e .before .point-at .ensures) (w .2 .ensures) (w .7 .taken))))
+    (leaves _ (w .7 .ensures) (w .6 .ensures) (e .before .point-at .ensures) (w .2 .ensures) (w .8 .taken))))
     (c .ends-test .came)
 
 pub reach-spec : {M : Type 1} → statement M
@@ -109,11 +120,12 @@ reach-spec =
     ends-holds
     sub-if1
     point-at-requires-2
-    add-j
+    add-near-from
+    near-from-requires
     loop-holds
     point-at-requires-3
     strays-requires
-    add-j-2
+    add-j
     loop-less
     loop-again
     add-end-2
