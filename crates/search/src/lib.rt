@@ -1,6 +1,6 @@
 // Searches on a whole line of crumbs: the segment nearest a position, the place a way along. `quick` finds the
-// nearest one with two roots in all, by the squares of `rows`; `course_match` the segment of the followed course
-// that the rider is on.
+// nearest one with two roots in all, `rows` that of the breadcrumb sixteen segments at a time; `course_match` the segment of the
+// followed course that the rider is on.
 
 pub mod course_match;
 pub mod quick;
@@ -19,7 +19,7 @@ ghost use mathlib.Core.Path.{_≡_};
 ghost use Prim.Native.Nat.{_≤_, _<_};
 ghost use lib.ListN.{length};
 ghost use Rattle.crumbs.specs.Crumb.{capacity, crumbs};
-ghost use Rattle.search.specs.Search.{nearestOnBreadcrumb, nearestWithin};
+ghost use Rattle.search.specs.Search.{anywhere, nearestOnBreadcrumb, nearestWithin};
 ghost use Rattle.search.specs.Course.{closer, courseNear, joins, joined};
 ghost use Rattle.search.specs.Along.{shareAlong, pointAlong, atAlong, ends};
 
@@ -47,19 +47,26 @@ pub enum Join {
     NoSegment,
 }
 
+// All of f32's range.
+fn anywhere() -> Stretch
+    ensures { λ r. ⌜ r ≡ anywhere ⌝ }
+{
+    Stretch {
+        floor: LOWEST,
+        ceiling: LARGEST,
+    }
+}
+
 // The nearest segment of the breadcrumb; on a tie the one nearer home.
 pub fn nearest_on_breadcrumb(line: &[f32], len: usize, p: Point, ends: Range) -> Best
     requires { ⌜ (1 ≤ ends .from) × (ends .to < len) × (len ≤ capacity (length (now line))) ⌝ }
     ensures { λ r. ⌜ r ≡ nearestOnBreadcrumb (crumbs len (now (line .entry))) p ends ⌝ }
 {
-    let anywhere = Stretch {
-        floor: LOWEST,
-        ceiling: LARGEST,
-    };
+    let within = anywhere();
     let mut best = SoFar::Empty;
     let mut end = ends.from;
     while end <= ends.to {
-        best = segments::consider(line, len, p, anywhere, Ranking::Plain, end, best);
+        best = segments::consider(line, len, p, within, Ranking::Plain, end, best);
         end += 1;
     }
     segments::found(best)

@@ -3,21 +3,22 @@ use Prim.Native.Nat.{_+_, _-_}
 use mathlib.Core.Path.{ap, _∙_}
 use native.Mathlib.Omega.{arith}
 use borrow.Author.Needs.{needs}
-use lib.Ieee.{ofBits}
 use Rattle.crumbs.specs.Crumb.{crumbs}
 use Rattle.segments.specs.declared.costs.Ranking.the-variants.{Plain}
 use Rattle.segments.specs.Segment.{considered, costWithin, found}
-use Rattle.search.specs.Search.{lowest, largest, nearestOnBreadcrumb}
-use Rattle.search.proofs.Searching.{Rises, rises-start, rises-on, rises-out}
+use Rattle.search.proofs.Searching.{Rises, rises-start, rises-on, rises-out, breadcrumb-is}
 use Rattle.search.proofs.nearest_on_breadcrumb.Statement.{statement}
 use Rattle.search.proofs.nearest_on_breadcrumb.Tie as tie
 
 abbrev Inv-loop : tie.InvT-loop
-Inv-loop line len p ends anywhere best₀ end₀ best end =
-    Rises (considered (crumbs len line) p (costWithin (crumbs len line) p anywhere Plain)) ends best end
+Inv-loop line len p ends within best₀ end₀ best end =
+    Rises (considered (crumbs len line) p (costWithin (crumbs len line) p within Plain)) ends best end
 
 abbrev μ-loop : tie.MeasureT-loop
-μ-loop line len p ends anywhere best₀ end₀ best end = ends .to + 1 - end
+μ-loop line len p ends within best₀ end₀ best end = ends .to + 1 - end
+
+anywhere-requires : tie.Need-anywhere-requires Inv-loop μ-loop
+anywhere-requires c κs = search needs
 
 loop-holds : tie.Need-loop-holds Inv-loop μ-loop
 loop-holds c = rises-start
@@ -38,8 +39,9 @@ found-requires : tie.Need-found-requires Inv-loop μ-loop
 found-requires c κs = search needs
 
 returns : tie.Need-returns Inv-loop μ-loop
-unfolding nearestOnBreadcrumb lowest largest ofBits
-returns c = c .found .ensures ∙ ap found (rises-out (c .before .before .before .loop .inv) (c .before .if1 .left))
+returns c =
+    let l = c .before .before .before in
+    breadcrumb-is _ _ _ (c .found .ensures ∙ ap found (rises-out (l .loop .inv) (c .before .if1 .left))) (l .before .anywhere .ensures)
 
 pub nearest-on-breadcrumb-spec : {M : Type 1} → statement M
 nearest-on-breadcrumb-spec =
@@ -47,6 +49,7 @@ nearest-on-breadcrumb-spec =
     (tie.spec
     Inv-loop
     μ-loop
+    anywhere-requires
     loop-holds
     consider-requires
     add-end

@@ -8,6 +8,7 @@ use Rattle.crumbs.specs.Crumb.{crumbs}
 use Rattle.segments.specs.Segment.{found}
 use Rattle.search.specs.Search.{nearestWithin}
 use Rattle.search.proofs.quick.Leading.{Chases, chases-start, chases-on, chases-none, chases-one, counted}
+use Rattle.search.proofs.quick.Passing.{chases-passed}
 use Rattle.search.proofs.quick.plainly_within.Statement.{statement}
 use Rattle.search.proofs.quick.plainly_within.Tie as tie
 
@@ -17,8 +18,13 @@ Inv-loop line len p ends within lead₀ end₀ lead end = Chases (crumbs len lin
 abbrev μ-loop : tie.MeasureT-loop
 μ-loop line len p ends within lead₀ end₀ lead end = end + 1 - ends .from
 
+over-rows-requires : tie.Need-over-rows-requires Inv-loop μ-loop
+over-rows-requires c κs = search needs
+
 loop-holds : tie.Need-loop-holds Inv-loop μ-loop
-loop-holds c = chases-start _ _ _ _ _ _
+loop-holds c =
+    let rows = c .before in
+    chases-passed _ _ _ _ (rows .before .before .pre .0) (chases-start _ _ _ _ _ _) (rows .over-rows .ensures)
 
 consider-requires : tie.Need-consider-requires Inv-loop μ-loop
 consider-requires c κs = omega (arith, c .before .before .loop .inv .falls .upto)
@@ -30,8 +36,9 @@ loop-less : tie.Need-loop-less Inv-loop μ-loop
 loop-less c = omega arith
 
 loop-again : tie.Need-loop-again Inv-loop μ-loop
-loop-again c = chases-on _ _ _ _ (c .before .before .before .loop .inv) (c .before .before .before .before .before .pre .0)
-    (c .before .if1 .taken) (c .consider .ensures)
+loop-again c =
+    let l = c .before .before .before in
+    chases-on _ _ _ _ (l .loop .inv) (l .before .before .before .before .pre .0) (c .before .if1 .taken) (c .consider .ensures)
 
 returns : tie.Need-returns Inv-loop μ-loop
 unfolding nearestWithin
@@ -47,7 +54,7 @@ nearest-on-requires : tie.Need-nearest-on-requires Inv-loop μ-loop
 nearest-on-requires c κs =
     let d = c .before .before .before in
     let l = d .before .before .before .before in
-    let a = l .before .before .pre in
+    let a = l .before .before .before .before .pre in
     (counted _ (d .if2 .left), lt-of-le-of-lt (l .loop .inv .upto) (a .1), a .2)
 
 returns-2 : tie.Need-returns-2 Inv-loop μ-loop
@@ -70,6 +77,7 @@ plainly-within-spec =
     (tie.spec
     Inv-loop
     μ-loop
+    over-rows-requires
     loop-holds
     consider-requires
     sub-end
