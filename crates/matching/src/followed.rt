@@ -136,7 +136,7 @@ fn ahead(f: Followed, crumbs: &[f32], line: &[f32], near: Nearest) -> Point
     let on = f.on;
     let len = f.len;
     match on {
-        Line::Course => search::at_along(line, len, near.end, along),
+        Line::Course => search::line_at_along(line, len, near.end, along),
         Line::Nothing => search::at_along(crumbs, len, near.end, along),
         Line::Breadcrumb => search::at_along(crumbs, len, near.end, along),
     }

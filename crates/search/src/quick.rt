@@ -2,15 +2,19 @@
 
 use crate::Range;
 use crate::rows;
+use crumbs::Crumb;
 use plane::Point;
 use segments::Best;
 use segments::Stretch;
 use segments::costs::Ranking;
 ghost use mathlib.Core.Path.{_≡_};
 ghost use mathlib.Core.Bool.{false};
-ghost use Prim.Native.Nat.{_≤_, _<_};
+ghost use mathlib.Core.List.{List};
+ghost use Prim.Native.Nat.{ℕ, _-_, _≤_, _<_};
 ghost use lib.ListN.{length};
+ghost use Rattle.crumbs.specs.declared.Crumb.{Crumb};
 ghost use Rattle.crumbs.specs.Crumb.{capacity, crumbs};
+ghost use Rattle.segments.specs.Line.{at};
 ghost use Rattle.search.specs.Search.{nearestOnBreadcrumb, nearestWithin};
 ghost use Rattle.segments.specs.declared.costs.Ranking.the-variants.{Plain};
 ghost use Rattle.search.specs.Square.{reaches, overtakes, takesLead, leadsDown, Passes};
@@ -29,14 +33,11 @@ struct Passed {
     end: usize,
 }
 
-// Whether segment `end` reaches into the stretch.
-pub fn reaches(line: &[f32], len: usize, within: Stretch, end: usize) -> bool
-    requires { ⌜ (1 ≤ end) × (end < len) × (len ≤ capacity (length (now line))) ⌝ }
-    ensures { λ r. ⌜ r ≡ reaches (crumbs len (now (line .entry))) within end ⌝ }
+// Whether the segment from `a` to `b` reaches into the stretch.
+pub fn reaches(a: Crumb, b: Crumb, within: Stretch) -> bool
+    ensures { λ r. ⌜ ((line : List Crumb) (end : ℕ) → a ≡ at line (end - 1) → b ≡ at line end → r ≡ reaches line within end) ⌝ }
 {
-    let ends = segments::crumb(line, len, end).along < within.floor;
-    let begins = segments::crumb(line, len, end - 1).along > within.ceiling;
-    !(ends | begins)
+    !((b.along < within.floor) | (a.along > within.ceiling))
 }
 
 // Segment `end` in the lead where its square is less, or where none was.
@@ -60,21 +61,21 @@ fn overtake(lead: Lead, end: usize, square: f32) -> Lead
     lead
 }
 
-fn consider(line: &[f32], len: usize, p: Point, within: Stretch, end: usize, lead: Lead) -> Lead
-    requires { ⌜ (1 ≤ end) × (end < len) × (len ≤ capacity (length (now line))) ⌝ }
-    ensures { λ r. ⌜ r ≡ takesLead (crumbs len (now (line .entry))) p within end lead ⌝ }
+// The lead behind the segment from `a` to `b`, whose far end is `end`.
+fn consider(a: Crumb, b: Crumb, p: Point, within: Stretch, end: usize, lead: Lead) -> Lead
+    ensures { λ r. ⌜ ((line : List Crumb) → a ≡ at line (end - 1) → b ≡ at line end → r ≡ takesLead line p within end lead) ⌝ }
 {
-    if reaches(line, len, within, end) {
-        return overtake(lead, end, segments::square_on(line, len, p, end));
+    if reaches(a, b, within) {
+        return overtake(lead, end, segments::square(a, b, p));
     }
     lead
 }
 
 // The nearest segment of the breadcrumb; on a tie the one nearer home. Where the root of the least square tried before the
 // best is larger than the best's, the best is the one that the roots give. Else there may be a tie, and the roots decide.
-pub fn nearest_on_breadcrumb(line: &[f32], len: usize, p: Point, ends: Range) -> Best
-    requires { ⌜ (1 ≤ ends .from) × (ends .to < len) × (len ≤ capacity (length (now line))) ⌝ }
-    ensures { λ r. ⌜ r ≡ nearestOnBreadcrumb (crumbs len (now (line .entry))) p ends ⌝ }
+pub fn nearest_on_breadcrumb(buf: &[f32], len: usize, p: Point, ends: Range) -> Best
+    requires { ⌜ (1 ≤ ends .from) × (ends .to < len) × (len ≤ capacity (length (now buf))) ⌝ }
+    ensures { λ r. ⌜ r ≡ nearestOnBreadcrumb (crumbs len (now (buf .entry))) p ends ⌝ }
 {
     let within = crate::anywhere();
     let mut lead = Lead {
@@ -84,17 +85,19 @@ pub fn nearest_on_breadcrumb(line: &[f32], len: usize, p: Point, ends: Range) ->
     };
     let mut end = ends.from;
     while end <= ends.to {
-        lead = consider(line, len, p, within, end, lead);
+        let a = segments::crumb(buf, len, end - 1);
+        let b = segments::crumb(buf, len, end);
+        lead = consider(a, b, p, within, end, lead);
         end += 1;
     }
     if lead.best == 0 {
         return Best::Nothing;
     }
     if binary32::sqrtf(lead.least) < binary32::sqrtf(lead.before) {
-        let near = segments::nearest_on(line, len, p, lead.best);
+        let near = segments::nearest_on(buf, len, p, lead.best);
         return Best::Found(near);
     }
-    crate::nearest_on_breadcrumb(line, len, p, ends)
+    crate::nearest_on_breadcrumb(buf, len, p, ends)
 }
 
 // Whether one of a row of segments, from `end` down, reaches into the stretch.
@@ -104,7 +107,9 @@ fn any_reaches(line: &[f32], len: usize, within: Stretch, end: usize) -> bool
 {
     let mut any = false;
     for k in 0..rows::ROW {
-        any = any | reaches(line, len, within, end - k);
+        let a = segments::line_crumb(line, len, end - k - 1);
+        let b = segments::line_crumb(line, len, end - k);
+        any = any | reaches(a, b, within);
     }
     any
 }
@@ -116,7 +121,9 @@ fn along_row(line: &[f32], len: usize, p: Point, within: Stretch, end: usize, le
 {
     let mut leading = lead;
     for k in 0..rows::ROW {
-        leading = consider(line, len, p, within, end - k, leading);
+        let a = segments::line_crumb(line, len, end - k - 1);
+        let b = segments::line_crumb(line, len, end - k);
+        leading = consider(a, b, p, within, end - k, leading);
     }
     leading
 }
@@ -160,14 +167,16 @@ fn plainly_within(line: &[f32], len: usize, p: Point, ends: Range, within: Stret
     let mut lead = passed.lead;
     let mut end = passed.end;
     while ends.from <= end {
-        lead = consider(line, len, p, within, end, lead);
+        let a = segments::line_crumb(line, len, end - 1);
+        let b = segments::line_crumb(line, len, end);
+        lead = consider(a, b, p, within, end, lead);
         end -= 1;
     }
     if lead.best == 0 {
         return Best::Nothing;
     }
     if binary32::sqrtf(lead.least) < binary32::sqrtf(lead.before) {
-        let near = segments::nearest_on(line, len, p, lead.best);
+        let near = segments::nearest_on_line(line, len, p, lead.best);
         return Best::Found(near);
     }
     crate::nearest_within(line, len, p, ends, within, Ranking::Plain)

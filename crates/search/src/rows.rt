@@ -25,13 +25,13 @@ struct Front {
 }
 
 // The squares of how far `p` is off the segments of a row, from segment `first` of the line on.
-fn squares_from(line: &[f32], len: usize, p: Point, first: usize) -> [f32; 16]
-    requires { ⌜ (1 ≤ first) × (first + rowLength ≤ len) × (len ≤ capacity (length (now line))) ⌝ }
-    ensures { λ r. ⌜ SquaresFrom (crumbs len (now (line .entry))) p first r ⌝ }
+fn squares_from(buf: &[f32], len: usize, p: Point, first: usize) -> [f32; 16]
+    requires { ⌜ (1 ≤ first) × (first + rowLength ≤ len) × (len ≤ capacity (length (now buf))) ⌝ }
+    ensures { λ r. ⌜ SquaresFrom (crumbs len (now (buf .entry))) p first r ⌝ }
 {
     let mut row = [0.0; 16];
     for k in 0..ROW {
-        row[k] = segments::square_on(line, len, p, first + k);
+        row[k] = segments::square_on(buf, len, p, first + k);
     }
     row
 }
@@ -58,13 +58,13 @@ fn least_of(row: &[f32; 16], bar: f32) -> f32
 }
 
 // The row from `first` on is tried: it is in front where one of its squares is less than all before it.
-fn pass_row(line: &[f32], len: usize, p: Point, first: usize, front: Front) -> Front
-    requires { ⌜ (1 ≤ first) × (first + rowLength ≤ len) × (len ≤ capacity (length (now line))) ⌝ }
+fn pass_row(buf: &[f32], len: usize, p: Point, first: usize, front: Front) -> Front
+    requires { ⌜ (1 ≤ first) × (first + rowLength ≤ len) × (len ≤ capacity (length (now buf))) ⌝ }
     ensures { λ r. ⌜ ((ends : Range) (end : ℕ) → ends .from ≤ first → first ≤ end → first + rowLength ≤ ends .to + 1
-        → InFront (crumbs len (now (line .entry))) p ends rowLength end front
-        → InFront (crumbs len (now (line .entry))) p ends rowLength (first + rowLength) r) ⌝ }
+        → InFront (crumbs len (now (buf .entry))) p ends rowLength end front
+        → InFront (crumbs len (now (buf .entry))) p ends rowLength (first + rowLength) r) ⌝ }
 {
-    let row = squares_from(line, len, p, first);
+    let row = squares_from(buf, len, p, first);
     let least = least_of(&row, front.least);
     if least < front.least {
         return Front {
@@ -93,10 +93,10 @@ fn row_at(end: usize, to: usize) -> usize
 }
 
 // The row in front of all rows of a range.
-fn front_row(line: &[f32], len: usize, p: Point, ends: Range) -> Front
-    requires { ⌜ (1 ≤ ends .from) × (ends .to < len) × (len ≤ capacity (length (now line))) ⌝ }
+fn front_row(buf: &[f32], len: usize, p: Point, ends: Range) -> Front
+    requires { ⌜ (1 ≤ ends .from) × (ends .to < len) × (len ≤ capacity (length (now buf))) ⌝ }
     requires { ⌜ ends .from + rowLength ≤ ends .to + 1 ⌝ }
-    ensures { λ r. ⌜ InFront (crumbs len (now (line .entry))) p ends rowLength (ends .to + 1) r ⌝ }
+    ensures { λ r. ⌜ InFront (crumbs len (now (buf .entry))) p ends rowLength (ends .to + 1) r ⌝ }
 {
     let mut front = Front {
         first: ends.from,
@@ -106,19 +106,19 @@ fn front_row(line: &[f32], len: usize, p: Point, ends: Range) -> Front
     let mut end = ends.from;
     while end <= ends.to {
         let first = row_at(end, ends.to);
-        front = pass_row(line, len, p, first, front);
+        front = pass_row(buf, len, p, first, front);
         end = first + ROW;
     }
     front
 }
 
 // The first segment of the row in front that has its least square; the last one where none has.
-fn front_segment(line: &[f32], len: usize, p: Point, front: Front) -> Front
-    requires { ⌜ (1 ≤ front .first) × (front .first + rowLength ≤ len) × (len ≤ capacity (length (now line))) ⌝ }
-    ensures { λ r. ⌜ ((ends : Range) → InFront (crumbs len (now (line .entry))) p ends rowLength (ends .to + 1) front
-        → InFront (crumbs len (now (line .entry))) p ends 1 (ends .to + 1) r) ⌝ }
+fn front_segment(buf: &[f32], len: usize, p: Point, front: Front) -> Front
+    requires { ⌜ (1 ≤ front .first) × (front .first + rowLength ≤ len) × (len ≤ capacity (length (now buf))) ⌝ }
+    ensures { λ r. ⌜ ((ends : Range) → InFront (crumbs len (now (buf .entry))) p ends rowLength (ends .to + 1) front
+        → InFront (crumbs len (now (buf .entry))) p ends 1 (ends .to + 1) r) ⌝ }
 {
-    let row = squares_from(line, len, p, front.first);
+    let row = squares_from(buf, len, p, front.first);
     let mut before = front.before;
     let mut k = 0;
     while k < ROW - 1 && !(row[k] <= front.least) {
@@ -134,46 +134,51 @@ fn front_segment(line: &[f32], len: usize, p: Point, front: Front) -> Front
 
 // Whether the segments of a range before the one in front are certainly farther off than `off`. The first of them has to be, lest it be
 // no number away: it would stay the nearest then.
-fn all_behind(line: &[f32], len: usize, p: Point, from: usize, front: Front, off: f32) -> bool
-    requires { ⌜ (1 ≤ from) × (from < len) × (len ≤ capacity (length (now line))) ⌝ }
-    ensures { λ r. ⌜ (r ≡ true → Behind (crumbs len (now (line .entry))) p from front off) ⌝ }
+fn all_behind(buf: &[f32], len: usize, p: Point, from: usize, front: Front, off: f32) -> bool
+    requires { ⌜ (1 ≤ from) × (from < len) × (len ≤ capacity (length (now buf))) ⌝ }
+    ensures { λ r. ⌜ (r ≡ true → Behind (crumbs len (now (buf .entry))) p from front off) ⌝ }
 {
     if front.first == from {
         return true;
     }
-    if !quick::reaches(line, len, crate::anywhere(), from) {
+    let a = segments::crumb(buf, len, from - 1);
+    let b = segments::crumb(buf, len, from);
+    if !quick::reaches(a, b, crate::anywhere()) {
         return false;
     }
-    let first = segments::nearest_on(line, len, p, from);
+    let first = segments::nearest_on(buf, len, p, from);
     (off < first.off) & (off < binary32::sqrtf(front.before))
 }
 
 // Whether the segment in front, which lies `off` metres away, is certainly the nearest of the range.
-fn is_nearest(line: &[f32], len: usize, p: Point, from: usize, front: Front, off: f32) -> bool
-    requires { ⌜ (1 ≤ from) × (from ≤ front .first) × (front .first < len) × (len ≤ capacity (length (now line))) ⌝ }
-    ensures { λ r. ⌜ (r ≡ true → Settled (crumbs len (now (line .entry))) p from front off) ⌝ }
+fn is_nearest(buf: &[f32], len: usize, p: Point, from: usize, front: Front, off: f32) -> bool
+    requires { ⌜ (1 ≤ from) × (from ≤ front .first) × (front .first < len) × (len ≤ capacity (length (now buf))) ⌝ }
+    ensures { λ r. ⌜ (r ≡ true → Settled (crumbs len (now (buf .entry))) p from front off) ⌝ }
 {
-    if !quick::reaches(line, len, crate::anywhere(), front.first) {
+    let end = front.first;
+    let a = segments::crumb(buf, len, end - 1);
+    let b = segments::crumb(buf, len, end);
+    if !quick::reaches(a, b, crate::anywhere()) {
         return false;
     }
     if off <= binary32::sqrtf(front.least) {
-        return all_behind(line, len, p, from, front, off);
+        return all_behind(buf, len, p, from, front, off);
     }
     false
 }
 
 // The nearest segment of the breadcrumb; on a tie the one nearer home.
-pub fn nearest_on_breadcrumb(line: &[f32], len: usize, p: Point, ends: Range) -> Best
-    requires { ⌜ (1 ≤ ends .from) × (ends .to < len) × (len ≤ capacity (length (now line))) ⌝ }
-    ensures { λ r. ⌜ r ≡ nearestOnBreadcrumb (crumbs len (now (line .entry))) p ends ⌝ }
+pub fn nearest_on_breadcrumb(buf: &[f32], len: usize, p: Point, ends: Range) -> Best
+    requires { ⌜ (1 ≤ ends .from) × (ends .to < len) × (len ≤ capacity (length (now buf))) ⌝ }
+    ensures { λ r. ⌜ r ≡ nearestOnBreadcrumb (crumbs len (now (buf .entry))) p ends ⌝ }
 {
     if ends.from <= ends.to && ROW <= ends.to - ends.from {
-        let row = front_row(line, len, p, ends);
-        let front = front_segment(line, len, p, row);
-        let near = segments::nearest_on(line, len, p, front.first);
-        if is_nearest(line, len, p, ends.from, front, near.off) {
+        let row = front_row(buf, len, p, ends);
+        let front = front_segment(buf, len, p, row);
+        let near = segments::nearest_on(buf, len, p, front.first);
+        if is_nearest(buf, len, p, ends.from, front, near.off) {
             return Best::Found(near);
         }
     }
-    quick::nearest_on_breadcrumb(line, len, p, ends)
+    quick::nearest_on_breadcrumb(buf, len, p, ends)
 }

@@ -23,8 +23,17 @@ anywhere-requires c κs = search needs
 loop-holds : tie.Need-loop-holds Inv-loop μ-loop
 loop-holds c = rises-start
 
+sub-crumb : tie.Need-sub-crumb Inv-loop μ-loop
+sub-crumb c = omega arith
+
+crumb-requires : tie.Need-crumb-requires Inv-loop μ-loop
+crumb-requires c κs = omega arith
+
+crumb-requires-2 : tie.Need-crumb-requires-2 Inv-loop μ-loop
+crumb-requires-2 c κs = omega arith
+
 consider-requires : tie.Need-consider-requires Inv-loop μ-loop
-consider-requires c κs = omega arith
+consider-requires c κs = search needs
 
 add-end : tie.Need-add-end Inv-loop μ-loop
 add-end c = omega arith
@@ -33,7 +42,11 @@ loop-less : tie.Need-loop-less Inv-loop μ-loop
 loop-less c = omega arith
 
 loop-again : tie.Need-loop-again Inv-loop μ-loop
-loop-again c = rises-on (c .before .before .before .loop .inv) (c .before .if1 .taken) (c .consider .ensures)
+loop-again c =
+    let read = c .before .before in
+    let test = read .before in
+    rises-on (test .before .before .loop .inv) (test .if1 .taken)
+    (c .consider .ensures _ (read .crumb .ensures) (c .before .crumb2 .ensures))
 
 found-requires : tie.Need-found-requires Inv-loop μ-loop
 found-requires c κs = search needs
@@ -51,6 +64,9 @@ nearest-on-breadcrumb-spec =
     μ-loop
     anywhere-requires
     loop-holds
+    sub-crumb
+    crumb-requires
+    crumb-requires-2
     consider-requires
     add-end
     loop-less

@@ -45,7 +45,8 @@ Number x = T (not (isNan x))
 module _ (line : List Crumb) (p : Point) where
   -- ---- no row yet
   pub front-start : (ends : Range) → ends .from + rowLength ≤ ends .to + 1
-      → InFront line p ends rowLength (ends .from) (record { first = ends .from; least = ofBits binary32 0x7f7f_ffff; before = ofBits binary32 0x7f7f_ffff })
+      → InFront line p ends rowLength (ends .from)
+      (record { first = ends .from; least = ofBits binary32 0x7f7f_ffff; before = ofBits binary32 0x7f7f_ffff })
   front-start ends h = record { from = omega arith; to = h; least = none; before = none }
     where
       none : NoneLess line p (ends .from) (ends .from) (ofBits binary32 0x7f7f_ffff)
@@ -56,7 +57,8 @@ module _ (line : List Crumb) (p : Point) where
       → SquaresFrom line p first row → LeastSoFar bar row k least → NoneLess line p from (first + k) least
   tried {from} {first} {bar} {least} {row} v k K squares l =
       record {
-        fitting = l .fitting (v .fitting) (λ j h. subst (λ s. T (fits binary32 s)) (sym (squares .each j (omega arith))) (on-fits line p (first + j)));
+        fitting = l .fitting (v .fitting)
+            (λ j h. subst (λ s. T (fits binary32 s)) (sym (squares .each j (omega arith))) (on-fits line p (first + j)));
         each = λ e f t. by e f t (ltb e first) refl;
       }
     where
@@ -69,11 +71,13 @@ module _ (line : List Crumb) (p : Point) where
           (ap (λ s. lt s least) (sym (squares .each (e - first) (omega arith))) ∙ l .none (e - first) (omega arith))
 
   -- ---- one more row
-  module _ (ends : Range) {end first : ℕ} {front : Front} {row : List Float} {least : Float} (from : ends .from ≤ first) (next : first ≤ end)
+  module _ (ends : Range) {end first : ℕ} {front : Front} {row : List Float} {least : Float} (from : ends .from ≤ first)
+      (next : first ≤ end)
       (to : first + rowLength ≤ ends .to + 1) (v : InFront line p ends rowLength end front) (squares : SquaresFrom line p first row)
       (l : LeastSoFar (front .least) row rowLength least) where
     lowered : NoneLess line p (ends .from) (first + rowLength) least
-    lowered = tried (record { fitting = v .least .fitting; each = λ e f t. v .least .each e f (omega arith) }) rowLength (omega arith) squares l
+    lowered =
+        tried (record { fitting = v .least .fitting; each = λ e f t. v .least .each e f (omega arith) }) rowLength (omega arith) squares l
 
     pub leads-now : InFront line p ends rowLength (first + rowLength) (record { first = first; least = least; before = front .least })
     leads-now =
@@ -84,7 +88,8 @@ module _ (line : List Crumb) (p : Point) where
           before = record { fitting = v .least .fitting; each = λ e f t. v .least .each e f (omega arith) };
         }
 
-    pub leads-still : InFront line p ends rowLength (first + rowLength) (record { first = front .first; least = least; before = front .before })
+    pub leads-still : InFront line p ends rowLength (first + rowLength)
+        (record { first = front .first; least = least; before = front .before })
     leads-still = record { from = v .from; to = v .to; least = lowered; before = v .before }
 
   -- ---- the rule's best so far stays a number of metres away once it is one
@@ -116,7 +121,8 @@ module _ (line : List Crumb) (p : Point) where
   unfolding rising
   counted zero end best v = v
   counted (suc left) end best v =
-      counted left (end + 1) (rule end best) (subst (λ b. Counted (rule end b)) (sym (v .is)) (counted-next (v .near) (v .metres) (v .number) end))
+      counted left (end + 1) (rule end best)
+      (subst (λ b. Counted (rule end b)) (sym (v .is)) (counted-next (v .near) (v .metres) (v .number) end))
 
   -- a segment that has a cost costs how far off it is, the root of its square
   cost-is : (e : ℕ) (c : Float) → cost e ≡ Metres c → c ≡ root binary32 (squareOn line p e)
@@ -133,7 +139,8 @@ module _ (line : List Crumb) (p : Point) where
   first-costs e h = by (lt (at line e .along) (anywhere .floor) || lt (anywhere .ceiling) (at line (e - 1) .along)) h
     where
       by : (o : Bool) → not o ≡ true
-          → elim o [ true ↦ Out | false ↦ costOf Plain (nearestOn line p e) (at line (e - 1)) (at line e) ] ≡ Metres (nearestOn line p e .off)
+          → elim o [ true ↦ Out | false ↦ costOf Plain (nearestOn line p e) (at line (e - 1)) (at line e) ]
+          ≡ Metres (nearestOn line p e .off)
       by true k = absurd (true≢false (sym k))
       by false k = refl
 
@@ -164,12 +171,14 @@ module _ (line : List Crumb) (p : Point) where
     first-number r N =
         let n : count ends ≡ suc (count ends - 1) = omega (arith, v .from, v .to) in
         let first = nearestOn line p (ends .from) in
-        subst Counted (sym (ap (λ k. rising rule k (ends .from) Empty) n)) (counted (count ends - 1) (ends .from + 1) (rule (ends .from) Empty)
+        subst Counted (sym (ap (λ k. rising rule k (ends .from) Empty) n))
+        (counted (count ends - 1) (ends .from + 1) (rule (ends .from) Empty)
         (record { near = first; metres = first .off; is = ap (cheaper Empty first) (first-costs (ends .from) r); number = N }))
 
     all : Counted (state ends)
     all = elim (w .behind) [
-      | inl e ↦ first-number (subst (λ i. reaches line anywhere i ≡ true) e (w .counts)) (subst (λ i. Number (nearestOn line p i .off)) e is-number)
+      | inl e ↦ first-number (subst (λ i. reaches line anywhere i ≡ true) e (w .counts))
+          (subst (λ i. Number (nearestOn line p i .off)) e is-number)
       | inr far ↦ first-number (far .counts) (less-number (near .off) (nearestOn line p (ends .from) .off) (far .first) .1)
     ]
 
@@ -189,9 +198,11 @@ module _ (line : List Crumb) (p : Point) where
         | inl e ↦ omega (arith, l .among .0)
         | inr far ↦
             let r : lt (root binary32 (squareOn line p (other .end))) (root binary32 (front .before)) ≡ true =
-            subst (λ x. lt x (root binary32 (front .before)) ≡ true) other-is (le-lt c (near .off) (root binary32 (front .before)) no-more (far .others))
+            subst (λ x. lt x (root binary32 (front .before)) ≡ true) other-is
+            (le-lt c (near .off) (root binary32 (front .before)) no-more (far .others))
             in
-            true≢false (sym (root-less binary32 (squareOn line p (other .end)) (front .before) (on-fits line p (other .end)) (v .before .fitting) r)
+            true≢false (sym
+            (root-less binary32 (squareOn line p (other .end)) (front .before) (on-fits line p (other .end)) (v .before .fitting) r)
             ∙ v .before .each (other .end) (l .among .0) h)
       ]
 
@@ -202,7 +213,8 @@ module _ (line : List Crumb) (p : Point) where
           by : (b : Bool) → lt c (near .off) ≡ b → b ≡ false
           by true h =
               let r : lt (root binary32 (squareOn line p (other .end))) (root binary32 (front .least)) ≡ true =
-              subst (λ x. lt x (root binary32 (front .least)) ≡ true) other-is (lt-le c (near .off) (root binary32 (front .least)) h (w .low)) in
+              subst (λ x. lt x (root binary32 (front .least)) ≡ true) other-is
+              (lt-le c (near .off) (root binary32 (front .least)) h (w .low)) in
               absurd (true≢false
               (sym (root-less binary32 (squareOn line p (other .end)) (front .least) (on-fits line p (other .end)) (v .least .fitting) r)
               ∙ v .least .each (other .end) (l .among .0) (omega (arith, l .among .1))))

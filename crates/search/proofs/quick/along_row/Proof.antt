@@ -2,6 +2,7 @@
 use Prim.Native.Nat.{_-_, _≤_}
 use mathlib.Core.Path.{_≡_}
 use native.Mathlib.Omega.{arith}
+use borrow.Author.Needs.{needs}
 use Rattle.crumbs.specs.Crumb.{crumbs}
 use Rattle.search.specs.Square.{leadsDown}
 use Rattle.search.specs.Rows.{rowLength}
@@ -18,11 +19,26 @@ abbrev μ-loop : tie.MeasureT-loop
 loop-holds : tie.Need-loop-holds Inv-loop μ-loop
 loop-holds c = (omega arith, over-start _ _ _ _ _)
 
+sub-line-crumb : tie.Need-sub-line-crumb Inv-loop μ-loop
+sub-line-crumb c = omega arith
+
+sub-line-crumb-2 : tie.Need-sub-line-crumb-2 Inv-loop μ-loop
+sub-line-crumb-2 c = omega arith
+
+line-crumb-requires : tie.Need-line-crumb-requires Inv-loop μ-loop
+line-crumb-requires c κs = omega arith
+
+sub-line-crumb-3 : tie.Need-sub-line-crumb-3 Inv-loop μ-loop
+sub-line-crumb-3 c = omega arith
+
+line-crumb-requires-2 : tie.Need-line-crumb-requires-2 Inv-loop μ-loop
+line-crumb-requires-2 c κs = omega arith
+
 sub-consider : tie.Need-sub-consider Inv-loop μ-loop
 sub-consider c = omega arith
 
 consider-requires : tie.Need-consider-requires Inv-loop μ-loop
-consider-requires c κs = omega arith
+consider-requires c κs = search needs
 
 add-k : tie.Need-add-k Inv-loop μ-loop
 add-k c = omega arith
@@ -32,8 +48,12 @@ loop-less c = omega arith
 
 loop-again : tie.Need-loop-again Inv-loop μ-loop
 loop-again c =
-    let test = c .before in
-    (omega (arith, test .loop-test .taken), over-next _ _ _ _ _ _ (test .before .loop .inv .1) (c .consider .ensures))
+    let read = c .before .before in
+    let test = read .before in (
+      omega (arith, test .loop-test .taken),
+      over-next _ _ _ _ _ _ (test .before .loop .inv .1)
+          (c .consider .ensures _ (read .line-crumb .ensures) (c .before .line-crumb2 .ensures)),
+    )
 
 returns : tie.Need-returns Inv-loop μ-loop
 returns c = let v = c .before .loop .inv in over-end _ _ _ _ _ _ (v .0) (c .loop-test .left) (v .1)
@@ -45,6 +65,11 @@ along-row-spec =
     Inv-loop
     μ-loop
     loop-holds
+    sub-line-crumb
+    sub-line-crumb-2
+    line-crumb-requires
+    sub-line-crumb-3
+    line-crumb-requires-2
     sub-consider
     consider-requires
     add-k

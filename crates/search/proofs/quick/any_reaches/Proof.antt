@@ -1,6 +1,7 @@
 -- `search::quick::any_reaches` tests each segment. Assumes nothing.
 use Prim.Native.Nat.{_-_}
 use native.Mathlib.Omega.{arith}
+use borrow.Author.Needs.{needs}
 use Rattle.crumbs.specs.Crumb.{crumbs}
 use Rattle.search.specs.Rows.{rowLength}
 use Rattle.search.proofs.quick.Passing.{Tested, tested-start, tested-next, tested-end}
@@ -16,11 +17,23 @@ abbrev μ-loop : tie.MeasureT-loop
 loop-holds : tie.Need-loop-holds Inv-loop μ-loop
 loop-holds c = tested-start
 
-sub-reaches : tie.Need-sub-reaches Inv-loop μ-loop
-sub-reaches c = omega arith
+sub-line-crumb : tie.Need-sub-line-crumb Inv-loop μ-loop
+sub-line-crumb c = omega arith
+
+sub-line-crumb-2 : tie.Need-sub-line-crumb-2 Inv-loop μ-loop
+sub-line-crumb-2 c = omega arith
+
+line-crumb-requires : tie.Need-line-crumb-requires Inv-loop μ-loop
+line-crumb-requires c κs = omega arith
+
+sub-line-crumb-3 : tie.Need-sub-line-crumb-3 Inv-loop μ-loop
+sub-line-crumb-3 c = omega arith
+
+line-crumb-requires-2 : tie.Need-line-crumb-requires-2 Inv-loop μ-loop
+line-crumb-requires-2 c κs = omega arith
 
 reaches-requires : tie.Need-reaches-requires Inv-loop μ-loop
-reaches-requires c κs = omega arith
+reaches-requires c κs = search needs
 
 add-k : tie.Need-add-k Inv-loop μ-loop
 add-k c = omega arith
@@ -29,7 +42,11 @@ loop-less : tie.Need-loop-less Inv-loop μ-loop
 loop-less c = omega arith
 
 loop-again : tie.Need-loop-again Inv-loop μ-loop
-loop-again c = tested-next (c .before .before .loop .inv) (c .before .loop-test .taken) (c .reaches .ensures)
+loop-again c =
+    let read = c .before .before in
+    let test = read .before in
+    tested-next (test .before .loop .inv) (test .loop-test .taken)
+    (c .reaches .ensures _ _ (read .line-crumb .ensures) (c .before .line-crumb2 .ensures))
 
 returns : tie.Need-returns Inv-loop μ-loop
 returns c = tested-end (c .before .loop .inv) (c .loop-test .left)
@@ -41,7 +58,11 @@ any-reaches-spec =
     Inv-loop
     μ-loop
     loop-holds
-    sub-reaches
+    sub-line-crumb
+    sub-line-crumb-2
+    line-crumb-requires
+    sub-line-crumb-3
+    line-crumb-requires-2
     reaches-requires
     add-k
     loop-less

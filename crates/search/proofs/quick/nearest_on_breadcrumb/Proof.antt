@@ -21,8 +21,17 @@ anywhere-requires c κs = search needs
 loop-holds : tie.Need-loop-holds Inv-loop μ-loop
 loop-holds c = races-start _ _ _ _ _ _
 
+sub-crumb : tie.Need-sub-crumb Inv-loop μ-loop
+sub-crumb c = omega (arith, c .before .before .loop .inv .rises .from)
+
+crumb-requires : tie.Need-crumb-requires Inv-loop μ-loop
+crumb-requires c κs = omega (arith, c .before .before .loop .inv .rises .from)
+
+crumb-requires-2 : tie.Need-crumb-requires-2 Inv-loop μ-loop
+crumb-requires-2 c κs = omega (arith, c .before .before .before .loop .inv .rises .from)
+
 consider-requires : tie.Need-consider-requires Inv-loop μ-loop
-consider-requires c κs = omega (arith, c .before .before .loop .inv .rises .from)
+consider-requires c κs = search needs
 
 add-end : tie.Need-add-end Inv-loop μ-loop
 add-end c = omega arith
@@ -32,8 +41,11 @@ loop-less c = omega arith
 
 loop-again : tie.Need-loop-again Inv-loop μ-loop
 loop-again c =
-    let l = c .before .before .before in
-    races-on _ _ _ _ (l .loop .inv) (l .before .before .before .pre .0) (c .before .if1 .taken) (c .consider .ensures)
+    let read = c .before .before in
+    let test = read .before in
+    let l = test .before .before in
+    races-on _ _ _ _ (l .loop .inv) (l .before .before .before .pre .0) (test .if1 .taken)
+    (c .consider .ensures _ (read .crumb .ensures) (c .before .crumb2 .ensures))
 
 returns : tie.Need-returns Inv-loop μ-loop
 returns c =
@@ -77,6 +89,9 @@ nearest-on-breadcrumb-spec =
     μ-loop
     anywhere-requires
     loop-holds
+    sub-crumb
+    crumb-requires
+    crumb-requires-2
     consider-requires
     add-end
     loop-less

@@ -26,8 +26,17 @@ loop-holds c =
     let rows = c .before in
     chases-passed _ _ _ _ (rows .before .before .pre .0) (chases-start _ _ _ _ _ _) (rows .over-rows .ensures)
 
+sub-line-crumb : tie.Need-sub-line-crumb Inv-loop μ-loop
+sub-line-crumb c = omega (arith, c .before .before .loop .inv .falls .upto)
+
+line-crumb-requires : tie.Need-line-crumb-requires Inv-loop μ-loop
+line-crumb-requires c κs = omega (arith, c .before .before .loop .inv .falls .upto)
+
+line-crumb-requires-2 : tie.Need-line-crumb-requires-2 Inv-loop μ-loop
+line-crumb-requires-2 c κs = omega (arith, c .before .before .before .loop .inv .falls .upto)
+
 consider-requires : tie.Need-consider-requires Inv-loop μ-loop
-consider-requires c κs = omega (arith, c .before .before .loop .inv .falls .upto)
+consider-requires c κs = search needs
 
 sub-end : tie.Need-sub-end Inv-loop μ-loop
 sub-end c = omega arith
@@ -37,8 +46,11 @@ loop-less c = omega arith
 
 loop-again : tie.Need-loop-again Inv-loop μ-loop
 loop-again c =
-    let l = c .before .before .before in
-    chases-on _ _ _ _ (l .loop .inv) (l .before .before .before .before .pre .0) (c .before .if1 .taken) (c .consider .ensures)
+    let read = c .before .before in
+    let test = read .before in
+    let l = test .before .before in
+    chases-on _ _ _ _ (l .loop .inv) (l .before .before .before .before .pre .0) (test .if1 .taken)
+    (c .consider .ensures _ (read .line-crumb .ensures) (c .before .line-crumb2 .ensures))
 
 returns : tie.Need-returns Inv-loop μ-loop
 unfolding nearestWithin
@@ -50,8 +62,8 @@ sqrtf-requires c κs = search needs
 sqrtf-requires-2 : tie.Need-sqrtf-requires-2 Inv-loop μ-loop
 sqrtf-requires-2 c κs = search needs
 
-nearest-on-requires : tie.Need-nearest-on-requires Inv-loop μ-loop
-nearest-on-requires c κs =
+nearest-on-line-requires : tie.Need-nearest-on-line-requires Inv-loop μ-loop
+nearest-on-line-requires c κs =
     let d = c .before .before .before in
     let l = d .before .before .before .before in
     let a = l .before .before .before .before .pre in
@@ -63,7 +75,7 @@ returns-2 c =
     let d = c .before .before .before .before in
     let l = d .before .before .before .before in
     chases-one _ _ _ _ (l .loop .inv) (d .before .before .if1 .left) (d .if2 .left) (c .before .before .before .sqrtf .ensures)
-    (c .before .before .sqrtf2 .ensures) (c .before .if3 .taken) (c .nearest-on .ensures)
+    (c .before .before .sqrtf2 .ensures) (c .before .if3 .taken) (c .nearest-on-line .ensures)
 
 nearest-within-requires : tie.Need-nearest-within-requires Inv-loop μ-loop
 nearest-within-requires c κs = search needs
@@ -79,6 +91,9 @@ plainly-within-spec =
     μ-loop
     over-rows-requires
     loop-holds
+    sub-line-crumb
+    line-crumb-requires
+    line-crumb-requires-2
     consider-requires
     sub-end
     loop-less
@@ -86,7 +101,7 @@ plainly-within-spec =
     returns
     sqrtf-requires
     sqrtf-requires-2
-    nearest-on-requires
+    nearest-on-line-requires
     returns-2
     nearest-within-requires
     returns-3)

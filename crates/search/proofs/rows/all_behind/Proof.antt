@@ -9,6 +9,15 @@ use Rattle.search.proofs.rows.all_behind.Tie as tie
 returns : tie.Need-returns
 returns c = λ _. inl (c .if1 .taken)
 
+sub-crumb : tie.Need-sub-crumb
+sub-crumb c = search needs
+
+crumb-requires : tie.Need-crumb-requires
+crumb-requires c κs = search needs
+
+crumb-requires-2 : tie.Need-crumb-requires-2
+crumb-requires-2 c κs = search needs
+
 anywhere-requires : tie.Need-anywhere-requires
 anywhere-requires c κs = search needs
 
@@ -27,7 +36,10 @@ sqrtf-requires c κs = search needs
 returns-3 : tie.Need-returns-3
 returns-3 c =
     let asked = c .before .before .before in
-    farther (asked .before .before .anywhere .ensures) (asked .before .reaches .ensures) (asked .if2 .left) (c .before .before .nearest-on .ensures)
+    let within = asked .before .before in
+    let read = within .before .before in
+    farther (within .anywhere .ensures) (asked .before .reaches .ensures _ _ (read .crumb .ensures) (within .before .crumb2 .ensures))
+    (asked .if2 .left) (c .before .before .nearest-on .ensures)
     (c .sqrtf .ensures)
 
 pub all-behind-spec : {M : Type 1} → statement M
@@ -35,6 +47,9 @@ all-behind-spec =
     tie.close
     (tie.spec
     returns
+    sub-crumb
+    crumb-requires
+    crumb-requires-2
     anywhere-requires
     reaches-requires
     returns-2

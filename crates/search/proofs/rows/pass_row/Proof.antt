@@ -12,11 +12,13 @@ least-of-requires c κs = search needs
 
 returns : tie.Need-returns
 returns c = λ ends end from next to v.
-    let least = c .before .before in leads-now _ _ ends from next to v (least .before .before .squares-from .ensures) (least .least-of .ensures)
+    let least = c .before .before in
+    leads-now _ _ ends from next to v (least .before .before .squares-from .ensures) (least .least-of .ensures)
 
 returns-2 : tie.Need-returns-2
 returns-2 c = λ ends end from next to v.
-    let least = c .before .before in leads-still _ _ ends from next to v (least .before .before .squares-from .ensures) (least .least-of .ensures)
+    let least = c .before .before in
+    leads-still _ _ ends from next to v (least .before .before .squares-from .ensures) (least .least-of .ensures)
 
 pub pass-row-spec : {M : Type 1} → statement M
 pass-row-spec = tie.close (tie.spec squares-from-requires least-of-requires returns returns-2)
