@@ -10,8 +10,11 @@ ghost use lib.ListN.{length};
 ghost use Rattle.crumbs.specs.Crumb.{whole, capacity, crumbAt, point};
 ghost use Rattle.crumbs.specs.Inner.{putAt, Front};
 
-// How many numbers of a buffer a crumb takes.
+// How many numbers of a buffer a crumb takes,
 pub const STRIDE: usize = 3;
+
+// and how many of a course's line.
+const LINE_STRIDE: usize = 3;
 
 // A place in metres, and how far along the line it lies.
 pub struct Crumb {
@@ -54,6 +57,19 @@ pub fn crumb_at(buf: &[f32], i: usize) -> Crumb
         east: buf[at],
         north: buf[at + 1],
         along: buf[at + 2],
+    }
+}
+
+// The crumb at place `i` of a course's line.
+pub fn line_at(line: &[f32], i: usize) -> Crumb
+    requires { ⌜ i < capacity (length (now line)) ⌝ }
+    ensures { λ r. ⌜ r ≡ crumbAt (now (line .entry)) i ⌝ }
+{
+    let at = LINE_STRIDE * i;
+    Crumb {
+        east: line[at],
+        north: line[at + 1],
+        along: line[at + 2],
     }
 }
 

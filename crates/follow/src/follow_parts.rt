@@ -70,7 +70,7 @@ fn along_at(line: &[f32], len: usize, end: usize) -> f32
     ensures { λ r. ⌜ r ≡ alongAt (heldCrumbs len (now (line .entry))) end ⌝ }
 {
     if end < len {
-        return segments::crumb(line, len, end).along;
+        return segments::line_crumb(line, len, end).along;
     }
     0.0
 }

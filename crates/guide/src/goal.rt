@@ -72,7 +72,7 @@ fn lies_near(line: &[f32], len: usize, p: Point, end: usize) -> bool
     requires { ⌜ (1 ≤ end) × (end < len) × (len ≤ capacity (length (now line))) ⌝ }
     ensures { λ r. ⌜ r ≡ liesNear (heldCrumbs len (now (line .entry))) p end ⌝ }
 {
-    let square = segments::square_on(line, len, p, end);
+    let square = segments::square_on_line(line, len, p, end);
     if square < BAR {
         return binary32::sqrtf(square) <= distances::DROP_M;
     }
@@ -102,7 +102,7 @@ fn found_near(line: &[f32], len: usize, p: Point) -> bool
     if len < 2 {
         return false;
     }
-    let first = segments::square_on(line, len, p, len - 1);
+    let first = segments::square_on_line(line, len, p, len - 1);
     if first == first {
         return some_near(line, len, p);
     }

@@ -4,7 +4,7 @@ use crumbs::Crumb;
 use plane::Heading;
 use plane::Point;
 use search::Range;
-use search::quick;
+use search::rows;
 use segments::Best;
 use segments::turns;
 use trail::Trail;
@@ -42,7 +42,7 @@ fn nearest_before(crumbs: &[f32], len: usize, p: Point, n: usize) -> Best
         return Best::Nothing;
     }
     let ends = Range { from: 1, to: n - 1 };
-    quick::nearest_on_breadcrumb(crumbs, len, p, ends)
+    rows::nearest_on_breadcrumb(crumbs, len, p, ends)
 }
 
 // How long the breadcrumb was before the first fix back.

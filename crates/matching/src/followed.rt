@@ -6,7 +6,7 @@ use plane::Point;
 use search::Range;
 use search::course_match;
 use search::course_match::Progress;
-use search::quick;
+use search::rows;
 use segments::Best;
 use segments::costs::Nearest;
 use state::Course;
@@ -87,8 +87,8 @@ fn nearest(f: Followed, crumbs: &[f32], line: &[f32], p: Point, ends: Range) -> 
             let was = f.was;
             course_match::nearest_on_course(line, len, p, ends, was)
         }
-        Line::Nothing => quick::nearest_on_breadcrumb(crumbs, len, p, ends),
-        Line::Breadcrumb => quick::nearest_on_breadcrumb(crumbs, len, p, ends),
+        Line::Nothing => rows::nearest_on_breadcrumb(crumbs, len, p, ends),
+        Line::Breadcrumb => rows::nearest_on_breadcrumb(crumbs, len, p, ends),
     }
 }
 
@@ -136,7 +136,7 @@ fn ahead(f: Followed, crumbs: &[f32], line: &[f32], near: Nearest) -> Point
     let on = f.on;
     let len = f.len;
     match on {
-        Line::Course => search::at_along(line, len, near.end, along),
+        Line::Course => search::line_at_along(line, len, near.end, along),
         Line::Nothing => search::at_along(crumbs, len, near.end, along),
         Line::Breadcrumb => search::at_along(crumbs, len, near.end, along),
     }

@@ -1,11 +1,18 @@
 -- What the loops of the searches carry on: the ends still to be considered decide. Assumes nothing.
 use Prim.Native.Nat.{ℕ, zero, suc, _+_, _-_, _≤_, _<_}
 use mathlib.Core.Path.{_≡_, refl, sym, ap, _∙_}
+use mathlib.Core.List.{List}
 use native.Mathlib.Omega.{arith}
+use Rattle.plane.specs.declared.Point.{Point}
+use Rattle.crumbs.specs.declared.Crumb.{Crumb}
 use Rattle.search.specs.declared.Range.{Range}
 use Rattle.segments.specs.declared.SoFar.{SoFar}
 use Rattle.segments.specs.declared.SoFar.the-variants.{Empty}
-use Rattle.search.specs.Search.{rising, falling, count}
+use Rattle.segments.specs.declared.Best.{Best}
+use Rattle.segments.specs.declared.Stretch.{Stretch}
+use Rattle.segments.specs.declared.costs.Ranking.the-variants.{Plain}
+use Rattle.segments.specs.Segment.{considered, costWithin, found}
+use Rattle.search.specs.Search.{rising, falling, count, anywhere, nearestOnBreadcrumb}
 
 -- ends rise: those from `end` on are left
 pub record Rises (consider : ℕ → SoFar → SoFar) (ends : Range) (best : SoFar) (end : ℕ) : Type 0 where
@@ -63,3 +70,11 @@ module _ {consider : ℕ → SoFar → SoFar} {ends : Range} where
     falls-out v past =
         let n : end + 1 - ends .from ≡ zero = omega arith in
         sym (ap (λ k. falling consider k end best) n) ∙ v .same
+
+-- what the ends of a breadcrumb give, on a stretch that is all of f32's range
+pub breadcrumb-is : (line : List Crumb) (p : Point) (ends : Range) {within : Stretch} {r : Best}
+    → r ≡ found (rising (considered line p (costWithin line p within Plain)) (count ends) (ends .from) Empty) → within ≡ anywhere
+    → r ≡ nearestOnBreadcrumb line p ends
+unfolding nearestOnBreadcrumb
+breadcrumb-is line p ends R W =
+    R ∙ ap (λ w. found (rising (considered line p (costWithin line p w Plain)) (count ends) (ends .from) Empty)) W

@@ -38,7 +38,7 @@ Lower e f = e < f
 abbrev pub Higher : ℕ → ℕ → Type 0
 Higher e f = f < e
 
-lower-one-way : (e f : ℕ) → Lower e f → Lower f e → ⊥
+pub lower-one-way : (e f : ℕ) → Lower e f → Lower f e → ⊥
 lower-one-way e f a b = omega arith
 
 higher-one-way : (e f : ℕ) → Higher e f → Higher f e → ⊥

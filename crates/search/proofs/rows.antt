@@ -1,2 +1,3 @@
 -- Facts that the functions' proofs share.
 mod Filling
+mod Fronting

@@ -91,8 +91,8 @@ fn slides_back(line: &[f32], len: usize, was: Progress, near: Nearest) -> bool
         let heading = was.heading;
         return turns::against(
             heading,
-            segments::crumb(line, len, end - 1),
-            segments::crumb(line, len, end),
+            segments::line_crumb(line, len, end - 1),
+            segments::line_crumb(line, len, end),
         );
     }
     false

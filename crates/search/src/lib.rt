@@ -1,6 +1,6 @@
 // Searches on a whole line of crumbs: the segment nearest a position, the place a way along. `quick` finds the
-// nearest one with two roots in all, by the squares of `rows`; `course_match` the segment of the followed course
-// that the rider is on.
+// nearest one with two roots in all, `rows` that of the breadcrumb sixteen segments at a time; `course_match` the segment of the
+// followed course that the rider is on.
 
 pub mod course_match;
 pub mod quick;
@@ -19,7 +19,7 @@ ghost use mathlib.Core.Path.{_≡_};
 ghost use Prim.Native.Nat.{_≤_, _<_};
 ghost use lib.ListN.{length};
 ghost use Rattle.crumbs.specs.Crumb.{capacity, crumbs};
-ghost use Rattle.search.specs.Search.{nearestOnBreadcrumb, nearestWithin};
+ghost use Rattle.search.specs.Search.{anywhere, nearestOnBreadcrumb, nearestWithin};
 ghost use Rattle.search.specs.Course.{closer, courseNear, joins, joined};
 ghost use Rattle.search.specs.Along.{shareAlong, pointAlong, atAlong, ends};
 
@@ -47,19 +47,28 @@ pub enum Join {
     NoSegment,
 }
 
-// The nearest segment of the breadcrumb; on a tie the one nearer home.
-pub fn nearest_on_breadcrumb(line: &[f32], len: usize, p: Point, ends: Range) -> Best
-    requires { ⌜ (1 ≤ ends .from) × (ends .to < len) × (len ≤ capacity (length (now line))) ⌝ }
-    ensures { λ r. ⌜ r ≡ nearestOnBreadcrumb (crumbs len (now (line .entry))) p ends ⌝ }
+// All of f32's range.
+fn anywhere() -> Stretch
+    ensures { λ r. ⌜ r ≡ anywhere ⌝ }
 {
-    let anywhere = Stretch {
+    Stretch {
         floor: LOWEST,
         ceiling: LARGEST,
-    };
+    }
+}
+
+// The nearest segment of the breadcrumb; on a tie the one nearer home.
+pub fn nearest_on_breadcrumb(buf: &[f32], len: usize, p: Point, ends: Range) -> Best
+    requires { ⌜ (1 ≤ ends .from) × (ends .to < len) × (len ≤ capacity (length (now buf))) ⌝ }
+    ensures { λ r. ⌜ r ≡ nearestOnBreadcrumb (crumbs len (now (buf .entry))) p ends ⌝ }
+{
+    let within = anywhere();
     let mut best = SoFar::Empty;
     let mut end = ends.from;
     while end <= ends.to {
-        best = segments::consider(line, len, p, anywhere, Ranking::Plain, end, best);
+        let a = segments::crumb(buf, len, end - 1);
+        let b = segments::crumb(buf, len, end);
+        best = segments::consider(a, b, p, within, Ranking::Plain, end, best);
         end += 1;
     }
     segments::found(best)
@@ -80,8 +89,10 @@ pub fn nearest_within(
     let mut best = SoFar::Empty;
     let mut end = ends.to;
     while ends.from <= end {
-        if segments::may_cost(line, len, p, within, by, end) {
-            best = segments::consider(line, len, p, within, by, end, best);
+        let a = segments::line_crumb(line, len, end - 1);
+        let b = segments::line_crumb(line, len, end);
+        if segments::may_cost(a, b, p, within, by) {
+            best = segments::consider(a, b, p, within, by, end, best);
         }
         end -= 1;
     }
@@ -97,7 +108,7 @@ pub fn course_near(line: &[f32], len: usize, p: Point, most: f32) -> Best
     let mut end = len;
     while end > 1 {
         end -= 1;
-        let near = segments::nearest_on(line, len, p, end);
+        let near = segments::nearest_on_line(line, len, p, end);
         best = segments::cheaper(best, near, costs::plain(near));
     }
     closer(most, segments::found(best))
@@ -142,8 +153,8 @@ pub fn joined(line: &[f32], len: usize, p: Point, heading: u16) -> Join
         if joins(
             p,
             heading,
-            segments::crumb(line, len, end - 1),
-            segments::crumb(line, len, end),
+            segments::line_crumb(line, len, end - 1),
+            segments::line_crumb(line, len, end),
         ) {
             return Join::Segment(end);
         }
@@ -172,29 +183,45 @@ fn point_along(a: Crumb, b: Crumb, along: f32) -> Point
     }
 }
 
-// The line `along` metres from its first crumb, at or before segment `end`.
-pub fn at_along(line: &[f32], len: usize, end: usize, along: f32) -> Point
-    requires { ⌜ (1 ≤ end) × (end < len) × (len ≤ capacity (length (now line))) ⌝ }
-    ensures { λ r. ⌜ r ≡ atAlong (crumbs len (now (line .entry))) end along ⌝ }
+// The breadcrumb `along` metres from its first crumb, at or before segment `end`.
+pub fn at_along(buf: &[f32], len: usize, end: usize, along: f32) -> Point
+    requires { ⌜ (1 ≤ end) × (end < len) × (len ≤ capacity (length (now buf))) ⌝ }
+    ensures { λ r. ⌜ r ≡ atAlong (crumbs len (now (buf .entry))) end along ⌝ }
 {
     let mut i = end - 1;
-    while i > 0 && segments::crumb(line, len, i).along > along {
+    while i > 0 && segments::crumb(buf, len, i).along > along {
         i -= 1;
     }
     point_along(
-        segments::crumb(line, len, i),
-        segments::crumb(line, len, i + 1),
+        segments::crumb(buf, len, i),
+        segments::crumb(buf, len, i + 1),
         along,
     )
 }
 
-// How many leading crumbs lie at most `limit` metres along.
-pub fn ends(line: &[f32], len: usize, limit: f32) -> usize
-    requires { ⌜ len ≤ capacity (length (now line)) ⌝ }
-    ensures { λ r. ⌜ r ≡ ends (crumbs len (now (line .entry))) limit ⌝ }
+// The course's line `along` metres from its first crumb, at or before segment `end`.
+pub fn line_at_along(line: &[f32], len: usize, end: usize, along: f32) -> Point
+    requires { ⌜ (1 ≤ end) × (end < len) × (len ≤ capacity (length (now line))) ⌝ }
+    ensures { λ r. ⌜ r ≡ atAlong (crumbs len (now (line .entry))) end along ⌝ }
+{
+    let mut i = end - 1;
+    while i > 0 && segments::line_crumb(line, len, i).along > along {
+        i -= 1;
+    }
+    point_along(
+        segments::line_crumb(line, len, i),
+        segments::line_crumb(line, len, i + 1),
+        along,
+    )
+}
+
+// How many leading crumbs of the breadcrumb lie at most `limit` metres along.
+pub fn ends(buf: &[f32], len: usize, limit: f32) -> usize
+    requires { ⌜ len ≤ capacity (length (now buf)) ⌝ }
+    ensures { λ r. ⌜ r ≡ ends (crumbs len (now (buf .entry))) limit ⌝ }
 {
     let mut n = 0;
-    while n < len && segments::crumb(line, len, n).along <= limit {
+    while n < len && segments::crumb(buf, len, n).along <= limit {
         n += 1;
     }
     n

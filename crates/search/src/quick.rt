@@ -1,22 +1,24 @@
-// The nearest segment of the breadcrumb, with two roots in all: squares are compared on the way, by rows.
+// The nearest segment of a line, with two roots in all: squares are compared on the way.
 
 use crate::Range;
 use crate::rows;
+use crumbs::Crumb;
 use plane::Point;
 use segments::Best;
 use segments::Stretch;
 use segments::costs::Ranking;
 ghost use mathlib.Core.Path.{_≡_};
-ghost use mathlib.Core.Bool.{true};
-ghost use Prim.Native.Nat.{ℕ, _+_, _≤_, _<_};
+ghost use mathlib.Core.Bool.{false};
+ghost use mathlib.Core.List.{List};
+ghost use Prim.Native.Nat.{ℕ, _-_, _≤_, _<_};
 ghost use lib.ListN.{length};
+ghost use Rattle.crumbs.specs.declared.Crumb.{Crumb};
 ghost use Rattle.crumbs.specs.Crumb.{capacity, crumbs};
-ghost use Rattle.plane.specs.declared.Point.{Point};
-ghost use Rattle.search.specs.Search.{nearestOnBreadcrumb, nearestWithin, count};
-ghost use Rattle.segments.specs.Square.{squareOn};
+ghost use Rattle.segments.specs.Line.{at};
+ghost use Rattle.search.specs.Search.{nearestOnBreadcrumb, nearestWithin};
 ghost use Rattle.segments.specs.declared.costs.Ranking.the-variants.{Plain};
-ghost use Rattle.search.specs.Square.{reaches, overtakes, takesLead, leadsOver};
-ghost use Rattle.search.specs.Rows.{rowLength, SquaresFrom};
+ghost use Rattle.search.specs.Square.{reaches, overtakes, takesLead, leadsDown, Passes};
+ghost use Rattle.search.specs.Rows.{rowLength, NoneReaches};
 
 // The segment with the least square so far, 0 where there is none, that square, and the least of those tried before it.
 struct Lead {
@@ -25,14 +27,17 @@ struct Lead {
     before: f32,
 }
 
-// Whether segment `end` reaches into the stretch.
-fn reaches(line: &[f32], len: usize, within: Stretch, end: usize) -> bool
-    requires { ⌜ (1 ≤ end) × (end < len) × (len ≤ capacity (length (now line))) ⌝ }
-    ensures { λ r. ⌜ r ≡ reaches (crumbs len (now (line .entry))) within end ⌝ }
+// The lead behind the segments of a range above `end`.
+struct Passed {
+    lead: Lead,
+    end: usize,
+}
+
+// Whether the segment from `a` to `b` reaches into the stretch.
+pub fn reaches(a: Crumb, b: Crumb, within: Stretch) -> bool
+    ensures { λ r. ⌜ ((line : List Crumb) (end : ℕ) → a ≡ at line (end - 1) → b ≡ at line end → r ≡ reaches line within end) ⌝ }
 {
-    let ends = segments::crumb(line, len, end).along < within.floor;
-    let begins = segments::crumb(line, len, end - 1).along > within.ceiling;
-    !(ends | begins)
+    !((b.along < within.floor) | (a.along > within.ceiling))
 }
 
 // Segment `end` in the lead where its square is less, or where none was.
@@ -56,132 +61,96 @@ fn overtake(lead: Lead, end: usize, square: f32) -> Lead
     lead
 }
 
-fn consider(line: &[f32], len: usize, p: Point, within: Stretch, end: usize, lead: Lead) -> Lead
-    requires { ⌜ (1 ≤ end) × (end < len) × (len ≤ capacity (length (now line))) ⌝ }
-    ensures { λ r. ⌜ r ≡ takesLead (crumbs len (now (line .entry))) p within end lead ⌝ }
+// The lead behind the segment from `a` to `b`, whose far end is `end`.
+fn consider(a: Crumb, b: Crumb, p: Point, within: Stretch, end: usize, lead: Lead) -> Lead
+    ensures { λ r. ⌜ ((line : List Crumb) → a ≡ at line (end - 1) → b ≡ at line end → r ≡ takesLead line p within end lead) ⌝ }
 {
-    if reaches(line, len, within, end) {
-        return overtake(lead, end, segments::square_on(line, len, p, end));
+    if reaches(a, b, within) {
+        return overtake(lead, end, segments::square(a, b, p));
     }
     lead
-}
-
-// Whether a segment with this square certainly stays behind the one in the lead.
-fn stays_behind(lead: Lead, square: f32) -> bool
-    ensures { λ r. ⌜ (r ≡ true → (end : ℕ) → overtakes end square lead ≡ lead) ⌝ }
-{
-    if lead.best == 0 {
-        return false;
-    }
-    !(square < lead.least)
-}
-
-// The lead behind segment `end`, whose square is known. Where it stays behind, it is not asked whether it reaches into the stretch.
-fn past(line: &[f32], len: usize, within: Stretch, end: usize, square: f32, lead: Lead) -> Lead
-    requires { ⌜ (1 ≤ end) × (end < len) × (len ≤ capacity (length (now line))) ⌝ }
-    ensures { λ r. ⌜ ((p : Point) → square ≡ squareOn (crumbs len (now (line .entry))) p end
-        → r ≡ takesLead (crumbs len (now (line .entry))) p within end lead) ⌝ }
-{
-    if stays_behind(lead, square) {
-        return lead;
-    }
-    if reaches(line, len, within, end) {
-        return overtake(lead, end, square);
-    }
-    lead
-}
-
-// The lead behind the segments of a row, from `first` on, whose squares are known.
-fn along_row(
-    line: &[f32],
-    len: usize,
-    within: Stretch,
-    first: usize,
-    row: &[f32; 16],
-    lead: Lead,
-) -> Lead
-    requires { ⌜ (1 ≤ first) × (first + rowLength ≤ len) × (len ≤ capacity (length (now line))) ⌝ }
-    ensures { λ r. ⌜ ((p : Point) → SquaresFrom (crumbs len (now (line .entry))) p first (now (row .entry))
-        → r ≡ leadsOver (crumbs len (now (line .entry))) p within rowLength first lead) ⌝ }
-{
-    let mut leading = lead;
-    for k in 0..rows::ROW {
-        leading = past(line, len, within, first + k, row[k], leading);
-    }
-    leading
-}
-
-// The lead behind the segments of a row, from `first` on. Where none of their squares is less, it stays.
-fn over_row(line: &[f32], len: usize, p: Point, within: Stretch, first: usize, lead: Lead) -> Lead
-    requires { ⌜ (1 ≤ first) × (first + rowLength ≤ len) × (len ≤ capacity (length (now line))) ⌝ }
-    ensures { λ r. ⌜ r ≡ leadsOver (crumbs len (now (line .entry))) p within rowLength first lead ⌝ }
-{
-    let row = rows::squares_from(line, len, p, first);
-    if lead.best == 0 {
-        return along_row(line, len, within, first, &row, lead);
-    }
-    if rows::any_less(&row, lead.least) {
-        return along_row(line, len, within, first, &row, lead);
-    }
-    lead
-}
-
-// The lead behind all segments of a range, one by one.
-fn over_each(line: &[f32], len: usize, p: Point, within: Stretch, ends: Range, lead: Lead) -> Lead
-    requires { ⌜ (1 ≤ ends .from) × (ends .to < len) × (len ≤ capacity (length (now line))) ⌝ }
-    ensures { λ r. ⌜ r ≡ leadsOver (crumbs len (now (line .entry))) p within (count ends) (ends .from) lead ⌝ }
-{
-    let mut leading = lead;
-    let mut end = ends.from;
-    while end <= ends.to {
-        leading = consider(line, len, p, within, end, leading);
-        end += 1;
-    }
-    leading
-}
-
-// The lead behind all segments of a range, by rows as far as they go.
-fn over_all(line: &[f32], len: usize, p: Point, within: Stretch, ends: Range, lead: Lead) -> Lead
-    requires { ⌜ (1 ≤ ends .from) × (ends .to < len) × (len ≤ capacity (length (now line))) ⌝ }
-    ensures { λ r. ⌜ r ≡ leadsOver (crumbs len (now (line .entry))) p within (count ends) (ends .from) lead ⌝ }
-{
-    let mut leading = lead;
-    let mut end = ends.from;
-    while end <= ends.to && rows::ROW <= ends.to - end {
-        leading = over_row(line, len, p, within, end, leading);
-        end += rows::ROW;
-    }
-    let rest = Range {
-        from: end,
-        to: ends.to,
-    };
-    over_each(line, len, p, within, rest, leading)
 }
 
 // The nearest segment of the breadcrumb; on a tie the one nearer home. Where the root of the least square tried before the
 // best is larger than the best's, the best is the one that the roots give. Else there may be a tie, and the roots decide.
-pub fn nearest_on_breadcrumb(line: &[f32], len: usize, p: Point, ends: Range) -> Best
-    requires { ⌜ (1 ≤ ends .from) × (ends .to < len) × (len ≤ capacity (length (now line))) ⌝ }
-    ensures { λ r. ⌜ r ≡ nearestOnBreadcrumb (crumbs len (now (line .entry))) p ends ⌝ }
+pub fn nearest_on_breadcrumb(buf: &[f32], len: usize, p: Point, ends: Range) -> Best
+    requires { ⌜ (1 ≤ ends .from) × (ends .to < len) × (len ≤ capacity (length (now buf))) ⌝ }
+    ensures { λ r. ⌜ r ≡ nearestOnBreadcrumb (crumbs len (now (buf .entry))) p ends ⌝ }
 {
-    let anywhere = Stretch {
-        floor: crate::LOWEST,
-        ceiling: crate::LARGEST,
-    };
-    let none = Lead {
+    let within = crate::anywhere();
+    let mut lead = Lead {
         best: 0,
         least: 0.0,
         before: crate::LARGEST,
     };
-    let lead = over_all(line, len, p, anywhere, ends, none);
+    let mut end = ends.from;
+    while end <= ends.to {
+        let a = segments::crumb(buf, len, end - 1);
+        let b = segments::crumb(buf, len, end);
+        lead = consider(a, b, p, within, end, lead);
+        end += 1;
+    }
     if lead.best == 0 {
         return Best::Nothing;
     }
     if binary32::sqrtf(lead.least) < binary32::sqrtf(lead.before) {
-        let near = segments::nearest_on(line, len, p, lead.best);
+        let near = segments::nearest_on(buf, len, p, lead.best);
         return Best::Found(near);
     }
-    crate::nearest_on_breadcrumb(line, len, p, ends)
+    crate::nearest_on_breadcrumb(buf, len, p, ends)
+}
+
+// Whether one of a row of segments, from `end` down, reaches into the stretch.
+fn any_reaches(line: &[f32], len: usize, within: Stretch, end: usize) -> bool
+    requires { ⌜ (rowLength ≤ end) × (end < len) × (len ≤ capacity (length (now line))) ⌝ }
+    ensures { λ r. ⌜ (r ≡ false → NoneReaches (crumbs len (now (line .entry))) within end) ⌝ }
+{
+    let mut any = false;
+    for k in 0..rows::ROW {
+        let a = segments::line_crumb(line, len, end - k - 1);
+        let b = segments::line_crumb(line, len, end - k);
+        any = any | reaches(a, b, within);
+    }
+    any
+}
+
+// The lead behind a row of segments, from `end` down, one by one.
+fn along_row(line: &[f32], len: usize, p: Point, within: Stretch, end: usize, lead: Lead) -> Lead
+    requires { ⌜ (rowLength ≤ end) × (end < len) × (len ≤ capacity (length (now line))) ⌝ }
+    ensures { λ r. ⌜ r ≡ leadsDown (crumbs len (now (line .entry))) p within rowLength end lead ⌝ }
+{
+    let mut leading = lead;
+    for k in 0..rows::ROW {
+        let a = segments::line_crumb(line, len, end - k - 1);
+        let b = segments::line_crumb(line, len, end - k);
+        leading = consider(a, b, p, within, end - k, leading);
+    }
+    leading
+}
+
+// The lead behind a row of segments, from `end` down. Where none reaches into the stretch, it stays.
+fn over_row(line: &[f32], len: usize, p: Point, within: Stretch, end: usize, lead: Lead) -> Lead
+    requires { ⌜ (rowLength ≤ end) × (end < len) × (len ≤ capacity (length (now line))) ⌝ }
+    ensures { λ r. ⌜ r ≡ leadsDown (crumbs len (now (line .entry))) p within rowLength end lead ⌝ }
+{
+    if any_reaches(line, len, within, end) {
+        return along_row(line, len, p, within, end, lead);
+    }
+    lead
+}
+
+// The lead behind whole rows of a range, from its far end down.
+fn over_rows(line: &[f32], len: usize, p: Point, within: Stretch, ends: Range, lead: Lead) -> Passed
+    requires { ⌜ (1 ≤ ends .from) × (ends .to < len) × (len ≤ capacity (length (now line))) ⌝ }
+    ensures { λ r. ⌜ Passes (crumbs len (now (line .entry))) p within ends lead r ⌝ }
+{
+    let mut leading = lead;
+    let mut end = ends.to;
+    while ends.from <= end && rows::ROW <= end - ends.from {
+        leading = over_row(line, len, p, within, end, leading);
+        end -= rows::ROW;
+    }
+    Passed { lead: leading, end }
 }
 
 // The nearest segment of the course reaching into the stretch; on a tie the earlier ridden.
@@ -189,21 +158,25 @@ fn plainly_within(line: &[f32], len: usize, p: Point, ends: Range, within: Stret
     requires { ⌜ (1 ≤ ends .from) × (ends .to < len) × (len ≤ capacity (length (now line))) ⌝ }
     ensures { λ r. ⌜ r ≡ nearestWithin (crumbs len (now (line .entry))) p ends within Plain ⌝ }
 {
-    let mut lead = Lead {
+    let none = Lead {
         best: 0,
         least: 0.0,
         before: crate::LARGEST,
     };
-    let mut end = ends.to;
+    let passed = over_rows(line, len, p, within, ends, none);
+    let mut lead = passed.lead;
+    let mut end = passed.end;
     while ends.from <= end {
-        lead = consider(line, len, p, within, end, lead);
+        let a = segments::line_crumb(line, len, end - 1);
+        let b = segments::line_crumb(line, len, end);
+        lead = consider(a, b, p, within, end, lead);
         end -= 1;
     }
     if lead.best == 0 {
         return Best::Nothing;
     }
     if binary32::sqrtf(lead.least) < binary32::sqrtf(lead.before) {
-        let near = segments::nearest_on(line, len, p, lead.best);
+        let near = segments::nearest_on_line(line, len, p, lead.best);
         return Best::Found(near);
     }
     crate::nearest_within(line, len, p, ends, within, Ranking::Plain)

@@ -1,5 +1,6 @@
 // Segments of a line: where a position meets one, and whether it is better than the best so far. A line is a lent buffer and a
-// count of the crumbs held in it. A segment is named by its far end: it runs from the crumb before to the one at `end`.
+// count of the crumbs held in it, the breadcrumb's or a course's; what serves both is given the two crumbs of a segment. It is named by
+// its far end: it runs from the crumb before to the one at `end`.
 // `costs` says what a match costs by each ranking, `turns` which way a line runs.
 
 pub mod costs;
@@ -12,14 +13,16 @@ use crumbs::Crumb;
 use plane::Point;
 use plane::squares;
 ghost use mathlib.Core.Path.{_≡_};
-ghost use Prim.Native.Nat.{_≤_, _<_};
+ghost use Prim.Native.Nat.{ℕ, _-_, _≤_, _<_};
 ghost use lib.ListN.{length};
-ghost use Rattle.crumbs.specs.Crumb.{capacity, crumbs};
+ghost use mathlib.Core.List.{List};
+ghost use Rattle.plane.specs.Square.{offSquare};
+ghost use Rattle.crumbs.specs.declared.Crumb.{Crumb};
+ghost use Rattle.crumbs.specs.Crumb.{capacity, crumbs, point};
 ghost use Rattle.segments.specs.Line.{at};
 ghost use Rattle.segments.specs.Segment.{meets, nearestOn, cheaper, costWithin, considered, found};
 ghost use mathlib.Core.Bool.{true, false};
 ghost use Rattle.segments.specs.declared.SoFar.{SoFar};
-ghost use Prim.Native.Nat.{ℕ};
 ghost use Rattle.segments.specs.declared.costs.Cost.the-variants.{Out};
 ghost use Rattle.segments.specs.Cost.{costOf};
 ghost use Rattle.segments.specs.Square.{squareOn};
@@ -42,29 +45,67 @@ pub enum SoFar {
     Least(Nearest, f32),
 }
 
-// The crumb at place `i` of the line.
-pub fn crumb(line: &[f32], len: usize, i: usize) -> Crumb
+// The crumb at place `i` of the breadcrumb.
+pub fn crumb(buf: &[f32], len: usize, i: usize) -> Crumb
+    requires { ⌜ (i < len) × (len ≤ capacity (length (now buf))) ⌝ }
+    ensures { λ r. ⌜ r ≡ at (crumbs len (now (buf .entry))) i ⌝ }
+{
+    crumbs::crumb_at(buf, i)
+}
+
+// The crumb at place `i` of the course's line.
+pub fn line_crumb(line: &[f32], len: usize, i: usize) -> Crumb
     requires { ⌜ (i < len) × (len ≤ capacity (length (now line))) ⌝ }
     ensures { λ r. ⌜ r ≡ at (crumbs len (now (line .entry))) i ⌝ }
 {
-    crumbs::crumb_at(line, i)
+    crumbs::line_at(line, i)
 }
 
-// Where `p` meets segment `end` of the line.
-pub fn nearest_on(line: &[f32], len: usize, p: Point, end: usize) -> Nearest
+// Where `p` meets segment `end` of the breadcrumb.
+pub fn nearest_on(buf: &[f32], len: usize, p: Point, end: usize) -> Nearest
+    requires { ⌜ (1 ≤ end) × (end < len) × (len ≤ capacity (length (now buf))) ⌝ }
+    ensures { λ r. ⌜ r ≡ nearestOn (crumbs len (now (buf .entry))) p end ⌝ }
+{
+    meets(crumb(buf, len, end - 1), crumb(buf, len, end), p, end)
+}
+
+// Where `p` meets segment `end` of the course's line.
+pub fn nearest_on_line(line: &[f32], len: usize, p: Point, end: usize) -> Nearest
     requires { ⌜ (1 ≤ end) × (end < len) × (len ≤ capacity (length (now line))) ⌝ }
     ensures { λ r. ⌜ r ≡ nearestOn (crumbs len (now (line .entry))) p end ⌝ }
 {
-    meets(crumb(line, len, end - 1), crumb(line, len, end), p, end)
+    meets(
+        line_crumb(line, len, end - 1),
+        line_crumb(line, len, end),
+        p,
+        end,
+    )
 }
 
-// The square of how far `p` is off segment `end` of the line.
-pub fn square_on(line: &[f32], len: usize, p: Point, end: usize) -> f32
+// The square of how far `p` is off segment `end` of the breadcrumb.
+pub fn square_on(buf: &[f32], len: usize, p: Point, end: usize) -> f32
+    requires { ⌜ (1 ≤ end) × (end < len) × (len ≤ capacity (length (now buf))) ⌝ }
+    ensures { λ r. ⌜ r ≡ squareOn (crumbs len (now (buf .entry))) p end ⌝ }
+{
+    square(crumb(buf, len, end - 1), crumb(buf, len, end), p)
+}
+
+// The square of how far `p` is off segment `end` of the course's line.
+pub fn square_on_line(line: &[f32], len: usize, p: Point, end: usize) -> f32
     requires { ⌜ (1 ≤ end) × (end < len) × (len ≤ capacity (length (now line))) ⌝ }
     ensures { λ r. ⌜ r ≡ squareOn (crumbs len (now (line .entry))) p end ⌝ }
 {
-    let a = crumb(line, len, end - 1);
-    let b = crumb(line, len, end);
+    square(
+        line_crumb(line, len, end - 1),
+        line_crumb(line, len, end),
+        p,
+    )
+}
+
+// The square of how far `p` is off the segment from `a` to `b`.
+pub fn square(a: Crumb, b: Crumb, p: Point) -> f32
+    ensures { λ r. ⌜ r ≡ offSquare p (point a) (point b) ⌝ }
+{
     squares::off_square(p, crumbs::point(a), crumbs::point(b))
 }
 
@@ -73,7 +114,7 @@ pub fn square_on(line: &[f32], len: usize, p: Point, end: usize) -> f32
 fn too_far(by: Ranking, p: Point, a: Crumb, b: Crumb) -> bool
     ensures { λ r. ⌜ (r ≡ true → (end : ℕ) → costOf by (meets a b p end) a b ≡ Out) ⌝ }
 {
-    let square = squares::off_square(p, crumbs::point(a), crumbs::point(b));
+    let square = square(a, b, p);
     match by {
         Ranking::Plain => false,
         Ranking::On {
@@ -84,21 +125,11 @@ fn too_far(by: Ranking, p: Point, a: Crumb, b: Crumb) -> bool
     }
 }
 
-// Whether segment `end` may have a cost: where it certainly has none it need not be considered.
-pub fn may_cost(
-    line: &[f32],
-    len: usize,
-    p: Point,
-    within: Stretch,
-    by: Ranking,
-    end: usize,
-) -> bool
-    requires { ⌜ (1 ≤ end) × (end < len) × (len ≤ capacity (length (now line))) ⌝ }
-    ensures { λ r. ⌜ (r ≡ false → (best : SoFar)
-        → best ≡ considered (crumbs len (now (line .entry))) p (costWithin (crumbs len (now (line .entry))) p within by) end best) ⌝ }
+// Whether the segment from `a` to `b` may have a cost: where it certainly has none it need not be considered.
+pub fn may_cost(a: Crumb, b: Crumb, p: Point, within: Stretch, by: Ranking) -> bool
+    ensures { λ r. ⌜ (r ≡ false → (line : List Crumb) (end : ℕ) (best : SoFar) → a ≡ at line (end - 1) → b ≡ at line end
+        → best ≡ considered line p (costWithin line p within by) end best) ⌝ }
 {
-    let a = crumb(line, len, end - 1);
-    let b = crumb(line, len, end);
     if b.along < within.floor {
         return false;
     }
@@ -138,22 +169,19 @@ pub fn cheaper(best: SoFar, near: Nearest, cost: Cost) -> SoFar
     best
 }
 
-// The best so far, or segment `end` where it reaches into the stretch and costs less.
+// The best so far, or the segment from `a` to `b`, whose far end is `end`, where it reaches into the stretch and costs less.
 pub fn consider(
-    line: &[f32],
-    len: usize,
+    a: Crumb,
+    b: Crumb,
     p: Point,
     within: Stretch,
     by: Ranking,
     end: usize,
     best: SoFar,
 ) -> SoFar
-    requires { ⌜ (1 ≤ end) × (end < len) × (len ≤ capacity (length (now line))) ⌝ }
-    ensures { λ r. ⌜ r ≡ considered (crumbs len (now (line .entry))) p
-        (costWithin (crumbs len (now (line .entry))) p within by) end best ⌝ }
+    ensures { λ r. ⌜ ((line : List Crumb) → a ≡ at line (end - 1) → b ≡ at line end
+        → r ≡ considered line p (costWithin line p within by) end best) ⌝ }
 {
-    let a = crumb(line, len, end - 1);
-    let b = crumb(line, len, end);
     if b.along < within.floor {
         return best;
     }

@@ -25,8 +25,8 @@ loop-holds c = (omega arith, falls-from (simp length-crumbs))
 sub-end : tie.Need-sub-end Inv-loop μ-loop
 sub-end c = omega arith
 
-nearest-on-requires : tie.Need-nearest-on-requires Inv-loop μ-loop
-nearest-on-requires c κs = omega arith
+nearest-on-line-requires : tie.Need-nearest-on-line-requires Inv-loop μ-loop
+nearest-on-line-requires c κs = omega arith
 
 plain-requires : tie.Need-plain-requires Inv-loop μ-loop
 plain-requires c κs = search needs
@@ -42,7 +42,7 @@ unfolding considered costAnywhere
 loop-again c = (
   omega arith,
   falls-on (c .before .before .before .before .loop .inv .1) (omega arith) (omega arith)
-      (simp (c .cheaper .ensures, c .before .plain .ensures, c .before .before .nearest-on .ensures)),
+      (simp (c .cheaper .ensures, c .before .plain .ensures, c .before .before .nearest-on-line .ensures)),
 )
 
 found-requires : tie.Need-found-requires Inv-loop μ-loop
@@ -65,7 +65,7 @@ course-near-spec =
     μ-loop
     loop-holds
     sub-end
-    nearest-on-requires
+    nearest-on-line-requires
     plain-requires
     cheaper-requires
     loop-less

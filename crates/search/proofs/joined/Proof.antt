@@ -23,14 +23,14 @@ loop-holds c = (omega arith, sym (simp length-crumbs))
 sub-end : tie.Need-sub-end Inv-loop μ-loop
 sub-end c = omega arith
 
-sub-crumb : tie.Need-sub-crumb Inv-loop μ-loop
-sub-crumb c = omega arith
+sub-line-crumb : tie.Need-sub-line-crumb Inv-loop μ-loop
+sub-line-crumb c = omega arith
 
-crumb-requires : tie.Need-crumb-requires Inv-loop μ-loop
-crumb-requires c κs = omega arith
+line-crumb-requires : tie.Need-line-crumb-requires Inv-loop μ-loop
+line-crumb-requires c κs = omega arith
 
-crumb-requires-2 : tie.Need-crumb-requires-2 Inv-loop μ-loop
-crumb-requires-2 c κs = omega arith
+line-crumb-requires-2 : tie.Need-line-crumb-requires-2 Inv-loop μ-loop
+line-crumb-requires-2 c κs = omega arith
 
 joins-requires : tie.Need-joins-requires Inv-loop μ-loop
 joins-requires c κs = search needs
@@ -38,7 +38,8 @@ joins-requires c κs = search needs
 returns : tie.Need-returns Inv-loop μ-loop
 returns c =
     let d = c .before .before in
-    sym (joined-here _ _ _ _ (omega arith) (d .before .crumb .ensures) (d .crumb2 .ensures) (c .before .joins .ensures) (c .if1 .taken))
+    sym (joined-here _ _ _ _ (omega arith) (d .before .line-crumb .ensures) (d .line-crumb2 .ensures) (c .before .joins .ensures)
+    (c .if1 .taken))
     ∙ d .before .before .before .loop .inv .1
 
 loop-less : tie.Need-loop-less Inv-loop μ-loop
@@ -48,7 +49,8 @@ loop-again : tie.Need-loop-again Inv-loop μ-loop
 loop-again c =
     let d = c .before .before in (
       omega arith,
-      sym (joined-below _ _ _ _ (omega arith) (d .before .crumb .ensures) (d .crumb2 .ensures) (c .before .joins .ensures) (c .if1 .left))
+      sym (joined-below _ _ _ _ (omega arith) (d .before .line-crumb .ensures) (d .line-crumb2 .ensures) (c .before .joins .ensures)
+          (c .if1 .left))
           ∙ d .before .before .before .loop .inv .1,
     )
 
@@ -63,9 +65,9 @@ joined-spec =
     μ-loop
     loop-holds
     sub-end
-    sub-crumb
-    crumb-requires
-    crumb-requires-2
+    sub-line-crumb
+    line-crumb-requires
+    line-crumb-requires-2
     joins-requires
     returns
     loop-less

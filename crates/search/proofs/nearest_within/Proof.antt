@@ -21,11 +21,20 @@ abbrev μ-loop : tie.MeasureT-loop
 loop-holds : tie.Need-loop-holds Inv-loop μ-loop
 loop-holds c = falls-start
 
+sub-line-crumb : tie.Need-sub-line-crumb Inv-loop μ-loop
+sub-line-crumb c = omega arith
+
+line-crumb-requires : tie.Need-line-crumb-requires Inv-loop μ-loop
+line-crumb-requires c κs = omega arith
+
+line-crumb-requires-2 : tie.Need-line-crumb-requires-2 Inv-loop μ-loop
+line-crumb-requires-2 c κs = omega arith
+
 may-cost-requires : tie.Need-may-cost-requires Inv-loop μ-loop
-may-cost-requires c κs = omega arith
+may-cost-requires c κs = search needs
 
 consider-requires : tie.Need-consider-requires Inv-loop μ-loop
-consider-requires c κs = omega arith
+consider-requires c κs = search needs
 
 sub-end : tie.Need-sub-end Inv-loop μ-loop
 sub-end c = omega arith
@@ -35,12 +44,17 @@ loop-less c = omega arith
 
 loop-again : tie.Need-loop-again Inv-loop μ-loop
 loop-again c =
-    let l = c .before .before .before .before in
+    let asked = c .before in
+    let read = asked .before .before in
+    let test = read .before in
+    let l = test .before .before in
     let first = l .before .before .pre .0 in
-    let more = c .before .before .if1 .taken in
+    let more = test .if1 .taken in
+    let a = read .line-crumb .ensures in
+    let b = asked .before .line-crumb2 .ensures in
     elim (c .if2 .came) [
-      | inl t ↦ falls-on (l .loop .inv) first more (t .2 ∙ t .1 .ensures)
-      | inr t ↦ falls-on (l .loop .inv) first more (t .1 ∙ c .before .may-cost .ensures (t .0 .left) (l .loop .best))
+      | inl t ↦ falls-on (l .loop .inv) first more (t .2 ∙ t .1 .ensures _ a b)
+      | inr t ↦ falls-on (l .loop .inv) first more (t .1 ∙ asked .may-cost .ensures (t .0 .left) _ _ (l .loop .best) a b)
     ]
 
 found-requires : tie.Need-found-requires Inv-loop μ-loop
@@ -57,6 +71,9 @@ nearest-within-spec =
     Inv-loop
     μ-loop
     loop-holds
+    sub-line-crumb
+    line-crumb-requires
+    line-crumb-requires-2
     may-cost-requires
     consider-requires
     sub-end

@@ -14,6 +14,7 @@ use Rattle.binary32.specs.Arithmetic.{_⊕_, _⊖_, _⊗_}
 use Rattle.binary32.specs.Root.{root}
 use Rattle.plane.specs.declared.Point.{Point}
 use Rattle.plane.specs.Plane.{distance, project}
+use Rattle.plane.specs.Square.{offSquare}
 use Rattle.crumbs.specs.declared.Crumb.{Crumb}
 use Rattle.crumbs.specs.Crumb.{point}
 use Rattle.segments.specs.declared.costs.Nearest.{Nearest}
@@ -146,6 +147,11 @@ module _ (end : ℕ) (s : Float) (lead : Lead) where
   unfolding overtakes
   overtakes-not z h = let e = nonnil (lead .best) z in rw (e, h)
 
+pub square-is : (line : List Crumb) (p : Point) (end : ℕ) {a b : Crumb} {s : Float} → a ≡ at line (end - 1) → b ≡ at line end
+    → s ≡ offSquare p (point a) (point b) → s ≡ squareOn line p end
+unfolding squareOn
+square-is line p end A B S = cc
+
 module _ (line : List Crumb) (p : Point) (within : Stretch) (end : ℕ) (lead : Lead) where
   pub leads-in : {r : Bool} {s : Float} {next : Lead} → r ≡ reaches line within end → r ≡ true → s ≡ squareOn line p end
       → next ≡ overtakes end s lead → next ≡ takesLead line p within end lead
@@ -156,19 +162,6 @@ module _ (line : List Crumb) (p : Point) (within : Stretch) (end : ℕ) (lead : 
   pub leads-out : {r : Bool} → r ≡ reaches line within end → r ≡ false → lead ≡ takesLead line p within end lead
   unfolding takesLead
   leads-out {r} e t = let u = sym e ∙ t in sym (ap (λ (b : Bool). cond b (overtakes end (squareOn line p end) lead) lead) u)
-
--- one that stays behind the lead, whether it reaches into the stretch or not
-pub leads-still : (line : List Crumb) (p : Point) (within : Stretch) (end : ℕ) (lead : Lead) {s : Float} → s ≡ squareOn line p end
-    → overtakes end s lead ≡ lead → lead ≡ takesLead line p within end lead
-unfolding takesLead
-leads-still line p within end lead S still = sym (by (reaches line within end))
-  where
-    same : overtakes end (squareOn line p end) lead ≡ lead
-    same = ap (λ (z : Float). overtakes end z lead) (sym S) ∙ still
-
-    by : (b : Bool) → cond b (overtakes end (squareOn line p end) lead) lead ≡ lead
-    by true = same
-    by false = refl
 
 pub reaches-is : (line : List Crumb) (within : Stretch) (end : ℕ) {a b : Crumb} {r : Bool} → b ≡ at line end → a ≡ at line (end - 1)
     → r ≡ not (lt (b .along) (within .floor) || lt (within .ceiling) (a .along)) → r ≡ reaches line within end

@@ -13,27 +13,12 @@ crumb-requires c κs = search needs
 crumb-requires-2 : tie.Need-crumb-requires-2
 crumb-requires-2 c κs = search needs
 
-point-requires : tie.Need-point-requires
-point-requires c κs = search needs
-
-point-requires-2 : tie.Need-point-requires-2
-point-requires-2 c κs = search needs
-
-off-square-requires : tie.Need-off-square-requires
-off-square-requires c κs = search needs
+square-requires : tie.Need-square-requires
+square-requires c κs = search needs
 
 returns : tie.Need-returns
 unfolding squareOn
 returns c = cc
 
 pub square-on-spec : {M : Type 1} → statement M
-square-on-spec =
-    tie.close
-    (tie.spec
-    sub-crumb
-    crumb-requires
-    crumb-requires-2
-    point-requires
-    point-requires-2
-    off-square-requires
-    returns)
+square-on-spec = tie.close (tie.spec sub-crumb crumb-requires crumb-requires-2 square-requires returns)

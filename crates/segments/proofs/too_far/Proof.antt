@@ -1,18 +1,11 @@
 -- `segments::too_far` meets its contract: what its square says is further off than 25 m has no cost. Assumes nothing.
-use mathlib.Core.Path.{_∙_}
 use borrow.Author.Needs.{needs}
 use Rattle.segments.proofs.Ranging.{not-told, far-on, far-ahead}
 use Rattle.segments.proofs.too_far.Statement.{statement}
 use Rattle.segments.proofs.too_far.Tie as tie
 
-point-requires : tie.Need-point-requires
-point-requires c κs = search needs
-
-point-requires-2 : tie.Need-point-requires-2
-point-requires-2 c κs = search needs
-
-off-square-requires : tie.Need-off-square-requires
-off-square-requires c κs = search needs
+square-requires : tie.Need-square-requires
+square-requires c κs = search needs
 
 enum-told : tie.Need-enum-told
 enum-told c = search needs
@@ -29,21 +22,19 @@ returns c e = not-told e
 returns-2 : tie.Need-returns-2
 returns-2 c =
     let d = c .before .before in
-    far-on _ _ _ _ (d .off-square .ensures ∙ simp (d .before .before .point .ensures, d .before .point2 .ensures)) (c .enum-told2 .given .1)
+    far-on _ _ _ _ (d .square .ensures) (c .enum-told2 .given .1)
 
 returns-3 : tie.Need-returns-3
 returns-3 c =
     let d = c .before .before in
-    far-ahead _ _ _ _ (d .off-square .ensures ∙ simp (d .before .before .point .ensures, d .before .point2 .ensures))
+    far-ahead _ _ _ _ (d .square .ensures)
     (c .enum-told3 .given .1)
 
 pub too-far-spec : {M : Type 1} → statement M
 too-far-spec =
     tie.close
     (tie.spec
-    point-requires
-    point-requires-2
-    off-square-requires
+    square-requires
     enum-told
     enum-told-2
     enum-told-3

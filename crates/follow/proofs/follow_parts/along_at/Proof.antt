@@ -7,16 +7,16 @@ use borrow.Author.Needs.{needs}
 use Rattle.follow.proofs.follow_parts.along_at.Statement.{statement}
 use Rattle.follow.proofs.follow_parts.along_at.Tie as tie
 
-crumb-requires : tie.Need-crumb-requires
-crumb-requires c κs = search needs
+line-crumb-requires : tie.Need-line-crumb-requires
+line-crumb-requires c κs = search needs
 
 returns : tie.Need-returns
 unfolding alongAt ofBits
-returns c = simp (length-crumbs, lt-ltb _ _ (c .before .if1 .taken), ← c .crumb .ensures)
+returns c = simp (length-crumbs, lt-ltb _ _ (c .before .if1 .taken), ← c .line-crumb .ensures)
 
 returns-2 : tie.Need-returns-2
 unfolding alongAt ofBits
 returns-2 c = simp (length-crumbs, le-ltb _ _ (c .if1 .left))
 
 pub along-at-spec : {M : Type 1} → statement M
-along-at-spec = tie.close (tie.spec crumb-requires returns returns-2)
+along-at-spec = tie.close (tie.spec line-crumb-requires returns returns-2)

@@ -7,18 +7,18 @@ use Rattle.guide.proofs.goal.Nearing.{lies, lies-not}
 use Rattle.guide.proofs.goal.lies_near.Statement.{statement}
 use Rattle.guide.proofs.goal.lies_near.Tie as tie
 
-square-on-requires : tie.Need-square-on-requires
-square-on-requires c κs = search needs
+square-on-line-requires : tie.Need-square-on-line-requires
+square-on-line-requires c κs = search needs
 
 sqrtf-requires : tie.Need-sqrtf-requires
 sqrtf-requires c κs = search needs
 
 returns : tie.Need-returns
 unfolding dropM constant ofBits
-returns c = lies _ _ _ (c .before .before .square-on .ensures) (c .sqrtf .ensures)
+returns c = lies _ _ _ (c .before .before .square-on-line .ensures) (c .sqrtf .ensures)
 
 returns-2 : tie.Need-returns-2
-returns-2 c = lies-not _ _ _ (c .before .square-on .ensures) (c .if1 .left)
+returns-2 c = lies-not _ _ _ (c .before .square-on-line .ensures) (c .if1 .left)
 
 pub lies-near-spec : {M : Type 1} → statement M
-lies-near-spec = tie.close (tie.spec square-on-requires sqrtf-requires returns returns-2)
+lies-near-spec = tie.close (tie.spec square-on-line-requires sqrtf-requires returns returns-2)

@@ -17,24 +17,24 @@ max-zero-requires c κs = search needs
 enum-told : tie.Need-enum-told
 enum-told c = search needs
 
-at-along-requires : tie.Need-at-along-requires
-at-along-requires c κs =
+line-at-along-requires : tie.Need-line-at-along-requires
+line-at-along-requires c κs =
     let s = c .before .before .before .before .before .before in
     (s .pre .1 .0, s .pre .1 .1, lent-as (s .args .f) line.Course (c .enum-told .given .1) _ _ (s .pre .0))
 
 enum-told-2 : tie.Need-enum-told-2
 enum-told-2 c = search needs
 
-at-along-requires-2 : tie.Need-at-along-requires-2
-at-along-requires-2 c κs =
+at-along-requires : tie.Need-at-along-requires
+at-along-requires c κs =
     let s = c .before .before .before .before .before .before in
     (s .pre .1 .0, s .pre .1 .1, lent-as (s .args .f) line.Nothing (c .enum-told2 .given .1) _ _ (s .pre .0))
 
 enum-told-3 : tie.Need-enum-told-3
 enum-told-3 c = search needs
 
-at-along-requires-3 : tie.Need-at-along-requires-3
-at-along-requires-3 c κs =
+at-along-requires-2 : tie.Need-at-along-requires-2
+at-along-requires-2 c κs =
     let s = c .before .before .before .before .before .before in
     (s .pre .1 .0, s .pre .1 .1, lent-as (s .args .f) line.Breadcrumb (c .enum-told3 .given .1) _ _ (s .pre .0))
 
@@ -43,7 +43,7 @@ unfolding lookaheadM constant ofBits followedOn
 returns c =
     let g = c .before .before .before .before .before .before .before .args in
     let along = c .before .before .before .max-zero .ensures in
-    c .at-along .ensures
+    c .line-at-along .ensures
     ∙ ahead-as (g .f) line.Course (c .before .enum-told .given .1) (now (g .crumbs)) (now (g .line)) (g .near .end) along
 
 returns-2 : tie.Need-returns-2
@@ -51,7 +51,7 @@ unfolding lookaheadM constant ofBits followedOn
 returns-2 c =
     let g = c .before .before .before .before .before .before .before .args in
     let along = c .before .before .before .max-zero .ensures in
-    c .at-along2 .ensures
+    c .at-along .ensures
     ∙ ahead-as (g .f) line.Nothing (c .before .enum-told2 .given .1) (now (g .crumbs)) (now (g .line)) (g .near .end) along
 
 returns-3 : tie.Need-returns-3
@@ -59,7 +59,7 @@ unfolding lookaheadM constant ofBits followedOn
 returns-3 c =
     let g = c .before .before .before .before .before .before .before .args in
     let along = c .before .before .before .max-zero .ensures in
-    c .at-along3 .ensures
+    c .at-along2 .ensures
     ∙ ahead-as (g .f) line.Breadcrumb (c .before .enum-told3 .given .1) (now (g .crumbs)) (now (g .line)) (g .near .end) along
 
 pub ahead-spec : {M : Type 1} → statement M
@@ -68,11 +68,11 @@ ahead-spec =
     (tie.spec
     max-zero-requires
     enum-told
-    at-along-requires
+    line-at-along-requires
     enum-told-2
-    at-along-requires-2
+    at-along-requires
     enum-told-3
-    at-along-requires-3
+    at-along-requires-2
     returns
     returns-2
     returns-3)

@@ -1,36 +1,44 @@
--- `search::quick::along_row` meets its contract: the segments still to be tried decide. Assumes nothing.
-use Prim.Native.Nat.{_+_, _-_}
+-- `search::quick::along_row` meets its contract: the lead behind the segments tried. Assumes nothing.
+use Prim.Native.Nat.{_-_, _≤_}
+use mathlib.Core.Path.{_≡_}
 use native.Mathlib.Omega.{arith}
 use borrow.Author.Needs.{needs}
 use Rattle.crumbs.specs.Crumb.{crumbs}
-use Rattle.plane.specs.declared.Point.{Point}
-use Rattle.search.specs.Rows.{rowLength, SquaresFrom}
-use Rattle.search.proofs.quick.Passing.{Goes, rowFrom, row-start, row-on, row-out}
+use Rattle.search.specs.Square.{leadsDown}
+use Rattle.search.specs.Rows.{rowLength}
+use Rattle.search.proofs.quick.Passing.{over-start, over-next, over-end}
 use Rattle.search.proofs.quick.along_row.Statement.{statement}
 use Rattle.search.proofs.quick.along_row.Tie as tie
 
 abbrev Inv-loop : tie.InvT-loop
-Inv-loop line len within first row leading₀ k₀ leading k =
-    (p : Point) → SquaresFrom (crumbs len line) p first row
-    → Goes (crumbs len line) p within (rowFrom first) leading₀ leading (first + k)
+Inv-loop line len p within end leading₀ k₀ leading k = (k ≤ rowLength) × (leading ≡ leadsDown (crumbs len line) p within k end leading₀)
 
 abbrev μ-loop : tie.MeasureT-loop
-μ-loop line len within first row leading₀ k₀ leading k = rowLength - k
+μ-loop line len p within end leading₀ k₀ leading k = rowLength - k
 
 loop-holds : tie.Need-loop-holds Inv-loop μ-loop
-loop-holds c p squares = row-start _ _ _
+loop-holds c = (omega arith, over-start _ _ _ _ _)
 
-add-past : tie.Need-add-past Inv-loop μ-loop
-add-past c = omega arith
+sub-line-crumb : tie.Need-sub-line-crumb Inv-loop μ-loop
+sub-line-crumb c = omega arith
 
-mul-past : tie.Need-mul-past Inv-loop μ-loop
-mul-past c = search needs
+sub-line-crumb-2 : tie.Need-sub-line-crumb-2 Inv-loop μ-loop
+sub-line-crumb-2 c = omega arith
 
-element-copy-out-past : tie.Need-element-copy-out-past Inv-loop μ-loop
-element-copy-out-past c = search needs
+line-crumb-requires : tie.Need-line-crumb-requires Inv-loop μ-loop
+line-crumb-requires c κs = omega arith
 
-past-requires : tie.Need-past-requires Inv-loop μ-loop
-past-requires c κs = omega arith
+sub-line-crumb-3 : tie.Need-sub-line-crumb-3 Inv-loop μ-loop
+sub-line-crumb-3 c = omega arith
+
+line-crumb-requires-2 : tie.Need-line-crumb-requires-2 Inv-loop μ-loop
+line-crumb-requires-2 c κs = omega arith
+
+sub-consider : tie.Need-sub-consider Inv-loop μ-loop
+sub-consider c = omega arith
+
+consider-requires : tie.Need-consider-requires Inv-loop μ-loop
+consider-requires c κs = search needs
 
 add-k : tie.Need-add-k Inv-loop μ-loop
 add-k c = omega arith
@@ -39,13 +47,16 @@ loop-less : tie.Need-loop-less Inv-loop μ-loop
 loop-less c = omega arith
 
 loop-again : tie.Need-loop-again Inv-loop μ-loop
-loop-again c p squares =
-    let tested = c .before .before in
-    row-on _ _ _ (tested .before .loop .inv p squares) (tested .loop-test .taken)
-    (c .past .ensures p (squares .each _ (tested .loop-test .taken)))
+loop-again c =
+    let read = c .before .before in
+    let test = read .before in (
+      omega (arith, test .loop-test .taken),
+      over-next _ _ _ _ _ _ (test .before .loop .inv .1)
+          (c .consider .ensures _ (read .line-crumb .ensures) (c .before .line-crumb2 .ensures)),
+    )
 
 returns : tie.Need-returns Inv-loop μ-loop
-returns c p squares = row-out _ _ _ (c .before .loop .inv p squares) (c .loop-test .left)
+returns c = let v = c .before .loop .inv in over-end _ _ _ _ _ _ (v .0) (c .loop-test .left) (v .1)
 
 pub along-row-spec : {M : Type 1} → statement M
 along-row-spec =
@@ -54,10 +65,13 @@ along-row-spec =
     Inv-loop
     μ-loop
     loop-holds
-    add-past
-    mul-past
-    element-copy-out-past
-    past-requires
+    sub-line-crumb
+    sub-line-crumb-2
+    line-crumb-requires
+    sub-line-crumb-3
+    line-crumb-requires-2
+    sub-consider
+    consider-requires
     add-k
     loop-less
     loop-again

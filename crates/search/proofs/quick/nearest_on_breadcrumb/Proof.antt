@@ -1,57 +1,101 @@
 -- `search::quick::nearest_on_breadcrumb` meets its contract: the lead by squares follows the rule's best. Assumes nothing.
+use Prim.Native.Nat.{_+_, _-_}
 use native.Mathlib.Nat.{lt-of-le-of-lt}
+use native.Mathlib.Omega.{arith}
 use borrow.Author.Needs.{needs}
-use lib.Ieee.{ofBits}
-use Rattle.search.specs.Search.{lowest, largest, nearestOnBreadcrumb}
-use Rattle.search.proofs.quick.Leading.{races-start, races-none, races-one, counted}
-use Rattle.search.proofs.quick.Passing.{races-all, all-past}
+use Rattle.crumbs.specs.Crumb.{crumbs}
+use Rattle.search.proofs.Searching.{breadcrumb-is}
+use Rattle.search.proofs.quick.Leading.{Races, races-start, races-on, races-none, races-one, counted}
 use Rattle.search.proofs.quick.nearest_on_breadcrumb.Statement.{statement}
 use Rattle.search.proofs.quick.nearest_on_breadcrumb.Tie as tie
 
-over-all-requires : tie.Need-over-all-requires
-over-all-requires c κs = search needs
+abbrev Inv-loop : tie.InvT-loop
+Inv-loop line len p ends within lead₀ end₀ lead end = Races (crumbs len line) p within ends lead end
 
-returns : tie.Need-returns
-unfolding nearestOnBreadcrumb lowest largest ofBits
+abbrev μ-loop : tie.MeasureT-loop
+μ-loop line len p ends within lead₀ end₀ lead end = ends .to + 1 - end
+
+anywhere-requires : tie.Need-anywhere-requires Inv-loop μ-loop
+anywhere-requires c κs = search needs
+
+loop-holds : tie.Need-loop-holds Inv-loop μ-loop
+loop-holds c = races-start _ _ _ _ _ _
+
+sub-crumb : tie.Need-sub-crumb Inv-loop μ-loop
+sub-crumb c = omega (arith, c .before .before .loop .inv .rises .from)
+
+crumb-requires : tie.Need-crumb-requires Inv-loop μ-loop
+crumb-requires c κs = omega (arith, c .before .before .loop .inv .rises .from)
+
+crumb-requires-2 : tie.Need-crumb-requires-2 Inv-loop μ-loop
+crumb-requires-2 c κs = omega (arith, c .before .before .before .loop .inv .rises .from)
+
+consider-requires : tie.Need-consider-requires Inv-loop μ-loop
+consider-requires c κs = search needs
+
+add-end : tie.Need-add-end Inv-loop μ-loop
+add-end c = omega arith
+
+loop-less : tie.Need-loop-less Inv-loop μ-loop
+loop-less c = omega arith
+
+loop-again : tie.Need-loop-again Inv-loop μ-loop
+loop-again c =
+    let read = c .before .before in
+    let test = read .before in
+    let l = test .before .before in
+    races-on _ _ _ _ (l .loop .inv) (l .before .before .before .pre .0) (test .if1 .taken)
+    (c .consider .ensures _ (read .crumb .ensures) (c .before .crumb2 .ensures))
+
+returns : tie.Need-returns Inv-loop μ-loop
 returns c =
-    let d = c .before .before in
-    races-none _ _ _ _ (races-all _ _ _ _ (races-start _ _ _ _ _ _) (d .before .before .pre .0) (d .over-all .ensures)) (all-past _)
-    (c .if1 .taken)
+    let past = c .before .before in
+    let l = past .before .before in
+    breadcrumb-is _ _ _ (races-none _ _ _ _ (l .loop .inv) (past .if1 .left) (c .if2 .taken)) (l .before .anywhere .ensures)
 
-sqrtf-requires : tie.Need-sqrtf-requires
+sqrtf-requires : tie.Need-sqrtf-requires Inv-loop μ-loop
 sqrtf-requires c κs = search needs
 
-sqrtf-requires-2 : tie.Need-sqrtf-requires-2
+sqrtf-requires-2 : tie.Need-sqrtf-requires-2 Inv-loop μ-loop
 sqrtf-requires-2 c κs = search needs
 
-nearest-on-requires : tie.Need-nearest-on-requires
+nearest-on-requires : tie.Need-nearest-on-requires Inv-loop μ-loop
 nearest-on-requires c κs =
-    let e = c .before .before .before in
-    let d = e .before .before in
-    let a = d .before .before .pre in
-    let v = races-all _ _ _ _ (races-start _ _ _ _ _ _) (a .0) (d .over-all .ensures) in
-    (counted _ (e .if1 .left), lt-of-le-of-lt (v .upto) (a .1), a .2)
+    let some = c .before .before .before in
+    let l = some .before .before .before .before in
+    let a = l .before .before .before .pre in
+    (counted _ (some .if2 .left), lt-of-le-of-lt (l .loop .inv .upto) (a .1), a .2)
 
-returns-2 : tie.Need-returns-2
-unfolding nearestOnBreadcrumb lowest largest ofBits
+returns-2 : tie.Need-returns-2 Inv-loop μ-loop
 returns-2 c =
-    let e = c .before .before .before .before in
-    let d = e .before .before in
-    let v = races-all _ _ _ _ (races-start _ _ _ _ _ _) (d .before .before .pre .0) (d .over-all .ensures) in
-    races-one _ _ _ _ v (all-past _) (e .if1 .left) (c .before .before .before .sqrtf .ensures) (c .before .before .sqrtf2 .ensures)
-    (c .before .if2 .taken) (c .nearest-on .ensures)
+    let roots = c .before in
+    let some = roots .before .before .before in
+    let past = some .before .before in
+    let l = past .before .before in
+    breadcrumb-is _ _ _ (races-one _ _ _ _ (l .loop .inv) (past .if1 .left) (some .if2 .left) (roots .before .before .sqrtf .ensures)
+    (roots .before .sqrtf2 .ensures) (roots .if3 .taken) (c .nearest-on .ensures)) (l .before .anywhere .ensures)
 
-nearest-on-breadcrumb-requires : tie.Need-nearest-on-breadcrumb-requires
+nearest-on-breadcrumb-requires : tie.Need-nearest-on-breadcrumb-requires Inv-loop μ-loop
 nearest-on-breadcrumb-requires c κs = search needs
 
-returns-3 : tie.Need-returns-3
+returns-3 : tie.Need-returns-3 Inv-loop μ-loop
 returns-3 c = c .nearest-on-breadcrumb .ensures
 
 pub nearest-on-breadcrumb-spec : {M : Type 1} → statement M
 nearest-on-breadcrumb-spec =
     tie.close
     (tie.spec
-    over-all-requires
+    Inv-loop
+    μ-loop
+    anywhere-requires
+    loop-holds
+    sub-crumb
+    crumb-requires
+    crumb-requires-2
+    consider-requires
+    add-end
+    loop-less
+    loop-again
     returns
     sqrtf-requires
     sqrtf-requires-2
