@@ -20,7 +20,8 @@ some-near-requires c κs = search needs
 
 returns-2 : tie.Need-returns-2
 returns-2 c =
-    near-some _ _ (length-crumbs _ _) (omega arith) (c .before .before .square-on-line .ensures) (c .before .if2 .taken) (c .some-near .ensures)
+    near-some _ _ (length-crumbs _ _) (omega arith) (c .before .before .square-on-line .ensures) (c .before .if2 .taken)
+    (c .some-near .ensures)
 
 returns-3 : tie.Need-returns-3
 returns-3 c = near-lost _ _ (length-crumbs _ _) (omega arith) (c .before .square-on-line .ensures) (c .if2 .left)
