@@ -1,10 +1,9 @@
 // What the guide and the rebuild answer, told as numbers. What is not known is told as 0.
 
-use crate::records;
-use crate::records::ANSWERS;
 use door::answering;
 use log::Utc;
 use rebuild::Stage;
+use records::ANSWERS;
 ghost use Prim.Native.Nat.{_≤_};
 
 // The questions' numbers among the calls; any from the last on is `course`'s.

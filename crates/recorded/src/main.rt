@@ -4,16 +4,14 @@
 //   guide's own crumb buffer has;
 // - for each call a record of 55 numbers of eight bytes: which call it is and its three numbers, how many bytes behind
 //   the record it is given, how many numbers it is lent for crumbs and as the line, what of its state is replaced, and
-//   its 42 stored answers (`records` has their places, oracle/FORMATS.md says what they are);
+//   its 42 stored answers (the crate `records` has their places, oracle/FORMATS.md says what they are);
 // - behind a record what its call is given, then as patterns of four bytes the crumbs and the points of the course that
 //   the record counts among the answers;
 // - last a record of the same form for the ride's end, at which all crumbs and the course are told.
 // The file `stdin` was written by the program `recorded` of `oracle`, which performs the ride by the handed-over Rust.
 
 mod asking;
-mod comparing;
 mod performing;
-mod records;
 
 use course::POINTS;
 use performing::MOST_CRUMBS;
@@ -23,6 +21,7 @@ use records::ANSWERS;
 use records::BLOCK;
 use records::HEADER;
 use records::RECORD;
+use records::comparing;
 
 // ---- the format
 

@@ -1,16 +1,15 @@
 // A record's call, performed through the door.
 
 use crate::asking;
-use crate::records;
-use crate::records::ANSWERS;
-use crate::records::FIRST;
-use crate::records::RECORD;
-use crate::records::SECOND;
-use crate::records::THIRD;
 use course::POINTS;
 use door::calling;
 use door::rebuilding;
 use door::thinning;
+use records::ANSWERS;
+use records::FIRST;
+use records::RECORD;
+use records::SECOND;
+use records::THIRD;
 use stored::NUMBERS;
 use stored::REBUILD_WORDS;
 use stored::WORDS;

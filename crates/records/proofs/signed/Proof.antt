@@ -1,4 +1,4 @@
--- `recorded::records::signed` is safe and ends: from 2^31 on, a number is turned into one that fits. Assumes nothing.
+-- `records::signed` is safe and ends: from 2^31 on, a number is turned into one that fits. Assumes nothing.
 use Prim.Native.Nat.{ℕ, zero, suc, _-_, _^_, _≤_, _<_}
 use mathlib.Core.Path.{_≡_, refl, ap, _∙_}
 use native.Mathlib.Nat.{zero-add}
@@ -8,8 +8,8 @@ use mir.Syntax.{w32}
 use mir.Val.{SFits, toZ}
 use mir.ValLaws.{toZ-pos}
 use borrow.Author.Needs.{needs}
-use Rattle.recorded.proofs.records.signed.Statement.{statement}
-use Rattle.recorded.proofs.records.signed.Tie as tie
+use Rattle.records.proofs.signed.Statement.{statement}
+use Rattle.records.proofs.signed.Tie as tie
 
 minus-one : (k : ℕ) → negsuc 0 -ℤ pos k ≡ negsuc k
 minus-one zero = refl

@@ -1,9 +1,9 @@
--- `recorded::comparing::unlike_number` is safe and ends.
+-- `records::comparing::unlike_number` is safe and ends.
 use Prim.Native.Nat.{_≤_, _-_}
 use lib.ListN.{length}
 use borrow.Author.Needs.{needs}
-use Rattle.recorded.proofs.comparing.unlike_number.Statement.{statement}
-use Rattle.recorded.proofs.comparing.unlike_number.Tie as tie
+use Rattle.records.proofs.comparing.unlike_number.Statement.{statement}
+use Rattle.records.proofs.comparing.unlike_number.Tie as tie
 
 abbrev Inv-loop : tie.InvT-loop
 Inv-loop block numbers i₀ i = i ≤ length numbers

@@ -1,10 +1,9 @@
 // What is told compared with what is stored, and what is printed of it.
 
-use crate::records;
-use crate::records::ANSWERS;
-use crate::records::BLOCK;
-use crate::records::RECORD;
-use crate::records::STORED;
+use crate::ANSWERS;
+use crate::BLOCK;
+use crate::RECORD;
+use crate::STORED;
 use libc::STDOUT_FILENO;
 ghost use Prim.Native.Nat.{_*_, _≤_};
 ghost use lib.ListN.{length};
@@ -99,7 +98,7 @@ fn unlike(record: &[u8; RECORD], told: &[u64; ANSWERS]) -> usize
     ensures { λ r. ⌜ r ≤ 42 ⌝ }
 {
     for k in 0..ANSWERS {
-        if told[k] != records::field(record, STORED + k) {
+        if told[k] != crate::field(record, STORED + k) {
             return k;
         }
     }
@@ -114,7 +113,7 @@ pub fn agrees(number: u64, is_end: bool, record: &[u8; RECORD], told: &[u64; ANS
     }
     print_unlike(number, is_end);
     print_field(k);
-    print_values(told[k], records::field(record, STORED + k));
+    print_values(told[k], crate::field(record, STORED + k));
     false
 }
 
@@ -125,7 +124,7 @@ fn unlike_number(block: &[u8; BLOCK], numbers: &[f32]) -> usize
 {
     let mut i = 0;
     while i < numbers.len() {
-        if binary32::pattern(numbers[i]) != records::pattern_at(block, i) {
+        if binary32::pattern(numbers[i]) != crate::pattern_at(block, i) {
             return i;
         }
         i += 1;
@@ -146,7 +145,7 @@ pub fn numbers_agree(
         print_cut_off();
         return false;
     }
-    if !records::read(block, 4 * n) {
+    if !crate::read(block, 4 * n) {
         print_cut_off();
         return false;
     }
@@ -159,7 +158,7 @@ pub fn numbers_agree(
     print_number(k as u64);
     print_values(
         binary32::pattern(numbers[k]) as u64,
-        records::pattern_at(block, k) as u64,
+        crate::pattern_at(block, k) as u64,
     );
     false
 }

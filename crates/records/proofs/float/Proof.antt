@@ -1,4 +1,4 @@
--- `recorded::records::float` is safe and ends.
+-- `records::float` is safe and ends.
 use mathlib.Core.Path.{sym, subst, _∙_}
 use mathlib.Core.Bool.{Bool, not}
 use lib.Dec.{T}
@@ -6,8 +6,8 @@ use lib.Ieee.{binary32}
 use lib.Ieee.Bits.{nanBits-above}
 use borrow.Author.Tests.{le-ltb}
 use borrow.Author.Needs.{needs}
-use Rattle.recorded.proofs.records.float.Statement.{statement}
-use Rattle.recorded.proofs.records.float.Tie as tie
+use Rattle.records.proofs.float.Statement.{statement}
+use Rattle.records.proofs.float.Tie as tie
 
 returns : tie.Need-returns
 returns c = search needs

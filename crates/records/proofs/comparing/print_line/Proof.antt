@@ -1,9 +1,9 @@
--- `recorded::comparing::print_line` is safe and ends.
+-- `records::comparing::print_line` is safe and ends.
 use Prim.Native.Nat.{_-_, _≤_}
 use lib.ListN.{length}
 use borrow.Author.Needs.{needs}
-use Rattle.recorded.proofs.comparing.print_line.Statement.{statement}
-use Rattle.recorded.proofs.comparing.print_line.Tie as tie
+use Rattle.records.proofs.comparing.print_line.Statement.{statement}
+use Rattle.records.proofs.comparing.print_line.Tie as tie
 
 abbrev Inv-loop : tie.InvT-loop
 Inv-loop text k left₀ i₀ i-end left i = i-end ≤ length text

@@ -1,8 +1,8 @@
--- `recorded::comparing::unlike` is safe and ends.
+-- `records::comparing::unlike` is safe and ends.
 use Prim.Native.Nat.{_-_}
 use borrow.Author.Needs.{needs}
-use Rattle.recorded.proofs.comparing.unlike.Statement.{statement}
-use Rattle.recorded.proofs.comparing.unlike.Tie as tie
+use Rattle.records.proofs.comparing.unlike.Statement.{statement}
+use Rattle.records.proofs.comparing.unlike.Tie as tie
 
 abbrev Inv-loop : tie.InvT-loop
 Inv-loop «record» told k₀ k = Unit

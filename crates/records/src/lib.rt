@@ -1,4 +1,7 @@
-// Where the numbers of a stored ride stand, and how they are read. All are little-endian.
+// A stored ride: where its numbers stand, and how they are read. All are little-endian. `comparing`: what a call tells held to what is
+// stored.
+
+pub mod comparing;
 
 use libc::STDIN_FILENO;
 ghost use Prim.Native.Nat.{_+_, _*_, _<_, _≤_};

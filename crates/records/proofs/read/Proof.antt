@@ -1,10 +1,10 @@
--- `recorded::records::read` is safe and ends.
+-- `records::read` is safe and ends.
 use mathlib.Core.Path.{sym}
 use lib.Seq.{length-take-le}
 use native.Mathlib.Omega.{arith}
 use borrow.Author.Needs.{needs}
-use Rattle.recorded.proofs.records.read.Statement.{statement}
-use Rattle.recorded.proofs.records.read.Tie as tie
+use Rattle.records.proofs.read.Statement.{statement}
+use Rattle.records.proofs.read.Tie as tie
 
 returns : tie.Need-returns
 returns c = search needs

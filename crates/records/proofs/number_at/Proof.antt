@@ -1,9 +1,9 @@
--- `recorded::records::number_at` is safe and ends.
+-- `records::number_at` is safe and ends.
 use Prim.Native.Nat.{_≤_}
 use native.Mathlib.Omega.{arith}
 use borrow.Author.Needs.{needs}
-use Rattle.recorded.proofs.records.number_at.Statement.{statement}
-use Rattle.recorded.proofs.records.number_at.Tie as tie
+use Rattle.records.proofs.number_at.Statement.{statement}
+use Rattle.records.proofs.number_at.Tie as tie
 
 abbrev Inv-loop : tie.InvT-loop
 Inv-loop bytes at width value₀ left₀ value left = left ≤ width
