@@ -22,19 +22,21 @@ returns c = nothing-near _ _ _ (c .enum-told .given .1)
 
 sub-crumb : tie.Need-sub-crumb
 sub-crumb c =
-    on-line _ _ _ (c .before .before .before .before .best .given .1) (c .before .before .before .before .before .before .before .pre .1) .0
+    let found = c .before .before .before .before in
+    on-line _ _ _ (found .best .given .1) (found .before .before .before .pre .1) .0
 
 crumb-requires : tie.Need-crumb-requires
-crumb-requires c κs = let on =
-    on-line _ _ _ (c .before .before .before .before .best .given .1) (c .before .before .before .before .before .before .before .pre .1) in
-    (omega (arith, on .0, on .1), c .before .before .before .before .before .before .before .pre .0)
+crumb-requires c κs =
+    let found = c .before .before .before .before in
+    let given = found .before .before .before .pre in
+    let on = on-line _ _ _ (found .best .given .1) (given .1) in
+    (omega (arith, on .0, on .1), given .0)
 
 crumb-requires-2 : tie.Need-crumb-requires-2
-crumb-requires-2 c κs = (
-  on-line _ _ _ (c .before .before .before .before .before .best .given .1)
-      (c .before .before .before .before .before .before .before .before .pre .1) .1,
-  c .before .before .before .before .before .before .before .before .pre .0,
-)
+crumb-requires-2 c κs =
+    let found = c .before .before .before .before .before in
+    let given = found .before .before .before .pre in
+    (on-line _ _ _ (found .best .given .1) (given .1) .1, given .0)
 
 backwards-requires : tie.Need-backwards-requires
 backwards-requires c κs = search needs
@@ -42,10 +44,11 @@ backwards-requires c κs = search needs
 returns-2 : tie.Need-returns-2
 unfolding retraceM constant ofBits
 returns-2 c =
-    let g = c .before .before .before .before .before .before .before .before .before .before .args in
-    let is = near-against (crumbs (g .len) (now (g .crumbs))) (g .heading) (g .best)
-    (c .before .before .before .before .before .before .before .best .given .0 .0)
-    (c .before .before .before .before .before .before .before .best .given .1) (c .before .before .before .before .if1 .taken) in
+    let test = c .before .before .before .before in
+    let found = test .before .before .before in
+    let g = found .before .before .before .args in
+    let is = near-against (crumbs (g .len) (now (g .crumbs))) (g .heading) (g .best) (found .best .given .0 .0) (found .best .given .1)
+    (test .if1 .taken) in
     simp (← is, ← c .before .crumb2 .ensures, ← c .before .before .crumb .ensures) (c .backwards .ensures)
 
 returns-3 : tie.Need-returns-3

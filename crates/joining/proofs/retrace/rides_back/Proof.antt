@@ -41,15 +41,15 @@ ends-requires c κs = search needs
 
 nearest-before-requires : tie.Need-nearest-before-requires
 nearest-before-requires c κs =
-    let g = c .before .before .before .before .before .before .before .before .args in (
-      subst (λ (n : ℕ). n ≤ g .len) (sym (c .ends .ensures)) (ends-few (g .len) (now (g .crumbs)) _),
-      c .before .before .before .before .before .before .before .before .pre,
-    )
+    let start = c .before .before .before .before .before .before .before .before in
+    let g = start .args in
+    (subst (λ (n : ℕ). n ≤ g .len) (sym (c .ends .ensures)) (ends-few (g .len) (now (g .crumbs)) _), start .pre)
 
 against-near-requires : tie.Need-against-near-requires
 against-near-requires c κs =
-    let g = c .before .before .before .before .before .before .before .before .before .args in (
-      c .before .before .before .before .before .before .before .before .before .pre,
+    let start = c .before .before .before .before .before .before .before .before .before in
+    let g = start .args in (
+      start .pre,
       subst (λ (best : Best). InLine (g .len) best) (sym (c .nearest-before .ensures))
           (before-in-line (crumbs (g .len) (now (g .crumbs))) (g .p) (c .before .ends .result) (g .len)
           (subst (λ (n : ℕ). n ≤ g .len) (sym (c .before .ends .ensures)) (ends-few (g .len) (now (g .crumbs)) _))),
@@ -58,11 +58,11 @@ against-near-requires c κs =
 returns-3 : tie.Need-returns-3
 unfolding retraceSkipM constant ofBits
 returns-3 c =
-    let g = c .before .before .before .before .before .before .before .before .before .before .args in
-    let is = long-enough (g .len) (now (g .crumbs)) (g .p) (g .heading)
-    (c .before .before .before .before .before .before .before .heading .given .0 .0)
-    (c .before .before .before .before .before .before .before .heading .given .1)
-    (c .before .before .before .before .before .if1 .left) in
+    let test = c .before .before .before .before .before in
+    let known = test .before .before in
+    let g = known .before .before .before .args in
+    let is = long-enough (g .len) (now (g .crumbs)) (g .p) (g .heading) (known .heading .given .0 .0) (known .heading .given .1)
+    (test .if1 .left) in
     simp (
       ← is,
       ← c .before .before .before .before .crumb .ensures,
