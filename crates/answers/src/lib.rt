@@ -14,13 +14,13 @@ use plane::{Heading, Spot};
 use questions::limits;
 use state::{Guide, Homing, Line, Shown};
 
-#[derive(Drop)]
+#[derive(Clone, Copy)]
 pub enum Count {
     Is(usize),
     Refused(u8),
 }
 
-#[derive(Drop)]
+#[derive(Clone, Copy)]
 pub enum Verdict {
     Is(bool),
     Refused(u8),
@@ -28,20 +28,20 @@ pub enum Verdict {
 
 // The way on: the followed line's first points, that many, and then the point where the rider is, if
 // matched yet.
-#[derive(Drop)]
+#[derive(Clone, Copy)]
 pub enum Ahead {
     Along(usize, Spot),
     Nothing,
     Refused(u8),
 }
 
-#[derive(Drop)]
+#[derive(Clone, Copy)]
 pub enum Riding {
     Heading(Heading),
     Refused(u8),
 }
 
-#[derive(Drop)]
+#[derive(Clone, Copy)]
 pub enum Showing {
     Guide(Guide),
     Nothing,
@@ -49,7 +49,7 @@ pub enum Showing {
 }
 
 // Metres straight to the start, and back over the track.
-#[derive(Drop)]
+#[derive(Clone, Copy)]
 pub enum Back {
     Metres(u32, u32),
     Nothing,
@@ -57,7 +57,7 @@ pub enum Back {
 }
 
 // The arrow's, in 4096ths of a turn.
-#[derive(Drop)]
+#[derive(Clone, Copy)]
 pub enum Angle {
     Is(u16),
     Refused(u8),

@@ -16,7 +16,7 @@ pub const STRIDE: usize = 3;
 const LINE_STRIDE: usize = 3;
 
 // A place in metres, and how far along the line it lies.
-#[derive(Drop)]
+#[derive(Clone, Copy)]
 pub struct Crumb {
     pub east: f32,
     pub north: f32,

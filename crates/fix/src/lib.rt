@@ -82,7 +82,7 @@ fn passing(l: Lap, p: Point, heading: Heading) -> Lap
 
 // The groups of the state that such a fix changes, beside the window: many fixes are replayed on them, and the whole is not
 // copied for each.
-#[derive(Drop)]
+#[derive(Clone, Copy)]
 pub struct Ridden {
     pub frame: Frame,
     pub motion: Motion,

@@ -15,14 +15,14 @@ use plane::{Point, Spot};
 use state::{Follow, Guided, Homing, Line};
 
 // A state, and a yes or no beside it.
-#[derive(Drop)]
+#[derive(Clone, Copy)]
 pub struct Answered {
     pub homing: Homing,
     pub yes: bool,
 }
 
 // The state without its window, and a yes or no beside it.
-#[derive(Drop)]
+#[derive(Clone, Copy)]
 pub struct Decided {
     pub guided: Guided,
     pub yes: bool,

@@ -20,7 +20,7 @@ pub const ARRIVE_M: f32 = 30.0;
 const LEAVE_M: f32 = 80.0;
 
 // A state, and what the fix changed.
-#[derive(Drop)]
+#[derive(Clone, Copy)]
 pub struct Told {
     pub homing: Homing,
     pub event: Event,
@@ -28,7 +28,7 @@ pub struct Told {
 
 // What the guide is made of: what is followed, whether the rider has arrived, the heading, and how many crumbs the
 // breadcrumb and the course have.
-#[derive(Drop)]
+#[derive(Clone, Copy)]
 pub struct Standing {
     pub follow: Follow,
     pub arrived: bool,
@@ -38,7 +38,7 @@ pub struct Standing {
 }
 
 // What arriving or leaving changes, and what the fix changed.
-#[derive(Drop)]
+#[derive(Clone, Copy)]
 pub struct Arrival {
     pub follow: Follow,
     pub arrived: bool,
@@ -46,7 +46,7 @@ pub struct Arrival {
 }
 
 // The guide to show, and what changes with it.
-#[derive(Drop)]
+#[derive(Clone, Copy)]
 pub struct Display {
     pub arrival: Arrival,
     pub guide: Guide,

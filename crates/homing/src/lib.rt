@@ -16,32 +16,32 @@ use state::{Event, Homing, Place};
 use steer::following;
 
 // The answer of a call that has nothing to tell.
-#[derive(Drop)]
+#[derive(Clone, Copy)]
 pub enum Reply {
     Taken,
     Refused(u8),
 }
 
 // What `observe` tells.
-#[derive(Drop)]
+#[derive(Clone, Copy)]
 pub enum Sight {
     Event(Event),
     Refused(u8),
 }
 
-#[derive(Drop)]
+#[derive(Clone, Copy)]
 pub struct Changed {
     pub homing: Homing,
     pub answer: Reply,
 }
 
-#[derive(Drop)]
+#[derive(Clone, Copy)]
 pub struct Observed {
     pub homing: Homing,
     pub answer: Sight,
 }
 
-#[derive(Drop)]
+#[derive(Clone, Copy)]
 pub struct Followed {
     pub homing: Homing,
     pub answer: Verdict,

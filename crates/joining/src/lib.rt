@@ -14,14 +14,14 @@ use state::Course;
 use trail::Trail;
 
 // The course after a fix, and whether enough fixes in a row ran along it.
-#[derive(Drop)]
+#[derive(Clone, Copy)]
 pub struct Joined {
     pub course: Course,
     pub yes: bool,
 }
 
 // The breadcrumb's counts after a fix, and whether enough fixes in a row ran back along it.
-#[derive(Drop)]
+#[derive(Clone, Copy)]
 pub struct Retraced {
     pub trail: Trail,
     pub yes: bool,

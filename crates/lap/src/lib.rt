@@ -15,7 +15,7 @@ const PASS_M: f32 = 40.0;
 
 const PASS_END_M: f32 = 50.0;
 
-#[derive(Drop)]
+#[derive(Clone, Copy)]
 pub enum Stage {
     // At or near the start, or just passed it: not counting until the rider is `PASS_ARM_M` away. A
     // ride begins here.
@@ -26,13 +26,13 @@ pub enum Stage {
     Inside,
 }
 
-#[derive(Drop)]
+#[derive(Clone, Copy)]
 pub struct StartPass {
     pub stage: Stage,
 }
 
 // A pass after a step, and whether the step completed it.
-#[derive(Drop)]
+#[derive(Clone, Copy)]
 pub struct Stepped {
     pub pass: StartPass,
     pub passed: bool,
@@ -98,7 +98,7 @@ impl StartPass {
 }
 
 // Passes of the start, which is where the rider first moved.
-#[derive(Drop)]
+#[derive(Clone, Copy)]
 pub struct Lap {
     pub pass: StartPass,
     pub start: Spot,
@@ -107,7 +107,7 @@ pub struct Lap {
 }
 
 // A lap after a step, and whether the step completed a pass.
-#[derive(Drop)]
+#[derive(Clone, Copy)]
 pub struct LapStepped {
     pub lap: Lap,
     pub passed: bool,

@@ -18,7 +18,7 @@ use state::{Course, Follow, Line, Mode};
 
 // What is followed: which line, how many crumbs it has, the segment last matched, whether the rider was off the
 // line, and how far on the course.
-#[derive(Drop)]
+#[derive(Clone, Copy)]
 pub struct Followed {
     pub on: Line,
     pub len: usize,
@@ -28,7 +28,7 @@ pub struct Followed {
 }
 
 // Where to ride, and how far it is.
-#[derive(Drop)]
+#[derive(Clone, Copy)]
 pub struct Way {
     pub mode: Mode,
     pub track: f32,

@@ -11,7 +11,7 @@ const HEADING_STEP_M: f32 = 15.0;
 const HEADING_STALE_MS: u64 = 15_000;
 
 // From where the heading is taken, the heading, and when it was last renewed.
-#[derive(Drop)]
+#[derive(Clone, Copy)]
 pub struct Motion {
     pub from: Spot,
     pub heading: Heading,

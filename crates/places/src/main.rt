@@ -4,7 +4,7 @@
 // turn away.
 use plane::Point;
 
-#[derive(Drop)]
+#[derive(Clone, Copy)]
 struct Ride {
     lat0: i32,
     lon0: i32,

@@ -14,28 +14,28 @@ pub const TURN: u16 = 4096;
 const TAU: f32 = 6.28318530717958647692528676655900577;
 
 // A place: metres east and north of the origin.
-#[derive(Drop)]
+#[derive(Clone, Copy)]
 pub struct Point {
     pub east: f32,
     pub north: f32,
 }
 
 // A place that may be missing.
-#[derive(Drop)]
+#[derive(Clone, Copy)]
 pub enum Spot {
     At(Point),
     Nowhere,
 }
 
 // A heading that may be unknown, in 4096ths of a turn.
-#[derive(Drop)]
+#[derive(Clone, Copy)]
 pub enum Heading {
     Known(u16),
     Unknown,
 }
 
 // A point of a segment, and how far along the segment it is, 0 to 1.
-#[derive(Drop)]
+#[derive(Clone, Copy)]
 pub struct Projection {
     pub point: Point,
     pub t: f32,

@@ -26,7 +26,7 @@ const SAMPLE_MS: u64 = 1_000;
 
 const CLOCK_MOST: u64 = 0xFFFF_FFFF_FFFF_FFFF;
 
-#[derive(Drop)]
+#[derive(Clone, Copy)]
 pub enum Stage {
     // Before the later ride's first fix: when the recovered ride's latest fix was, if known.
     Pending(Utc),
@@ -44,12 +44,12 @@ pub fn is_decided(stage: Stage) -> bool
 }
 
 // How far the log is read: the next slot.
-#[derive(Drop)]
+#[derive(Clone, Copy)]
 pub struct Walk {
     pub slot: usize,
 }
 
-#[derive(Drop)]
+#[derive(Clone, Copy)]
 pub struct Rebuild {
     pub recovered: u32,
     pub walk: Walk,
@@ -58,14 +58,14 @@ pub struct Rebuild {
     pub clock_ms: u64,
 }
 
-#[derive(Drop)]
+#[derive(Clone, Copy)]
 pub struct Visited {
     pub rebuild: Rebuild,
     pub homing: Homing,
 }
 
 // What a sample says: the rebuild after it, whether the guide starts anew, and the fix to replay behind that.
-#[derive(Drop)]
+#[derive(Clone, Copy)]
 struct Heard {
     rebuild: Rebuild,
     anew: bool,

@@ -69,7 +69,7 @@ fn parts_agree(
 }
 
 // The state behind a call, and whether it agrees with what is stored.
-#[derive(Drop)]
+#[derive(Clone, Copy)]
 struct Replayed {
     state: State,
     agrees: bool,

@@ -52,7 +52,7 @@ pub const MOST_LINE: usize = crumbs::STRIDE * (POINTS + 1);
 pub const POINT: usize = 8;
 
 // What the door is lent besides the buffers: a guide's words and numbers, and a rebuild's words.
-#[derive(Drop)]
+#[derive(Clone, Copy)]
 pub struct State {
     pub words: [u64; WORDS],
     pub numbers: [f32; NUMBERS],
@@ -60,7 +60,7 @@ pub struct State {
 }
 
 // What a call gives: the state behind it, the number of its refusal, and its event or flag.
-#[derive(Drop)]
+#[derive(Clone, Copy)]
 struct Reply {
     state: State,
     refused: u8,
@@ -201,7 +201,7 @@ fn replay(record: &[u8; RECORD], s: State, crumbs: &mut [f32]) -> Reply {
 }
 
 // The points that a call is given, and how many there are.
-#[derive(Drop)]
+#[derive(Clone, Copy)]
 struct Points {
     lats: [i32; POINTS],
     lons: [i32; POINTS],

@@ -18,14 +18,14 @@ use ride_log::{Entry, Utc, file_questions};
 use rebuild::{Rebuild, Stage, Visited, Walk};
 use state::Homing;
 
-#[derive(Drop)]
+#[derive(Clone, Copy)]
 pub struct Stepped {
     pub rebuild: Rebuild,
     pub homing: Homing,
     pub answer: Verdict,
 }
 
-#[derive(Drop)]
+#[derive(Clone, Copy)]
 pub struct Settled {
     pub rebuild: Rebuild,
     pub homing: Homing,

@@ -14,7 +14,7 @@ const KEPT: usize = 65_473;
 const TEXT: usize = 16_384;
 
 // What was read: how many bytes, or that reading failed.
-#[derive(Drop)]
+#[derive(Clone, Copy)]
 struct Got {
     bytes: usize,
     failed: bool,

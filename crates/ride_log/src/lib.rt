@@ -11,7 +11,7 @@ ghost use Rattle.ride_log.specs.Entry.{recovered as recovered_of};
 use state::Place;
 
 // What an entry is, 1 to 7.
-#[derive(Drop)]
+#[derive(Clone, Copy)]
 pub enum Kind {
     Start,
     Samples,
@@ -23,20 +23,20 @@ pub enum Kind {
 }
 
 // A time of day, where it is known.
-#[derive(Drop)]
+#[derive(Clone, Copy)]
 pub enum Utc {
     At(u64),
     Unknown,
 }
 
-#[derive(Drop)]
+#[derive(Clone, Copy)]
 pub struct Sample {
     pub place: Place,
     pub utc: Utc,
 }
 
 // An entry carries four samples, of which `count` are used.
-#[derive(Drop)]
+#[derive(Clone, Copy)]
 pub struct Entry {
     pub ride: u32,
     pub kind: Kind,

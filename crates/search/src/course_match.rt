@@ -25,7 +25,7 @@ const HOP_M: f32 = 40.0;
 
 // How far the rider has come on the course, in metres to its end where last matched and at the
 // furthest, with the fix last matched and the heading.
-#[derive(Drop)]
+#[derive(Clone, Copy)]
 pub struct Progress {
     pub along: f32,
     pub reached: f32,

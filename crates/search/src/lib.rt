@@ -30,14 +30,14 @@ const JOIN_M: f32 = 25.0;
 const JOIN_FAR: f32 = 626.0;
 
 // The ends that a search tries, both included.
-#[derive(Drop)]
+#[derive(Clone, Copy)]
 pub struct Range {
     pub from: usize,
     pub to: usize,
 }
 
 // The segment that a rider joins.
-#[derive(Drop)]
+#[derive(Clone, Copy)]
 pub enum Join {
     Segment(usize),
     NoSegment,

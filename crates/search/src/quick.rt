@@ -16,7 +16,7 @@ use segments::costs::Ranking;
 use segments::{Best, Stretch};
 
 // The segment with the least square so far, 0 where there is none, that square, and the least of those tried before it.
-#[derive(Drop)]
+#[derive(Clone, Copy)]
 struct Lead {
     best: usize,
     least: f32,
@@ -24,7 +24,7 @@ struct Lead {
 }
 
 // The lead behind the segments of a range above `end`.
-#[derive(Drop)]
+#[derive(Clone, Copy)]
 struct Passed {
     lead: Lead,
     end: usize,

@@ -15,7 +15,7 @@ use segments::Best;
 pub const ROW: usize = 16;
 
 // The row in front, or the segment: where it begins, what no square tried so far is less than, and what none before it is less than.
-#[derive(Drop)]
+#[derive(Clone, Copy)]
 struct Front {
     first: usize,
     least: f32,

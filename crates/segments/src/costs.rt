@@ -20,7 +20,7 @@ pub const SLIP_M: f32 = 10.0;
 pub const AGAINST_M: f32 = 5.0;
 
 // Where a position meets a segment.
-#[derive(Drop)]
+#[derive(Clone, Copy)]
 pub struct Nearest {
     pub end: usize,
     pub off: f32,
@@ -30,14 +30,14 @@ pub struct Nearest {
 }
 
 // What a segment costs.
-#[derive(Drop)]
+#[derive(Clone, Copy)]
 pub enum Cost {
     Out,
     Metres(f32),
 }
 
 // By which cost segments are ranked.
-#[derive(Drop)]
+#[derive(Clone, Copy)]
 pub enum Ranking {
     Plain,
     On { reached: f32, heading: Heading },

@@ -22,21 +22,21 @@ use crumbs::Crumb;
 use plane::{Point, squares};
 
 // The segment that a search puts first.
-#[derive(Drop)]
+#[derive(Clone, Copy)]
 pub enum Best {
     Nothing,
     Found(Nearest),
 }
 
 // A part of a line, from `floor` to `ceiling` metres along.
-#[derive(Drop)]
+#[derive(Clone, Copy)]
 pub struct Stretch {
     pub floor: f32,
     pub ceiling: f32,
 }
 
 // The segment of least cost among those tried, with its cost.
-#[derive(Drop)]
+#[derive(Clone, Copy)]
 pub enum SoFar {
     Empty,
     Least(Nearest, f32),

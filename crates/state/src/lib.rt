@@ -9,21 +9,21 @@ use plane::{Heading, Spot};
 use trail::Trail;
 
 // A fix that may be missing: latitude and longitude in 1e-7 degree.
-#[derive(Drop)]
+#[derive(Clone, Copy)]
 pub enum Place {
     At(i32, i32),
     Missing,
 }
 
 // Which line a follow is on.
-#[derive(Drop)]
+#[derive(Clone, Copy)]
 pub enum Line {
     Nothing,
     Breadcrumb,
     Course,
 }
 
-#[derive(Drop)]
+#[derive(Clone, Copy)]
 pub enum Mode {
     // Straight to the start.
     Direct,
@@ -36,7 +36,7 @@ pub enum Mode {
 }
 
 // What a fix changed, for a nudge.
-#[derive(Drop)]
+#[derive(Clone, Copy)]
 pub enum Event {
     Nothing,
     // Following started by itself.
@@ -53,7 +53,7 @@ pub enum Event {
 }
 
 // The way back, as of the last fix.
-#[derive(Drop)]
+#[derive(Clone, Copy)]
 pub struct Guide {
     pub mode: Mode,
     // Following the breadcrumb back, or the course, whatever `mode` says now.
@@ -74,20 +74,20 @@ pub struct Guide {
     pub heading: Heading,
 }
 
-#[derive(Drop)]
+#[derive(Clone, Copy)]
 pub enum Shown {
     Guide(Guide),
     Nothing,
 }
 
 // The ride's first fix, from which places are counted, and metres per 1e-7 degree of longitude there.
-#[derive(Drop)]
+#[derive(Clone, Copy)]
 pub struct Frame {
     pub origin: Place,
     pub east_per_e7: f32,
 }
 
-#[derive(Drop)]
+#[derive(Clone, Copy)]
 pub struct Course {
     pub line_len: usize,
     // Loaded, but waits for the ride's first fix to be placed.
@@ -104,7 +104,7 @@ pub struct Course {
     pub fix: Spot,
 }
 
-#[derive(Drop)]
+#[derive(Clone, Copy)]
 pub struct Follow {
     pub line: Line,
     // The segment last matched while following.
@@ -115,7 +115,7 @@ pub struct Follow {
     pub reminded_ms: u64,
 }
 
-#[derive(Drop)]
+#[derive(Clone, Copy)]
 pub struct Homing {
     pub trail: Trail,
     // The places that wait, as numbers: place i at 2i and 2i + 1.
@@ -137,7 +137,7 @@ pub struct Homing {
 }
 
 // The state without the window: it goes by value on the way of a fix, and the window is lent beside it.
-#[derive(Drop)]
+#[derive(Clone, Copy)]
 pub struct Guided {
     pub trail: Trail,
     pub frame: Frame,

@@ -71,7 +71,7 @@ const MOST: [u64; 45] = [
 ];
 
 // A guide's state, and whether the slices held it. Where they did not, the state says nothing.
-#[derive(Drop)]
+#[derive(Clone, Copy)]
 pub struct Held {
     pub homing: Homing,
     pub held: bool,

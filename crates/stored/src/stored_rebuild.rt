@@ -27,7 +27,7 @@ const REBUILD_MOST: [u64; 7] = [
 ];
 
 // A rebuild, and whether the words held it. Where they did not, the rebuild says nothing.
-#[derive(Drop)]
+#[derive(Clone, Copy)]
 pub struct HeldRebuild {
     pub rebuild: Rebuild,
     pub held: bool,

@@ -24,7 +24,7 @@ const ROUNDS: usize = 17;
 
 // Bounds on squares, found once a pass: the root of `lo` is at most the tolerance, that of `hi` is above it. One that is
 // missing is a NaN, to which no comparison says yes.
-#[derive(Drop)]
+#[derive(Clone, Copy)]
 struct Bounds {
     lo: f32,
     hi: f32,
@@ -158,7 +158,7 @@ fn pass(buf: &mut [f32], len: usize, tolerance: f32, halve: bool) -> usize
 
 // How many crumbs are left, the tolerance of the last pass and how many passes were made; or the
 // number of a refusal.
-#[derive(Drop)]
+#[derive(Clone, Copy)]
 pub enum Thinned {
     Left {
         len: usize,

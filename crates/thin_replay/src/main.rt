@@ -106,7 +106,7 @@ fn read(text: &mut [u8], words: usize) -> bool
     io::read_full(STDIN_FILENO, part) == wanted
 }
 
-#[derive(Drop)]
+#[derive(Clone, Copy)]
 enum Case {
     Agrees,
     Differs,

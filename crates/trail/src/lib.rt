@@ -26,7 +26,7 @@ pub const RETRACE_FIXES: u8 = 8;
 
 // The breadcrumb's state beside the window and the buffer that holds its crumbs. The window has the
 // places since the last kept crumb, oldest first: place i at 2i and 2i + 1.
-#[derive(Drop)]
+#[derive(Clone, Copy)]
 pub struct Trail {
     // Crumbs held.
     pub len: usize,
@@ -39,7 +39,7 @@ pub struct Trail {
 }
 
 // A trail, and whether it was thinned on the way.
-#[derive(Drop)]
+#[derive(Clone, Copy)]
 pub struct Recorded {
     pub trail: Trail,
     pub thinned: bool,

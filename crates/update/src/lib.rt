@@ -25,14 +25,14 @@ use state::{Course, Event, Guided, Line, Shown};
 const COURSE_END_M: f32 = 25.0;
 
 // The state after a fix without its window, and what the fix changed.
-#[derive(Drop)]
+#[derive(Clone, Copy)]
 pub struct Updated {
     pub guided: Guided,
     pub event: Event,
 }
 
 // What becomes of a following.
-#[derive(Drop)]
+#[derive(Clone, Copy)]
 enum Outcome {
     // Nothing is followed that leads on: straight to the start.
     Straight,

@@ -1,0 +1,13 @@
+-- `door::answering::cittumay_following` meets its contract.
+use mathlib.Core.Path.{refl}
+use Rattle.door.proofs.answering.Answers.{loaded, unloaded, not-held, handed}
+use borrow.Author.Rules.{rules}
+use Rattle.door.proofs.answering.cittumay_following.Goals as goal
+
+pub returns-then-not-there : goal.returns-then-not-there
+returns-then-not-there c = not-held (unloaded c.load-there.ensures c.if-not-there.true) refl
+
+pub returns : goal.returns
+returns c =
+    handed (loaded c.load-there.ensures c.if-not-there.false) _
+    c.following-answer.ensures c.put_verdict.ensures.0 c.put_verdict.ensures.1

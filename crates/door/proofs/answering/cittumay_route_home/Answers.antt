@@ -1,0 +1,14 @@
+-- `door::answering::cittumay_route_home` meets its contract.
+use mathlib.Core.Path.{refl}
+use Rattle.door.proofs.answering.Answers.{loaded, unloaded, not-held, handed}
+use borrow.Author.Rules.{rules}
+use Rattle.door.proofs.answering.cittumay_route_home.Goals as goal
+
+pub returns-then-not-there : goal.returns-then-not-there
+returns-then-not-there c = not-held (unloaded c.load-there.ensures c.if-not-there.true) refl
+
+pub returns : goal.returns
+returns c =
+    handed (loaded c.load-there.ensures
+    c.if-not-there.false) _
+    c.route_home-answer.ensures c.put_ahead.ensures.0 c.put_ahead.ensures.1

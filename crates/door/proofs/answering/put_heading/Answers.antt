@@ -1,0 +1,16 @@
+-- `door::answering::put_heading` meets its contract.
+use mathlib.Core.Path.{◌≡◌, sym, ap}
+use Rattle.plane.specs.declared.Heading.{Heading}
+use Rattle.door.specs.Answers.{riding, heading_values}
+use borrow.Author.Rules.{rules}
+use Rattle.door.proofs.answering.put_heading.Goals as goal
+
+pub returns-in_default : goal.returns-in_default
+unfolding riding
+returns-in_default c = let g = c.args in
+    sym (ap (λ (x : Heading). riding x (heading_values g.known.now g.heading.now)) c.in_default.is)
+
+pub returns : goal.returns
+unfolding riding
+returns c = let g = c.args in
+    sym (ap (λ (x : Heading). riding x (heading_values g.known.now g.heading.now)) c.in-Known.is)

@@ -1,0 +1,13 @@
+-- `door::calling::keep` meets its contract: a refusal stores nothing.
+use mathlib.Core.Path.{refl, sym}
+use borrow.Author.Rules.{rules}
+use Rattle.door.proofs.calling.keep.Goals as goal
+
+pub returns-then-number-ne0 : goal.returns-then-number-ne0
+returns-then-number-ne0 c = (refl, record { taken = λ e. absurd (c.if1.true e); refused = λ _. (refl, refl) })
+
+pub returns : goal.returns
+returns c = (
+  sym c.if-number-ne0.false,
+  record { taken = λ _. c.store.ensures; refused = λ ne. absurd (ne refl) },
+)

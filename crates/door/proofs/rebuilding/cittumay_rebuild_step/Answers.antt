@@ -1,0 +1,25 @@
+-- `door::rebuilding::cittumay_rebuild_step` meets its contract.
+use mathlib.Core.Path.{refl, ◌∙◌}
+use Rattle.door.proofs.rebuilding.Rebuild.{without-one, with-both, both-held, room-for-both}
+use borrow.Author.Rules.{rules}
+use Rattle.door.proofs.rebuilding.cittumay_rebuild_step.Goals as goal
+
+pub returns-then-not-begun-there : goal.returns-then-not-begun-there
+returns-then-not-begun-there c =
+    without-one _ _ c.load_rebuild-begun.ensures c.load-there.ensures c.if-not-begun-there.true
+    c.no_state_with.ensures (refl, (refl, refl))
+
+pub keep_both-requires : goal.keep_both-requires
+keep_both-requires c =
+    room-for-both c.load_rebuild-begun.ensures c.load-there.ensures c.if-not-begun-there.false
+
+pub returns : goal.returns
+returns c =
+    let kept = c.keep_both.ensures in
+    let put = c.put_verdict.ensures in
+    with-both _ _ (both-held c.load_rebuild-begun.ensures c.load-there.ensures c.if-not-begun-there.false)
+    (record {
+      made = record { answer = c.step-stepped.result; promised = c.step-stepped.ensures; told = kept.0 ∙ put.0; written = put.1 };
+      rebuilt = kept.1.0;
+      state = kept.1.1;
+    })

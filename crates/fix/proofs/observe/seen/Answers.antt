@@ -1,0 +1,26 @@
+-- `fix::observe::seen` meets its contract.
+use mathlib.Core.Path.{◌≡◌, sym, subst}
+use lib.ListN.{length}
+use Rattle.state.specs.declared.Guided.{Guided}
+use Rattle.state.specs.Guided.{whole}
+use Rattle.fix.specs.Ready.{Ready}
+use Rattle.fix.proofs.Arriving.{handed-fix}
+use Rattle.fix.proofs.observe.Seeing.{seen-whole}
+use borrow.Author.Rules.{rules, length_unmapped}
+use Rattle.fix.proofs.observe.seen.Goals as goal
+
+pub seen_on-u-requires : goal.seen_on-u-requires
+seen_on-u-requires c =
+    let h = c.args.h in
+    let long : length h.window ≡ 96 = length_unmapped _ h.window 96 c.well_formed.0.1.1.1.0.1.0.1 in (
+      long,
+      subst (λ (g : Guided). Ready (whole g h.window) (length c.args.crumbs.now) (length c.args.line.now))
+          (sym c.without_window-g.ensures) c.requires,
+    )
+
+pub returns : goal.returns
+returns c =
+    let a = c.args in
+    seen-whole a.now-ms a.line.now (handed-fix a.lat a.lon c.ranges.lat.sfits c.ranges.lon.sfits)
+    c.without_window-g.ensures
+    c.with_window.ensures c.seen_on-u.ensures

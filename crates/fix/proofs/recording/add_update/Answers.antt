@@ -1,0 +1,29 @@
+-- `fix::recording::add_update` meets its contract.
+use mathlib.Core.Path.{refl}
+use lib.ListN.{length}
+use Rattle.update.proofs.Updating.{fit_same}
+use Rattle.state.specs.Guided.{whole}
+use Rattle.update.specs.View.{told_in}
+use Rattle.fix.proofs.recording.Growing.{fit-grown, grown-updated}
+use borrow.Author.Rules.{rules}
+use Rattle.fix.proofs.recording.add_update.Goals as goal
+
+pub update-requires : goal.update-requires
+update-requires c =
+    let g = c.args in
+    let h = whole g.h g.window.now in
+    let k = c.add-grown in
+    let grown = whole k.result k.new.1.0 in
+    let fit =
+    fit-grown h grown g.p g.crumbs.now k.new.1.1.0 c.requires.1 k.ensures (length g.line.now) c.requires.0.1 in
+    λ w. fit_same grown (whole k.result w) _ _ fit refl refl refl
+
+pub returns : goal.returns
+returns c =
+    let g = c.args in
+    let h = whole g.h g.window.now in
+    let k = c.add-grown in
+    let u = c.update in
+    let w = k.new.1.0 in
+    grown-updated h (whole k.result w) g.p g.crumbs.now k.new.1.1.0 c.requires.1 k.ensures g.line.now g.now-ms
+    (told_in u.result w) u.new.1.0 (u.ensures w)

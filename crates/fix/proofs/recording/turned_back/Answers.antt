@@ -1,0 +1,43 @@
+-- `fix::recording::turned_back` meets its contract.
+use mathlib.Core.Path.{◌≡◌, refl, sym, ap, ◌∙◌}
+use Prim.Native.Nat.{ℕ, ◌≤◌}
+use native.Mathlib.Omega.{arith}
+use mathlib.Core.List.{List, []}
+use Rattle.crumbs.specs.declared.Crumb.{Crumb}
+use Rattle.crumbs.specs.Crumb.{capacity}
+use Rattle.crumbs.proofs.Crumbs.{take-crumbs}
+use Rattle.trail.specs.View.{track, places}
+use Rattle.trail.specs.View as trail
+use Rattle.state.specs.State.{state_of, with_track}
+use Rattle.follow.specs.Engage.{cut_to, forgotten}
+use Rattle.calls.specs.Fix.{turned_back}
+use Rattle.state.specs.Guided.{whole}
+use Rattle.fix.proofs.recording.turned_back.Goals as goal
+
+pub returns : goal.returns
+unfolding turned_back cut_to forgotten track places
+returns c = λ w.
+    let t = c.args.h.trail in
+    record {
+      same = λ b.
+          ap (λ (l : List Crumb). with_track (record {
+            crumbs = l;
+            tolerance = t.tolerance;
+            window = [];
+            retrace = 0;
+            retrace_len =
+                t.retrace_len;
+          }) (state_of (whole c.args.h w) b))
+          (sym (take-crumbs t.retrace_len t.len b c.requires));
+      fit = λ size f.
+          record {
+            whole_long = f.whole_long;
+            least = f.least;
+            most = f.most;
+            held = omega (arith, f.held, c.requires);
+            waiting =
+                omega arith;
+            tolerance = f.tolerance;
+          };
+      fewer = c.requires;
+    }

@@ -1,0 +1,20 @@
+-- `fix::replay` meets its contract.
+use mathlib.Core.Path.{◌≡◌, sym, subst}
+use lib.ListN.{length}
+use Rattle.trail.specs.View as trail
+use Rattle.fix.specs.declared.Ridden.{Ridden}
+use Rattle.fix.proofs.Arriving.{handed-fix, replays-whole}
+use borrow.Author.Rules.{rules, length_unmapped}
+use Rattle.fix.proofs.replay.Goals as goal
+
+pub replay_parts-after-requires : goal.replay_parts-after-requires
+replay_parts-after-requires c =
+    let long : length c.args.h.window ≡ 96 = length_unmapped _ c.args.h.window 96 c.well_formed.0.1.1.1.0.1.0.1 in
+    (long, subst (λ (g : Ridden). trail.TrailFit g.trail (length c.args.crumbs.now)) (sym c.taken_apart-g.ensures) c.requires)
+
+pub returns : goal.returns
+returns c =
+    let a = c.args in
+    replays-whole a.now-ms (handed-fix a.lat a.lon c.ranges.lat.sfits c.ranges.lon.sfits) c.taken_apart-g.ensures
+    c.put_together.ensures
+    (c.replay_parts-after.ensures.0 a.h)

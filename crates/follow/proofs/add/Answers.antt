@@ -1,0 +1,13 @@
+-- `follow::add` meets its contract.
+use Rattle.trail.specs.Trail as trail
+use Rattle.state.specs.Guided.{whole}
+use Rattle.follow.specs.Record.{add_in}
+use Rattle.follow.proofs.Recording.{taken-over}
+use borrow.Author.Rules.{rules}
+use Rattle.follow.proofs.add.Goals as goal
+
+pub returns : goal.returns
+unfolding add_in
+returns c =
+    let a = c.args in
+    taken-over (λ C. trail.add C a.p) (whole a.h a.window.now) c.add-added.ensures c.after_thinning-next.ensures

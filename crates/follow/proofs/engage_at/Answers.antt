@@ -1,0 +1,9 @@
+-- `follow::engage_at` meets its contract.
+use mathlib.Core.Path.{◌≡◌, refl, sym, ap, ◌∙◌}
+use Rattle.follow.specs.Engage.{engage_at}
+use borrow.Author.Rules.{rules}
+use Rattle.follow.proofs.engage_at.Goals as goal
+
+pub returns : goal.returns
+unfolding engage_at
+returns c = λ w. record { same = λ b. simp (← c.course-from.ensures); trail = refl }

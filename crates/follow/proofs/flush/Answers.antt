@@ -1,0 +1,13 @@
+-- `follow::flush` meets its contract.
+use Rattle.trail.specs.Trail as trail
+use Rattle.state.specs.Guided.{whole}
+use Rattle.follow.specs.Record.{flush_in}
+use Rattle.follow.proofs.Recording.{taken-over}
+use borrow.Author.Rules.{rules}
+use Rattle.follow.proofs.flush.Goals as goal
+
+pub returns : goal.returns
+unfolding flush_in
+returns c =
+    let a = c.args in
+    taken-over trail.flush (whole a.h a.window.now) c.flush-flushed.ensures c.after_thinning-next.ensures

@@ -1,0 +1,15 @@
+-- `follow::follow_parts::along_at` meets its contract.
+use borrow.Author.Tests.{lt-ltb, le-ltb}
+use lib.Ieee.{of_bits}
+use Rattle.crumbs.proofs.Crumbs.{length-crumbs}
+use Rattle.follow.specs.Parts.{along_at}
+use borrow.Author.Rules.{rules}
+use Rattle.follow.proofs.follow_parts.along_at.Goals as goal
+
+pub returns-then-end-len : goal.returns-then-end-len
+unfolding along_at of_bits
+returns-then-end-len c = simp (length-crumbs, lt-ltb _ _ c.if-end-len.true, ← c.line_crumb.ensures)
+
+pub returns : goal.returns
+unfolding along_at of_bits
+returns c = simp (length-crumbs, le-ltb _ _ c.if-end-len.false)

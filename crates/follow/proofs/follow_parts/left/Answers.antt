@@ -1,0 +1,18 @@
+-- `follow::follow_parts::left` meets its contract.
+use mathlib.Core.Path.{◌≡◌, refl, sym, ap, ◌∙◌}
+use Rattle.state.specs.declared.Line.{Line}
+use Rattle.follow.specs.Parts.{ended_by_thinning}
+use borrow.Author.Rules.{rules}
+use Rattle.follow.proofs.follow_parts.left.Goals as goal
+
+pub returns-in-Breadcrumb : goal.returns-in-Breadcrumb
+unfolding ended_by_thinning
+returns-in-Breadcrumb c = sym (ap (λ (l : Line). ended_by_thinning l c.args.f) c.in-Breadcrumb.is)
+
+pub returns-in-Nothing : goal.returns-in-Nothing
+unfolding ended_by_thinning
+returns-in-Nothing c = sym (ap (λ (l : Line). ended_by_thinning l c.args.f) c.in-Nothing.is)
+
+pub returns-in-Course : goal.returns-in-Course
+unfolding ended_by_thinning
+returns-in-Course c = sym (ap (λ (l : Line). ended_by_thinning l c.args.f) c.in-Course.is)

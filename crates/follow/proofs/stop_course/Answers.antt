@@ -1,0 +1,9 @@
+-- `follow::stop_course` meets its contract.
+use mathlib.Core.Path.{◌≡◌, refl, sym, ap, ◌∙◌}
+use Rattle.follow.specs.Engage.{stop_course}
+use borrow.Author.Rules.{rules}
+use Rattle.follow.proofs.stop_course.Goals as goal
+
+pub returns : goal.returns
+unfolding stop_course
+returns c = λ w. record { same = λ b. simp (← c.before.stopped.ensures, ← c.held-off.ensures); trail = refl }

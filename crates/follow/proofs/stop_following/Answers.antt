@@ -1,0 +1,34 @@
+-- `follow::stop_following` meets its contract.
+use mathlib.Core.Path.{◌≡◌, refl, sym, ap, ◌∙◌, subst}
+use Rattle.state.specs.declared.Line.TheVariants as line
+use Rattle.state.specs.Rule.{done}
+use Rattle.state.specs.Guided.{whole}
+use Rattle.follow.specs.Engage.{stop_nothing, stop_course, stop_breadcrumb, stop_on}
+use Rattle.follow.proofs.Recording.{unmoved, stops-on}
+use borrow.Author.Rules.{rules}
+use Rattle.follow.proofs.stop_following.Goals as goal
+
+pub stop_breadcrumb-requires : goal.stop_breadcrumb-requires
+stop_breadcrumb-requires c =
+    (c.requires.0, c.requires.1 c.in-Breadcrumb.is)
+
+pub returns-in-Nothing : goal.returns-in-Nothing
+unfolding stop_on
+returns-in-Nothing c = λ w. let s = c.before.before.before.before.before in let g = s.args in
+    stops-on (λ C t. done (tt {0}) (stop_nothing t)) line.Nothing (whole g.h w) (whole c.stop_nothing.result w)
+    g.crumbs.now g.crumbs.now c.in-Nothing.is (λ C t. refl)
+    (unmoved stop_nothing (whole g.h w) (whole c.stop_nothing.result w) g.crumbs.now s.requires.0 (c.stop_nothing.ensures w))
+
+pub returns-in-Course : goal.returns-in-Course
+unfolding stop_on
+returns-in-Course c = λ w. let s = c.before.before.before.before.before in let g = s.args in
+    stops-on (λ C t. done (tt {0}) (stop_course t)) line.Course (whole g.h w) (whole c.stop_course.result w)
+    g.crumbs.now g.crumbs.now c.in-Course.is (λ C t. refl)
+    (unmoved stop_course (whole g.h w) (whole c.stop_course.result w) g.crumbs.now s.requires.0 (c.stop_course.ensures w))
+
+pub returns-in-Breadcrumb : goal.returns-in-Breadcrumb
+unfolding stop_on
+returns-in-Breadcrumb c = λ w. let s = c.before.before.before.before.before.before.before.before in let g = s.args in
+    let k = c.stop_breadcrumb in
+    stops-on stop_breadcrumb line.Breadcrumb (whole g.h w) (whole k.result w) g.crumbs.now
+    k.new.1.0 c.in-Breadcrumb.is (λ C t. refl) (k.ensures w)

@@ -1,0 +1,32 @@
+-- `guide::goal::some_near` meets its contract: the ends below decide.
+use Prim.Native.Nat.{◌-◌, ◌≤◌}
+use mathlib.Core.Path.{◌≡◌, refl, sym, ◌∙◌}
+use native.Mathlib.Omega.{arith}
+use Rattle.crumbs.specs.Crumb.{crumbs}
+use Rattle.guide.specs.Near.{some_near}
+use Rattle.guide.proofs.goal.Nearing.{some-here, some_below, some_out}
+use Rattle.guide.proofs.goal.some_near.Goals as goal
+
+pub loop-end-init : goal.loop-end-init
+loop-end-init c = (omega arith, refl)
+
+pub overflow_sub-end : goal.overflow_sub-end
+overflow_sub-end c = omega arith
+
+pub lies_near-requires : goal.lies_near-requires
+lies_near-requires c = omega arith
+
+pub returns-then-lies_near : goal.returns-then-lies_near
+returns-then-lies_near c = some-here _ _ _ c.lies_near.ensures (omega arith) c.if-lies_near.true ∙ c.loop-end.invariant.1
+
+pub loop-end-smaller : goal.loop-end-smaller
+loop-end-smaller c = omega arith
+
+pub loop-end-preserved : goal.loop-end-preserved
+loop-end-preserved c = (
+  omega arith,
+  sym (some_below _ _ _ c.lies_near.ensures (omega arith) c.if-lies_near.false) ∙ c.loop-end.invariant.1,
+)
+
+pub returns : goal.returns
+returns c = some_out _ _ _ (omega arith) ∙ c.loop-end.invariant.1

@@ -1,0 +1,19 @@
+-- `homing::asks_seen` meets its contract.
+use mathlib.Core.Path.{◌≡◌, refl, sym, ap, ◌∙◌, subst}
+use Rattle.course.specs.Fix.{Fix}
+use Rattle.calls.specs.Questions.{asks_fix}
+use Rattle.calls.specs.Calls.{asks, asks_place}
+use Rattle.fix.proofs.Arriving.{handed-fix}
+use Rattle.homing.proofs.Calling.{or-this, or-next}
+use borrow.Author.Rules.{rules}
+use Rattle.homing.proofs.asks_seen.Goals as goal
+
+pub returns-then-number-ne0 : goal.returns-then-number-ne0
+unfolding asks
+returns-then-number-ne0 c = λ at. or-this _ c.asks_both-number.ensures c.if-number-ne0.true
+
+pub returns : goal.returns
+unfolding asks asks_place
+returns c = λ at.
+    or-next c.asks_both-number.ensures c.if-number-ne0.false (c.asks_fix.ensures
+    ∙ ap (λ (x : Fix). asks_fix x) (handed-fix c.args.lat c.args.lon c.ranges.lat.sfits c.ranges.lon.sfits))

@@ -1,0 +1,18 @@
+-- `joining::join_on` meets its contract.
+use mathlib.Core.Path.{◌≡◌, refl, sym, ap, ◌∙◌}
+use Prim.Native.Nat.{ℕ}
+use lib.Dec.{leb}
+use Rattle.search.specs.declared.Join.{Join}
+use Rattle.joining.specs.Join.{join_on, joined_to}
+use borrow.Author.Rules.{rules}
+use Rattle.joining.proofs.join_on.Goals as goal
+
+pub returns-in-Segment : goal.returns-in-Segment
+unfolding join_on joined_to
+returns-in-Segment c = λ s.
+    let told = c.in-Segment.is in
+    record { answered = simp (told, ← c.one_more-fixes.ensures); same = simp (told, ← c.one_more-fixes.ensures) }
+
+pub returns-in-NoSegment : goal.returns-in-NoSegment
+unfolding join_on joined_to
+returns-in-NoSegment c = λ s. record { answered = simp c.enum_told.given.1; same = simp c.in-NoSegment.is }

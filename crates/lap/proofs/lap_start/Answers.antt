@@ -1,0 +1,28 @@
+-- `lap::lap_start` meets its contract.
+use mathlib.Core.Path.{◌≡◌, sym, ap, ◌∙◌}
+use mathlib.Core.Bool.{Bool}
+use borrow.Author.Rules.{rules}
+use Rattle.plane.specs.declared.Spot.{Spot}
+use Rattle.plane.specs.declared.Spot.TheVariants.{Nowhere}
+use Rattle.lap.specs.Lap.{lap_start}
+use Rattle.lap.proofs.lap_start.Goals as goal
+
+pub returns-in-At : goal.returns-in-At
+unfolding lap_start
+returns-in-At c =
+    let g = c.args in
+    sym (ap (λ (s : Spot). lap_start g.moving s g.p) c.in-At.is)
+
+pub returns-then-moving : goal.returns-then-moving
+unfolding lap_start
+returns-then-moving c =
+    let g = c.args in
+    sym (ap (λ (s : Spot). lap_start g.moving s g.p) c.in_default.is
+    ∙ ap (λ (m : Bool). lap_start m Nowhere g.p) c.if-moving.true)
+
+pub returns : goal.returns
+unfolding lap_start
+returns c =
+    let g = c.args in
+    sym (ap (λ (s : Spot). lap_start g.moving s g.p) c.in_default.is
+    ∙ ap (λ (m : Bool). lap_start m Nowhere g.p) c.if-moving.false)

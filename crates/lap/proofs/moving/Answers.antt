@@ -1,0 +1,13 @@
+-- `lap::moving` meets its contract.
+use mathlib.Core.Path.{sym, ap}
+use borrow.Author.Rules.{rules}
+use Rattle.lap.specs.Lap.{moving_at}
+use Rattle.lap.proofs.moving.Goals as goal
+
+pub returns-in-Known : goal.returns-in-Known
+unfolding moving_at
+returns-in-Known c = sym (ap moving_at c.in-Known.is)
+
+pub returns-in_default : goal.returns-in_default
+unfolding moving_at
+returns-in_default c = sym (ap moving_at c.in_default.is)

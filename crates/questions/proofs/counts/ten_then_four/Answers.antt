@@ -1,0 +1,14 @@
+-- `questions::counts::ten_then_four` meets its contract: the tests are the rule's.
+use borrow.Author.Tests.{not-true, not-false}
+use Rattle.questions.proofs.counts.ten_then_four.Goals as goal
+
+pub returns-then-not-ten : goal.returns-then-not-ten
+returns-then-not-ten c = simp (not-true c.args.ten c.if-not-ten.true)
+
+pub returns-then-not-four : goal.returns-then-not-four
+returns-then-not-four c =
+    simp (not-false c.args.ten c.if-not-ten.false, not-true c.args.four c.if-not-four.true)
+
+pub returns : goal.returns
+returns c =
+    simp (not-false c.args.ten c.if-not-ten.false, not-false c.args.four c.if-not-four.false)

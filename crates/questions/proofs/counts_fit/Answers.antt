@@ -1,0 +1,6 @@
+-- `questions::counts_fit` meets its contract: the tests are the rule's.
+use borrow.Author.Rules.{rules}
+use Rattle.questions.proofs.counts_fit.Goals as goal
+
+pub returns : goal.returns
+returns c = simp (← c.follow_fits.ensures, ← c.retrace_fits.ensures)

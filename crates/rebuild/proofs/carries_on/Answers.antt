@@ -1,0 +1,28 @@
+-- `rebuild::carries_on` meets its contract.
+use mathlib.Core.Path.{sym, ap, ◌∙◌}
+use Prim.Native.Nat.{ℕ}
+use lib.Dec.{leb}
+use Rattle.ride_log.specs.declared.Utc.{Utc}
+use Rattle.ride_log.specs.declared.Utc.TheVariants as utc
+use Rattle.rebuild.specs.Rebuild.{continue_ms, carries_on}
+use borrow.Author.Rules.{rules}
+use Rattle.rebuild.proofs.carries_on.Goals as goal
+
+pub returns-in_default : goal.returns-in_default
+unfolding carries_on
+returns-in_default c = sym (ap (λ (t : Utc). carries_on t c.args.first) c.in_default.is)
+
+pub returns-in_default-first : goal.returns-in_default-first
+unfolding carries_on
+returns-in_default-first c =
+    sym (ap (λ (t : Utc). carries_on t c.args.first) c.in-At.is
+    ∙ ap (λ (t : Utc). carries_on (utc.At c.in-At.a) t) c.in_default-first.is)
+
+pub returns : goal.returns
+unfolding carries_on
+returns c =
+    ap (λ (n : ℕ). leb n continue_ms) c.apart.ensures
+    ∙ sym (ap (λ (t : Utc). carries_on t c.args.first)
+    c.in-At.is
+    ∙ ap (λ (t : Utc). carries_on (utc.At c.in-At.a) t)
+    c.in-At-first.is)

@@ -1,0 +1,42 @@
+-- `rebuild::visit` meets its contract.
+use mathlib.Core.Path.{◌≡◌, refl, sym, subst}
+use mathlib.Core.List.{[], ◌∷◌}
+use types.Run.{OneOf, miss}
+use denote.Enum.Declared.{tag_of}
+use Rattle.ride_log.specs.contracts.Kind.{the_type}
+use Rattle.ride_log.specs.declared.Kind.{Kind}
+use Rattle.ride_log.specs.declared.Kind.TheVariants as kind
+use Rattle.ride_log.specs.declared.Entry.{Entry}
+use Rattle.rebuild.specs.declared.Rebuild.{Rebuild}
+use Rattle.rebuild.specs.Made.{Made, quiet}
+use Rattle.rebuild.specs.Rebuild.{visit_kind, visit}
+use Rattle.rebuild.specs.View.{Makes}
+use Rattle.rebuild.proofs.Making.{visited, makes-quiet}
+use borrow.Author.Rules.{rules}
+use Rattle.rebuild.proofs.visit.Goals as goal
+
+not-samples : (k : Kind) (e : Entry) (r : Rebuild) → OneOf (0 ∷ 2 ∷ 3 ∷ 4 ∷ 5 ∷ 6 ∷ []) (tag_of the_type k) → visit_kind k e r ≡ quiet r
+unfolding visit_kind
+not-samples kind.Samples e r o = absurd (miss (0 ∷ 2 ∷ 3 ∷ 4 ∷ 5 ∷ 6 ∷ []) 1 tt o)
+not-samples kind.Start e r o = refl
+not-samples kind.Pause e r o = refl
+not-samples kind.Resume e r o = refl
+not-samples kind.Finish e r o = refl
+not-samples kind.Recovered e r o = refl
+not-samples kind.Full e r o = refl
+
+pub returns-in_default : goal.returns-in_default
+unfolding visit
+returns-in_default c =
+    let g = c.args in
+    subst (λ (m : Made). Makes m g.h g.crumbs.now (visited g.r g.h) g.crumbs.now)
+    (sym (not-samples g.e.kind g.e g.r c.in_default.keys2))
+    (makes-quiet g.r g.h g.crumbs.now c.requires.0)
+
+pub returns : goal.returns
+unfolding visit visit_kind
+returns c =
+    let g = c.args in
+    let k = c.visit_samples in
+    subst (λ (x : Kind). Makes (visit_kind x g.e g.r) g.h g.crumbs.now k.result k.new.1.1.0)
+    (sym c.in-Samples.is) k.ensures

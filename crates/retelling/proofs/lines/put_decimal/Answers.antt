@@ -1,0 +1,9 @@
+-- `retelling::lines::put_decimal` meets its contract: the digits that the kit gives are the decimal.
+use borrow.Author.Rules.{rules}
+use Rattle.retelling.proofs.lines.Numbers.{writes-decimal}
+use Rattle.retelling.proofs.lines.put_decimal.Goals as goal
+
+pub returns : goal.returns
+returns c =
+    let made = c.decimal-count.ensures in
+    writes-decimal _ _ made.1.0 made.1.1 c.put_word.ensures

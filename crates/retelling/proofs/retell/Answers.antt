@@ -1,0 +1,8 @@
+-- `retelling::retell` meets its contract.
+use Rattle.retelling.proofs.Retelling.{retells}
+use borrow.Author.Rules.{rules}
+use Rattle.retelling.proofs.retell.Goals as goal
+
+pub returns : goal.returns
+returns c =
+    retells c.rebuild_chain-done.ensures c.put_told.ensures

@@ -1,0 +1,11 @@
+-- `log::file_questions::asks_record` meets its contract.
+use Rattle.ride_log.proofs.file_questions.Asking.{record-kind, record-entry}
+use borrow.Author.Rules.{rules}
+use Rattle.ride_log.proofs.file_questions.asks_record.Goals as goal
+
+pub returns-then-not-question8 : goal.returns-then-not-question8
+returns-then-not-question8 c = record-kind _ _ c.kind_number.ensures c.question8.ensures c.if-not-question8.true
+
+pub returns : goal.returns
+returns c =
+    record-entry _ _ c.kind_number.ensures c.question8.ensures c.if-not-question8.false c.asks_entry.ensures

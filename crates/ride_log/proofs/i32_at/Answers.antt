@@ -1,0 +1,11 @@
+-- `log::i32_at` meets its contract.
+use mathlib.Core.Path.{◌∙◌, ap}
+use mir.Syntax.{w32}
+use mir.ValLaws.{to_z-of_z}
+use Rattle.ride_log.specs.Entry.{signed, i32_at}
+use borrow.Author.Rules.{rules}
+use Rattle.ride_log.proofs.i32_at.Goals as goal
+
+pub returns : goal.returns
+unfolding i32_at
+returns c = to_z-of_z w32 _ (record { sfits = c.signed.type-inv }) ∙ c.signed.ensures ∙ ap signed c.u32_at.ensures

@@ -1,0 +1,16 @@
+-- `search::ends` meets its contract: those counted and those of the rest are all.
+use Prim.Native.Nat.{◌-◌, ◌+◌, ◌≤◌}
+use mathlib.Core.Path.{◌≡◌, sym, ◌∙◌}
+use native.Mathlib.Omega.{arith}
+use lib.ListN.{drop}
+use Rattle.crumbs.proofs.Crumbs.{length-crumbs}
+use Rattle.crumbs.specs.Crumb.{crumbs}
+use Rattle.search.specs.Along.{ends}
+use Rattle.search.proofs.Walking.{ends_on, ends-here, ends-out}
+use Rattle.search.proofs.ends.Given as goal
+
+abbrev pub invariant-loop-n : goal.invariant-loop-n
+invariant-loop-n l = (l.n ≤ l.len) × (l.n + ends (drop l.n (crumbs l.len l.buf)) l.limit ≡ ends (crumbs l.len l.buf) l.limit)
+
+abbrev pub decreases-loop-n : goal.decreases-loop-n
+decreases-loop-n l = l.len - l.n

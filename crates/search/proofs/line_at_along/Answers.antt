@@ -1,0 +1,47 @@
+-- `search::line_at_along` meets its contract: going down from `end - 1` finds the rule's place.
+use Prim.Native.Nat.{◌-◌, ◌<◌}
+use mathlib.Core.Logic.{⊎_elim}
+use mathlib.Core.Path.{◌≡◌, refl, ◌∙◌}
+use native.Mathlib.Omega.{arith}
+use borrow.Author.Rules.{rules}
+use Rattle.crumbs.specs.Crumb.{crumbs}
+use Rattle.search.specs.Along.{place_before}
+use Rattle.search.proofs.Walking.{along-there, place-below, place_here, place-first}
+use Rattle.search.proofs.line_at_along.Goals as goal
+
+pub overflow_sub-i : goal.overflow_sub-i
+overflow_sub-i c = omega arith
+
+pub loop-i-init : goal.loop-i-init
+loop-i-init c = (omega arith, refl)
+
+pub line_crumb-requires : goal.line_crumb-requires
+line_crumb-requires c = omega arith
+
+pub overflow_sub-i-in-loop-i : goal.overflow_sub-i-in-loop-i
+overflow_sub-i-in-loop-i c = omega arith
+
+pub loop-i-smaller : goal.loop-i-smaller
+loop-i-smaller c = omega arith
+
+pub loop-i-preserved : goal.loop-i-preserved
+loop-i-preserved c = (
+  omega arith,
+  place-below _ _ _ c.line_crumb.ensures (omega arith) c.if-line_crumb-along.true
+      ∙ c.loop-i.invariant.1,
+)
+
+pub line_crumb-requires-2 : goal.line_crumb-requires-2
+line_crumb-requires-2 c = omega arith
+
+pub overflow_add-i : goal.overflow_add-i
+overflow_add-i c = omega arith
+
+pub line_crumb-requires-3 : goal.line_crumb-requires-3
+line_crumb-requires-3 c = omega arith
+
+pub returns : goal.returns
+returns c =
+    along-there _ _ _
+    (⊎_elim (λ w. place_here _ _ _ w.1.ensures w.3.left) (λ w. place-first _ _ _ (omega arith)) c.loop-i-test.branch)
+    c.loop-i.invariant.1 c.line_crumb-2.ensures c.line_crumb-3.ensures c.point_along.ensures

@@ -1,0 +1,37 @@
+-- `search::nearest_on_breadcrumb` meets its contract: the ends still to be considered decide.
+use Prim.Native.Nat.{◌+◌, ◌-◌}
+use mathlib.Core.Path.{ap, ◌∙◌}
+use native.Mathlib.Omega.{arith}
+use borrow.Author.Rules.{rules}
+use Rattle.crumbs.specs.Crumb.{crumbs}
+use Rattle.segments.specs.declared.costs.Ranking.TheVariants.{Plain}
+use Rattle.segments.specs.Segment.{considered, cost_within, found}
+use Rattle.search.proofs.Searching.{Rises, rises-start, rises-on, rises-out, breadcrumb-is}
+use Rattle.search.proofs.nearest_on_breadcrumb.Goals as goal
+
+pub loop-end-init : goal.loop-end-init
+loop-end-init c = rises-start
+
+pub overflow_sub-end : goal.overflow_sub-end
+overflow_sub-end c = omega arith
+
+pub crumb-a-requires : goal.crumb-a-requires
+crumb-a-requires c = omega arith
+
+pub crumb-b-requires : goal.crumb-b-requires
+crumb-b-requires c = omega arith
+
+pub overflow_add-end : goal.overflow_add-end
+overflow_add-end c = omega arith
+
+pub loop-end-smaller : goal.loop-end-smaller
+loop-end-smaller c = omega arith
+
+pub loop-end-preserved : goal.loop-end-preserved
+loop-end-preserved c =
+    rises-on c.loop-end.invariant c.loop-end-test.true
+    (c.consider-best.ensures _ c.crumb-a.ensures c.crumb-b.ensures)
+
+pub returns : goal.returns
+returns c =
+    breadcrumb-is _ _ _ (c.found.ensures ∙ ap found (rises-out c.loop-end.invariant c.loop-end-test.false)) c.anywhere-within.ensures

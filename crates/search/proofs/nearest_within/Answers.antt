@@ -1,0 +1,44 @@
+-- `search::nearest_within` meets its contract: the ends still to be considered decide.
+use Prim.Native.Nat.{◌+◌, ◌-◌}
+use mathlib.Core.Path.{ap, ◌∙◌}
+use mathlib.Core.Logic.{inl, inr}
+use native.Mathlib.Omega.{arith}
+use borrow.Author.Rules.{rules}
+use Rattle.crumbs.specs.Crumb.{crumbs}
+use Rattle.segments.specs.Segment.{considered, cost_within, found}
+use Rattle.search.specs.Search.{nearest_within}
+use Rattle.search.proofs.Searching.{Falls, falls-start, falls-on, falls_out}
+use Rattle.search.proofs.nearest_within.Goals as goal
+
+pub loop-end-init : goal.loop-end-init
+loop-end-init c = falls-start
+
+pub overflow_sub-end : goal.overflow_sub-end
+overflow_sub-end c = omega arith
+
+pub line_crumb-a-requires : goal.line_crumb-a-requires
+line_crumb-a-requires c = omega arith
+
+pub line_crumb-b-requires : goal.line_crumb-b-requires
+line_crumb-b-requires c = omega arith
+
+pub overflow_sub-end-in-loop-end : goal.overflow_sub-end-in-loop-end
+overflow_sub-end-in-loop-end c = omega arith
+
+pub loop-end-smaller : goal.loop-end-smaller
+loop-end-smaller c = omega arith
+
+pub loop-end-preserved : goal.loop-end-preserved
+loop-end-preserved c =
+    let first = c.requires.0 in
+    let more = c.loop-end-test.true in
+    let a = c.line_crumb-a.ensures in
+    let b = c.line_crumb-b.ensures in
+    elim c.if-may_cost.branch [
+      | inl t ↦ falls-on c.loop-end.invariant first more (t.2 ∙ t.1.ensures _ a b)
+      | inr t ↦ falls-on c.loop-end.invariant first more (t.1 ∙ c.may_cost.ensures t.0.left _ _ c.loop-end.best a b)
+    ]
+
+pub returns : goal.returns
+unfolding nearest_within
+returns c = c.found.ensures ∙ ap found (falls_out c.loop-end.invariant c.loop-end-test.false)

@@ -1,0 +1,40 @@
+-- `search::quick::any_reaches` tests each segment.
+use Prim.Native.Nat.{◌-◌}
+use native.Mathlib.Omega.{arith}
+use borrow.Author.Rules.{rules}
+use Rattle.crumbs.specs.Crumb.{crumbs}
+use Rattle.search.specs.Rows.{row_length}
+use Rattle.search.proofs.quick.Passing.{Tested, tested-start, tested-next, tested-end}
+use Rattle.search.proofs.quick.any_reaches.Goals as goal
+
+pub loop-k-init : goal.loop-k-init
+loop-k-init c = tested-start
+
+pub overflow_sub-end : goal.overflow_sub-end
+overflow_sub-end c = omega arith
+
+pub overflow_sub-end-in-loop-k : goal.overflow_sub-end-in-loop-k
+overflow_sub-end-in-loop-k c = omega arith
+
+pub line_crumb-a-requires : goal.line_crumb-a-requires
+line_crumb-a-requires c = omega arith
+
+pub overflow_sub-end-in-loop-k-2 : goal.overflow_sub-end-in-loop-k-2
+overflow_sub-end-in-loop-k-2 c = omega arith
+
+pub line_crumb-b-requires : goal.line_crumb-b-requires
+line_crumb-b-requires c = omega arith
+
+pub overflow_step-k : goal.overflow_step-k
+overflow_step-k c = omega arith
+
+pub loop-k-smaller : goal.loop-k-smaller
+loop-k-smaller c = omega arith
+
+pub loop-k-preserved : goal.loop-k-preserved
+loop-k-preserved c =
+    tested-next c.loop-k.invariant c.loop-k-test.true
+    (c.reaches-any.ensures _ _ c.line_crumb-a.ensures c.line_crumb-b.ensures)
+
+pub returns : goal.returns
+returns c = tested-end c.loop-k.invariant c.loop-k-test.false

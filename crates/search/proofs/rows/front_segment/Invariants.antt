@@ -1,0 +1,14 @@
+-- `search::rows::front_segment` meets its contract: what no number looked at is less than.
+use Prim.Native.Nat.{◌-◌, ◌<◌}
+use native.Mathlib.Omega.{arith}
+use borrow.Author.Rules.{rules}
+use Rattle.search.specs.Rows.{row_length, LeastSoFar}
+use Rattle.search.proofs.rows.Filling.{least_start, least-next}
+use Rattle.search.proofs.rows.Fronting.{one-of-row}
+use Rattle.search.proofs.rows.front_segment.Given as goal
+
+abbrev pub invariant-loop-k : goal.invariant-loop-k
+invariant-loop-k l = (l.k < row_length) × LeastSoFar l.front.before l.row l.k l.before
+
+abbrev pub decreases-loop-k : goal.decreases-loop-k
+decreases-loop-k l = row_length - l.k

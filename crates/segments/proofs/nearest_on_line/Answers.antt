@@ -1,0 +1,8 @@
+-- `segments::nearest_on_line` meets its contract: the crumbs read are the line's.
+use borrow.Author.Rules.{rules}
+use Rattle.segments.specs.Segment.{nearest_on}
+use Rattle.segments.proofs.nearest_on_line.Goals as goal
+
+pub returns : goal.returns
+unfolding nearest_on
+returns c = cc

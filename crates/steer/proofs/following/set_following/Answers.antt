@@ -1,0 +1,13 @@
+-- `steer::following::set_following` meets its contract.
+use Rattle.steer.proofs.way_home.Deciding.{fit_apart, set-whole}
+use borrow.Author.Rules.{rules}
+use Rattle.steer.proofs.following.set_following.Goals as goal
+
+pub set_on-d-requires : goal.set_on-d-requires
+set_on-d-requires c = let apart = c in
+    fit_apart apart.without-window.ensures apart.before.before.before.requires
+
+pub returns : goal.returns
+returns c =
+    let a = c.args in
+    set-whole a.follow a.now-ms a.line.now c.without_window-g.ensures c.with_window.ensures c.set_on-d.ensures

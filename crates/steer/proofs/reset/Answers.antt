@@ -1,0 +1,17 @@
+-- `steer::reset` meets its contract.
+use Rattle.calls.specs.Fix.{unheaded}
+use Rattle.calls.specs.Line.{reset}
+use borrow.Author.Rules.{rules}
+use Rattle.steer.proofs.reset.Goals as goal
+
+pub returns : goal.returns
+unfolding reset unheaded
+returns c =
+    record {
+      same = λ b. simp (
+        (c.reset-forgotten.ensures c.args.h.window).same b,
+        c.awaiting-course.ensures,
+        c.no_lap-lap.ensures,
+      );
+      trail = c.reset-forgotten.ensures;
+    }

@@ -1,0 +1,15 @@
+-- `steer::set_course` meets its contract.
+use mathlib.Core.Path.{refl}
+use Rattle.course.specs.Course.{fixes}
+use Rattle.steer.proofs.Setting.{course-set}
+use borrow.Author.Rules.{rules}
+use Rattle.steer.proofs.set_course.Goals as goal
+
+pub returns : goal.returns
+returns c =
+    let g = c.args in
+    let k = c.place-line_len in
+    let off = c.off_course-off in
+    course-set (fixes g.lats.now g.lons.now) g.h off.result _ k.result c.waits-unplaced.result
+    g.line.now k.new.1.1.1.0
+    off.ensures k.ensures c.waits-unplaced.ensures c.lined-next.ensures (λ b. refl) refl

@@ -1,0 +1,18 @@
+-- `steer::way_home::brought` meets its contract.
+use Rattle.state.specs.Guided.{whole}
+use Rattle.update.specs.View.{told_in}
+use Rattle.steer.proofs.way_home.Deciding.{brought-nowhere, brought-at}
+use borrow.Author.Rules.{rules}
+use Rattle.steer.proofs.way_home.brought.Goals as goal
+
+pub returns-in_default : goal.returns-in_default
+returns-in_default c = λ w. let s = c.before.before.before.before in let g = s.args in
+    brought-nowhere (whole g.h w) g.crumbs.now g.line.now g.now-ms c.in_default.is (s.requires w).trail
+
+pub returns : goal.returns
+returns c = λ w.
+    let g = c.args in
+    let k = c.update-u in
+    brought-at (whole g.h w) g.crumbs.now g.line.now g.now-ms
+    c.in-At.p
+    (told_in k.result w) k.new.1.0 c.in-At.is (k.ensures w)

@@ -1,0 +1,12 @@
+-- `stored::fields::i32_at` meets its contract.
+use Rattle.stored.specs.Fields.{signed_at}
+use Rattle.ride_log.specs.Entry.{signed}
+use mir.ValLaws.{to_z-of_z}
+use mir.Syntax.{w32}
+use mathlib.Core.Path.{◌∙◌, ap}
+use borrow.Author.Rules.{rules}
+use Rattle.stored.proofs.fields.i32_at.Goals as goal
+
+pub returns : goal.returns
+unfolding signed_at
+returns c = to_z-of_z w32 _ (record { sfits = c.signed.type-inv }) ∙ c.signed.ensures ∙ ap signed c.u32_at.ensures

@@ -1,0 +1,10 @@
+-- `stored::fields::point_in` meets its contract.
+use lib.Ieee.{of_bits}
+use Rattle.stored.specs.Fields.{point_in}
+use mathlib.Core.Path.{sym, ap}
+use borrow.Author.Rules.{rules}
+use Rattle.stored.proofs.fields.point_in.Goals as goal
+
+pub returns-in-Nowhere : goal.returns-in-Nowhere
+unfolding of_bits
+returns-in-Nowhere c = sym (ap point_in c.in-Nowhere.is)

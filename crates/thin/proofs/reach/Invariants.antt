@@ -1,0 +1,23 @@
+-- `thin::reach` is the rule's reach.
+use Prim.Native.Nat.{◌-◌, ◌<◌}
+use mathlib.Core.Logic.{⊎_elim}
+use mathlib.Core.Path.{refl}
+use native.Mathlib.Omega.{arith}
+use borrow.Author.Rules.{rules}
+use borrow.Author.Tests.{leb-true, leb-false}
+use Rattle.thin.proofs.Reaching.{Between, Ends, ends-start, ends-out, ends_on, ends-stray, between-on}
+use Rattle.thin.proofs.Rowing.{between-near}
+use Rattle.thin.proofs.Bounding.{stays, leaves}
+use Rattle.thin.proofs.reach.Given as goal
+
+abbrev pub invariant-loop-j : goal.invariant-loop-j
+invariant-loop-j l = Between l.tolerance l.buf l.len l.anchor l.end l.j
+
+abbrev pub decreases-loop-j : goal.decreases-loop-j
+decreases-loop-j l = l.end - l.j
+
+abbrev pub invariant-ends : goal.invariant-ends
+invariant-ends l = Ends l.tolerance l.buf l.len l.anchor l.end
+
+abbrev pub decreases-ends : goal.decreases-ends
+decreases-ends l = l.len - l.end

@@ -1,0 +1,25 @@
+-- `trail::add` keeps the first place, ignores one that is too near, and has any other wait.
+use native.Mathlib.Omega.{arith}
+use lib.Ieee.{of_bits, round}
+use Rattle.binary32.specs.Arithmetic.{constant}
+use Rattle.trail.specs.Trail.{min_step_m}
+use Rattle.trail.proofs.Recording.{adds-first, adds-near, adds-far}
+use borrow.Author.Rules.{rules}
+use Rattle.trail.proofs.add.Goals as goal
+
+pub returns-then-t-eq0 : goal.returns-then-t-eq0
+returns-then-t-eq0 c =
+    let a = c.args in
+    adds-first a.t _ _ a.p c.if-t-eq0.true (c.keep.ensures a.window.now)
+
+pub returns-then-distance : goal.returns-then-distance
+unfolding min_step_m constant round of_bits
+returns-then-distance c =
+    adds-near c.args.t _ _ c.args.p (omega (arith, c.if-t-eq0.false)) c.end-anchor.ensures c.last.ensures c.requires.1
+    (rw c.distance.ensures c c.if-distance.true)
+
+pub returns : goal.returns
+unfolding min_step_m constant round of_bits
+returns c =
+    adds-far c.args.t _ _ c.args.p (omega (arith, c.if-t-eq0.false)) c.end-anchor.ensures c.last.ensures
+    (rw c.distance.ensures c c.if-distance.false) c.simplify.ensures

@@ -1,0 +1,13 @@
+-- `trail::last` is the last place that waits, or the anchor.
+use native.Mathlib.Omega.{arith}
+use Rattle.trail.proofs.Window.{last-places, none-places}
+use borrow.Author.Rules.{rules}
+use Rattle.trail.proofs.last.Goals as goal
+
+pub returns-then-window_len-eq0 : goal.returns-then-window_len-eq0
+returns-then-window_len-eq0 c = rw (c.if-window_len-eq0.true, none-places)
+
+pub returns : goal.returns
+returns c =
+    let a = c.args in
+    rw (last-places a.window-len a.window.now (omega arith)) c.waiting.ensures

@@ -1,0 +1,17 @@
+-- `update::begun` meets its contract.
+use mathlib.Core.Path.{refl, ap}
+use Rattle.lap.specs.declared.Lap.{Lap}
+use Rattle.state.specs.State.{state_of, with_lap, with_updated_ms}
+use Rattle.state.specs.Guided.{whole}
+use Rattle.update.specs.Update.{begun}
+use borrow.Author.Rules.{rules}
+use Rattle.update.proofs.begun.Goals as goal
+
+pub returns : goal.returns
+unfolding begun
+returns c = λ w.
+    let g = c.args in
+    record {
+      same = λ b. ap (λ (l : Lap). with_updated_ms g.now-ms (with_lap l (state_of (whole g.h w) b))) c.step_pass-next.ensures;
+      trail = refl;
+    }

@@ -1,0 +1,14 @@
+-- `update::leads_on` meets its contract.
+use mathlib.Core.Path.{sym, ap, ◌∙◌}
+use mathlib.Core.Bool.{Bool, ◌&&◌}
+use lib.Dec.{leb}
+use borrow.Author.Rules.{rules}
+use Rattle.update.proofs.leads_on.Goals as goal
+
+pub returns-then-on_line : goal.returns-then-on_line
+returns-then-on_line c =
+    sym (ap (λ (x : Bool). x && leb 2 c.args.len) (sym c.on_line.ensures ∙ c.if-on_line.true))
+
+pub returns : goal.returns
+returns c =
+    sym (ap (λ (x : Bool). x && leb 2 c.args.len) (sym c.on_line.ensures ∙ c.if-on_line.false))
