@@ -1,5 +1,6 @@
 // The guide's calls that only answer. Each puts its questions first; where one says no, the answer is
 // its number.
+#![tactic(auto)]
 
 ghost use Rattle.std.specs.Prelude.{◌≡◌, ◌≤◌, length};
 ghost use Rattle.crumbs.specs.Crumb.{capacity, crumbs as held_crumbs};

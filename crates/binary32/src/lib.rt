@@ -1,5 +1,7 @@
 // What the language lacks on `f32`: the square root, casts that lose something, and Rust's `clamp`
 // and `max` at the ends that the guide uses. Each function takes every value.
+#![tactic(auto)]
+
 ghost use Rattle.std.specs.Prelude.{◌≡◌, ℕ, ◌+◌, ◌*◌, ◌^◌, ◌<◌, ◌≤◌, min, from_bits, to_bits};
 ghost use Rattle.std.specs.Float.{binary32};
 ghost use Rattle.binary32.specs.Root.{root_of, root};

@@ -1,4 +1,5 @@
 // Fixes and courses placed in the ride's frame.
+#![tactic(auto)]
 
 ghost use Rattle.std.specs.Prelude.{◌≡◌, ◌≤◌, length};
 ghost use Rattle.crumbs.specs.Crumb.{capacity};

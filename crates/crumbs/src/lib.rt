@@ -1,4 +1,5 @@
 // A crumb, and how crumbs lie in a lent buffer of numbers. No other crate knows how many numbers a crumb takes.
+#![tactic(auto)]
 
 pub mod along;
 pub mod bounds;

@@ -5,6 +5,7 @@
 //
 // `calling` has the calls that change the guide, `answering` those that only answer, `rebuilding` those of a
 // rebuild, `thinning` the thinning of a line by itself; `numbering` says how an answer becomes a number.
+#![tactic(auto)]
 
 pub mod answering;
 pub mod calling;

@@ -1,5 +1,6 @@
 // What a fix does once the questions are answered. Here: one that is missing, and one from before a restart.
 // `observe` has one that is there, `new_fix` what it does if it is new, `recording` how the breadcrumb grows by it.
+#![tactic(auto)]
 
 mod new_fix;
 pub mod observe;

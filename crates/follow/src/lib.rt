@@ -1,4 +1,5 @@
 // Following begins and ends, and what is recorded meanwhile.
+#![tactic(auto)]
 
 pub mod follow_parts;
 

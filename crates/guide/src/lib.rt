@@ -1,4 +1,5 @@
 // The guide shown: arriving at the start and leaving it, and the way there.
+#![tactic(auto)]
 
 mod goal;
 

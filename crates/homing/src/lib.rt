@@ -1,5 +1,6 @@
 // The guide's calls that change it. Each is asked document 01's questions about what it is given, and a
 // refusal changes nothing. The calls that only answer are in `answers`.
+#![tactic(auto)]
 
 ghost use Rattle.std.specs.Prelude.{◌≡◌, List, ℕ, Float, length};
 ghost use Rattle.homing.specs.declared.Reply.TheVariants as reply;

@@ -1,4 +1,5 @@
 // What makes following begin by itself: fixes in a row along the course, or back along the breadcrumb.
+#![tactic(auto)]
 
 mod retrace;
 

@@ -1,4 +1,6 @@
 // The passes of the start, which is where the rider first moved.
+#![tactic(auto)]
+
 ghost use Rattle.std.specs.Prelude.{◌≡◌};
 ghost use Rattle.lap.specs.Pass.{step_of};
 ghost use Rattle.lap.specs.Lap.{moving_at, lap_start, step_pass};

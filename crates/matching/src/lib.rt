@@ -1,5 +1,6 @@
 // What a match on the followed line says: on it or off it, whether it is reminded of, and where the next is looked for.
 // `distances` says how far is off and how far is on, `followed` what is followed and where it is matched.
+#![tactic(auto)]
 
 pub mod distances;
 pub mod followed;

@@ -1,4 +1,6 @@
 // The heading: which way the rider moves, and for how long that is known.
+#![tactic(auto)]
+
 ghost use Rattle.std.specs.Prelude.{◌≡◌};
 ghost use Rattle.motion.specs.Heading.{elapsed, spot_or, renewed, aged, track_heading};
 

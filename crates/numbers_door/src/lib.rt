@@ -1,5 +1,7 @@
 // The numbers and the plane, for the comparison of single functions: each export does what the function of
 // its name does.
+#![tactic(auto)]
+
 ghost use Rattle.std.specs.Prelude.{◌≡◌};
 ghost use Rattle.std.specs.Float.{binary32};
 ghost use Rattle.binary32.specs.Root.{root};

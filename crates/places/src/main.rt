@@ -2,6 +2,8 @@
 // metres east and north of the first, as two f32 patterns, then the bearing and the whole metres
 // from the fix before it. The ride crosses the antimeridian, stands on the pole, and ends half a
 // turn away.
+#![tactic(auto)]
+
 use plane::Point;
 
 #[derive(Clone, Copy)]

@@ -1,4 +1,6 @@
 // The plane that the guide works in: metres east and north of the ride's first fix.
+#![tactic(auto)]
+
 pub mod squares;
 
 ghost use Rattle.std.specs.Prelude.{◌≡◌, ◌-ℤ◌};

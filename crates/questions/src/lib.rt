@@ -1,5 +1,6 @@
 // The questions put to a call. Each `asks` answers the number of the first one that says no, 0 where
 // none does. What they ask of less than the whole state is in `limits`, `counts` and `globe`.
+#![tactic(auto)]
 
 pub mod counts;
 pub mod globe;

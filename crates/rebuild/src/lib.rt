@@ -4,6 +4,7 @@
 // The recovered ride's fixes are replayed, then those of the later ride. The later ride's first fix
 // decides whether it carries on: at most `CONTINUE_MS` from the recovered ride's last fix it does; farther
 // apart, or without the time of either, the breadcrumb starts again from it.
+#![tactic(auto)]
 
 ghost use Rattle.std.specs.Prelude.{◌≡◌, ◌≤◌, length};
 ghost use Rattle.trail.specs.View as trail;

@@ -9,6 +9,7 @@
 //   the record counts among the answers;
 // - last a record of the same form for the ride's end, at which all crumbs and the course are told.
 // The file `stdin` was written by the program `recorded` of `oracle`, which performs the ride by the handed-over Rust.
+#![tactic(auto)]
 
 mod asking;
 mod performing;

@@ -1,5 +1,6 @@
 // A stored ride: where its numbers stand, and how they are read. All are little-endian. `comparing`: what a call tells held to what is
 // stored.
+#![tactic(auto)]
 
 pub mod comparing;
 

@@ -1,5 +1,6 @@
 // The calls of a rebuild: the breadcrumb read back from a chain file after a restart. Each is asked
 // document 01's questions about what it is given, and a refusal changes nothing.
+#![tactic(auto)]
 
 ghost use Rattle.std.specs.Prelude.{◌≡◌, ◌+◌, ◌≤◌, min, max, length};
 ghost use Rattle.trail.specs.View as trail;

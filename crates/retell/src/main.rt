@@ -1,5 +1,6 @@
 // Tells what a chain file gives back: the crumbs that a new guide holds once the whole chain is rebuilt,
 // or the question that refuses the file. The file comes on standard input.
+#![tactic(auto)]
 
 ghost use Rattle.std.specs.Prelude.{◌+◌, ◌≤◌, length};
 ghost use Rattle.io.specs.Counts.{IsPrefixLen};

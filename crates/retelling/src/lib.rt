@@ -1,4 +1,5 @@
 // What the program `retell` prints of a chain file: the file's chain is rebuilt, and what came of it is told.
+#![tactic(auto)]
 
 mod lines;
 

@@ -1,4 +1,5 @@
 // Lists of calls, performed one after the other by a new guide, and what holds of the guide after them.
+#![tactic(auto)]
 
 ghost use Rattle.std.specs.Prelude.{◌≡◌, ◌≤◌, min, length};
 ghost use Rattle.course.specs.Course.{fixes};

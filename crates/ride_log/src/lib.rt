@@ -1,5 +1,6 @@
 // The ride log: entries of up to four samples, and the chain file that holds them. What a file has is
 // read where it stands; a byte behind its end counts as 0. `file_questions` has the questions put to it.
+#![tactic(auto)]
 
 pub mod file_questions;
 

@@ -1,6 +1,7 @@
 // Searches on a whole line of crumbs: the segment nearest a position, the place a way along. `quick` finds the
 // nearest one with two roots in all, `rows` that of the breadcrumb sixteen segments at a time; `course_match` the segment of the
 // followed course that the rider is on.
+#![tactic(auto)]
 
 pub mod course_match;
 pub mod quick;

@@ -2,6 +2,7 @@
 // count of the crumbs held in it, the breadcrumb's or a course's; what serves both is given the two crumbs of a segment. It is named by
 // its far end: it runs from the crumb before to the one at `end`.
 // `costs` says what a match costs by each ranking, `turns` which way a line runs.
+#![tactic(auto)]
 
 pub mod costs;
 pub mod turns;

@@ -1,4 +1,5 @@
 // The guide's state, in groups, by value beside the lent buffers.
+#![tactic(auto)]
 
 ghost use Rattle.std.specs.Prelude.{◌≡◌};
 ghost use Rattle.state.specs.Guided.{guided_of, whole};

@@ -1,5 +1,6 @@
 // What the rider and the device choose, once the questions are answered. Here: the guide made anew, and a course
 // set. `following` has following begun and ended, `way_home` the breadcrumb followed back.
+#![tactic(auto)]
 
 pub mod following;
 mod way_home;

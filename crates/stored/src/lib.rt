@@ -1,6 +1,7 @@
 // A guide's state in slices that the caller lends: words, and numbers beside them. The layout is the table in
 // specs/Stored.antt, and `layout` has its positions. Word 0 is a mark. `fields` has one field, `parts` the groups,
 // `state_words` all words; `stored_rebuild` is the same for a rebuild.
+#![tactic(auto)]
 
 mod fields;
 mod layout;

@@ -2,6 +2,7 @@
 // reaches on to the farthest one whose chord passes within the tolerance of every crumb between.
 // Passes repeat at a doubled tolerance until a quarter of the room is free; the last one takes every
 // other crumb.
+#![tactic(auto)]
 
 mod rows;
 

@@ -6,6 +6,7 @@
 // - the length, the tolerance and the passes that the Rust answered,
 // - east, north and along of each crumb that it left.
 // An f32 stands as its bit pattern, and an answer that is a NaN as 7FC00000.
+#![tactic(auto)]
 
 ghost use Rattle.std.specs.Prelude.{◌≡◌, ◌+◌, ◌*◌, ◌<◌, ◌≤◌, length};
 ghost use Rattle.crumbs.specs.Crumb.{stride, capacity};

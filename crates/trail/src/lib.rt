@@ -1,6 +1,7 @@
 // The recording of the breadcrumb. Fixes wait in a window, and the last of them is kept before one
 // that would make a straight line from the last kept crumb stray too far. When the lent buffer is
 // full the line is thinned in place, so a ride of any length fits.
+#![tactic(auto)]
 
 ghost use Rattle.std.specs.Prelude.{◌≡◌, List, ◌<◌, ◌≤◌, length, Float};
 ghost use Rattle.std.proofs.Math.Option.{get_or};

@@ -1,5 +1,7 @@
 // The cosine and the angle of a direction, by the formulas of document 01, "Fix": each operation
 // rounds once, in the order written. Every input has its answer, a NaN and the infinities too.
+#![tactic(auto)]
+
 ghost use Rattle.std.specs.Prelude.{◌≡◌};
 ghost use Rattle.binary32.specs.Limits.{size_of};
 ghost use Rattle.trig.specs.Fix.{near_cos, far_cos, cos};

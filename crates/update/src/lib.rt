@@ -1,4 +1,5 @@
 // The guide after a fix.
+#![tactic(auto)]
 
 ghost use Rattle.std.specs.Prelude.{◌≡◌, true, ◌&&◌, leb, List, ℕ, ◌≤◌, ◌<◌, length, Float};
 ghost use Rattle.crumbs.specs.declared.Crumb.{Crumb};
