@@ -21,9 +21,9 @@ module _ {A : Type 0} where
   -- a choice of a choice
   pub choice-trans : {k m l : List A} → Choice k m → Choice m l → Choice k l
   choice-trans d end = d
-  choice-trans (leave d) (leave c) = leave (choice-trans d c)
-  choice-trans (strike d) (leave c) = strike (choice-trans d c)
-  choice-trans d (strike c) = strike (choice-trans d c)
+  choice-trans {m = a ∷ m} (leave {m = k} d) (leave c) = leave (choice-trans {k = k} {m = m} d c)
+  choice-trans {k = k} {m = a ∷ m} (strike d) (leave c) = strike (choice-trans {k = k} {m = m} d c)
+  choice-trans {k = k} {m = m} d (strike c) = strike (choice-trans {k = k} {m = m} d c)
 
   -- in front of both, and behind both
   pub choice-cons : {m l : List A} (a : A) → Choice m l → Choice (a ∷ m) (a ∷ l)

@@ -9,11 +9,11 @@ use Rattle.motion.proofs.aged.Goals as goal
 pub returns-then-elapsed-gt-HEADING_STALE_MS : goal.returns-then-elapsed-gt-HEADING_STALE_MS
 unfolding aged
 returns-then-elapsed-gt-HEADING_STALE_MS c =
-    simp (lt-ltb 15000 (elapsed c.args.now-ms c.args.m.heading_ms)
+    simp (lt-ltb 15000 (elapsed c.args.now_ms c.args.m.heading_ms)
     (subst (λ (n : ℕ). 15000 < n) c.elapsed.ensures c.if-elapsed-gt-HEADING_STALE_MS.true))
 
 pub returns : goal.returns
 unfolding aged
 returns c =
-    simp (le-ltb 15000 (elapsed c.args.now-ms c.args.m.heading_ms)
+    simp (le-ltb 15000 (elapsed c.args.now_ms c.args.m.heading_ms)
     (subst (λ (n : ℕ). n ≤ 15000) c.elapsed.ensures c.if-elapsed-gt-HEADING_STALE_MS.false))

@@ -6,10 +6,10 @@ use borrow.Author.Rules.{rules}
 use Rattle.stored.proofs.holds.Goals as goal
 
 pub returns-then-not-within : goal.returns-then-not-within
-returns-then-not-within c = outside _ _ (sym c.within.ensures ∙ not-true _ c.if-not-within.true)
+returns-then-not-within c = outside _ _ (sym c.within.ensures ∙ c.if-not-within.true)
 
 pub bounds-words-0 : goal.bounds-words-0
-bounds-words-0 c = in-room _ (sym c.within.ensures ∙ not-false _ c.if-not-within.false)
+bounds-words-0 c = in-room _ (sym c.within.ensures ∙ c.if-not-within.false)
 
 pub returns : goal.returns
-returns c = inside _ _ (sym c.within.ensures ∙ not-false _ c.if-not-within.false)
+returns c = inside _ _ (sym c.within.ensures ∙ c.if-not-within.false)

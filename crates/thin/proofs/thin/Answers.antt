@@ -11,14 +11,14 @@ use Rattle.thin.proofs.Thinning.{Going, going_start, room, still-size, not_last,
 use Rattle.thin.proofs.thin.Goals as goal
 
 pub returns-then-not-may_thin : goal.returns-then-not-may_thin
-returns-then-not-may_thin c = thin-refused _ _ _ (sym c.may_thin.ensures ∙ not-true _ c.if-not-may_thin.true)
+returns-then-not-may_thin c = thin-refused _ _ _ (sym c.may_thin.ensures ∙ c.if-not-may_thin.true)
 
 pub overflow_mul-target : goal.overflow_mul-target
 overflow_mul-target c = omega arith
 
 pub loop-kept-init : goal.loop-kept-init
 loop-kept-init c =
-    going_start (sym c.may_thin.ensures ∙ not-false _ c.if-not-may_thin.false) (ap target c.capacity.ensures)
+    going_start (sym c.may_thin.ensures ∙ c.if-not-may_thin.false) (ap target c.capacity.ensures)
 
 pub pass-kept-requires : goal.pass-kept-requires
 pass-kept-requires c = room c.loop-kept.invariant

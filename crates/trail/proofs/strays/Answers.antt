@@ -36,5 +36,5 @@ loop-i-preserved c =
 
 pub returns : goal.returns
 returns c =
-    let e : c.loop-i.i ≡ c.args.window-len = omega arith in
+    let e : c.loop-i.i ≡ c.args.window_len = omega arith in
     sym (rw e at c.loop-i.invariant.1)

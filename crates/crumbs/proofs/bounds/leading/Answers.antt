@@ -30,7 +30,7 @@ loop-i-smaller c = omega (arith, c.loop-i.invariant.within)
 pub loop-i-preserved : goal.loop-i-preserved
 loop-i-preserved c =
     leading-next c.row_of-low.ensures c.row_of-high.ensures c.loop-i.invariant (omega (arith, c.loop-i.invariant.within))
-    (c.row_between.ensures (not-false _ c.if-not-row_between.false))
+    (c.row_between.ensures c.if-not-row_between.false)
 
 pub returns : goal.returns
 returns c = leading_end c.row_of-low.ensures c.row_of-high.ensures c.loop-i.invariant

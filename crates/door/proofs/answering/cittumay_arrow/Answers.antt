@@ -17,7 +17,7 @@ pub returns-then-not-are_guide : goal.returns-then-not-are_guide
 returns-then-not-are_guide c = not-held (no-guide _ c.are_guide.ensures c.if-not-are_guide.true) refl
 
 pub guide_at-requires : goal.guide_at-requires
-guide_at-requires c = sym c.are_guide.ensures ∙ not-false _ c.if-not-are_guide.false
+guide_at-requires c = sym c.are_guide.ensures ∙ c.if-not-are_guide.false
 
 pub returns-in-Is : goal.returns-in-Is
 unfolding says_angle number_of

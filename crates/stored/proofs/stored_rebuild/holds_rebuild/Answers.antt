@@ -6,10 +6,10 @@ use borrow.Author.Rules.{rules}
 use Rattle.stored.proofs.stored_rebuild.holds_rebuild.Goals as goal
 
 pub returns-then-not-rebuild_within : goal.returns-then-not-rebuild_within
-returns-then-not-rebuild_within c = outside-rebuild _ (sym c.rebuild_within.ensures ∙ not-true _ c.if-not-rebuild_within.true)
+returns-then-not-rebuild_within c = outside-rebuild _ (sym c.rebuild_within.ensures ∙ c.if-not-rebuild_within.true)
 
 pub bounds-words-0 : goal.bounds-words-0
-bounds-words-0 c = in-room-rebuild _ (sym c.rebuild_within.ensures ∙ not-false _ c.if-not-rebuild_within.false)
+bounds-words-0 c = in-room-rebuild _ (sym c.rebuild_within.ensures ∙ c.if-not-rebuild_within.false)
 
 pub returns : goal.returns
-returns c = inside-rebuild _ (sym c.rebuild_within.ensures ∙ not-false _ c.if-not-rebuild_within.false)
+returns c = inside-rebuild _ (sym c.rebuild_within.ensures ∙ c.if-not-rebuild_within.false)
