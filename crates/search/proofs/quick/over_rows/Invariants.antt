@@ -10,7 +10,7 @@ use Rattle.search.proofs.quick.over_rows.Given as goal
 
 abbrev pub invariant-loop-end : goal.invariant-loop-end
 invariant-loop-end l =
-    Passes (crumbs l.len l.line) l.p l.within l.ends l.initial.leading (record { lead = l.leading; l.end = l.end })
+    Passes (crumbs l.len l.line) l.p l.within l.ends l.initial.leading (record { lead = l.leading; end = l.end })
 
 abbrev pub decreases-loop-end : goal.decreases-loop-end
 decreases-loop-end l = l.end
