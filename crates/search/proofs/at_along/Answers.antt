@@ -1,10 +1,6 @@
 -- `search::at_along` meets its contract: going down from `end - 1` finds the rule's place.
-use Prim.Native.Nat.{◌-◌, ◌<◌}
-use mathlib.Core.Path.{◌≡◌, refl, ◌∙◌}
+use mathlib.Core.Path.{refl, ◌∙◌}
 use native.Mathlib.Omega.{arith}
-use borrow.Author.Rules.{rules}
-use Rattle.crumbs.specs.Crumb.{crumbs}
-use Rattle.search.specs.Along.{place_before}
 use Rattle.search.proofs.Walking.{along-there, place-below, place_here, place-first}
 use Rattle.search.proofs.at_along.Goals as goal
 use Rattle.search.proofs.at_along.Goals.{then-loop-i-test+else-crumb-along, else-loop-i-test}

@@ -1,6 +1,5 @@
 -- `search::joins` meets its contract: the tests are the rule's, and what its square says is further off than 25 m is not joined. Assumes
 -- nothing.
-use borrow.Author.Rules.{rules}
 use lib.Ieee.{of_bits}
 use Rattle.binary32.specs.Arithmetic.{constant}
 use Rattle.crumbs.specs.Crumb.{point}

@@ -1,12 +1,9 @@
 -- `search::nearest_within` meets its contract: the ends still to be considered decide.
-use Prim.Native.Nat.{◌+◌, ◌-◌}
 use mathlib.Core.Path.{ap, ◌∙◌}
 use native.Mathlib.Omega.{arith}
-use borrow.Author.Rules.{rules}
-use Rattle.crumbs.specs.Crumb.{crumbs}
-use Rattle.segments.specs.Segment.{considered, cost_within, found}
+use Rattle.segments.specs.Segment.{found}
 use Rattle.search.specs.Search.{nearest_within}
-use Rattle.search.proofs.Searching.{Falls, falls-start, falls-on, falls_out}
+use Rattle.search.proofs.Searching.{falls-start, falls-on, falls_out}
 use Rattle.search.proofs.nearest_within.Goals as goal
 use Rattle.search.proofs.nearest_within.Goals.{then-may_cost, else-may_cost}
 

@@ -2,7 +2,6 @@
 -- segment of the line.
 use mathlib.Core.Path.{sym, ◌∙◌}
 use native.Mathlib.Omega.{arith}
-use borrow.Author.Rules.{rules}
 use Rattle.search.specs.CourseMatch.{nearest_on_course, matched}
 use Rattle.search.proofs.course_match.Theorems.{near-met}
 use Rattle.search.proofs.course_match.nearest_on_course.Goals as goal

@@ -1,9 +1,5 @@
 -- `search::quick::over_rows` meets its contract: the lead behind the rows tried.
-use Prim.Native.Nat.{◌+◌, ◌-◌}
 use native.Mathlib.Omega.{arith}
-use Rattle.crumbs.specs.Crumb.{crumbs}
-use Rattle.search.specs.Square.{Passes}
-use Rattle.search.specs.Rows.{row_length}
 use Rattle.search.proofs.quick.Passing.{passes-start, passes-row}
 use Rattle.search.proofs.quick.over_rows.Goals as goal
 

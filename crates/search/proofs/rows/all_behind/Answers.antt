@@ -1,5 +1,4 @@
 -- `search::rows::all_behind` meets its contract.
-use borrow.Author.Rules.{rules}
 use mathlib.Core.Bool.{false≢true}
 use mathlib.Core.Logic.{inl}
 use Rattle.std.proofs.lemmas.Bool.{not_from_true}

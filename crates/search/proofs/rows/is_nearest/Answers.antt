@@ -1,6 +1,5 @@
 -- `search::rows::is_nearest` meets its contract.
 use mathlib.Core.Bool.{false≢true}
-use borrow.Author.Rules.{rules}
 use Rattle.std.proofs.lemmas.Bool.{not_from_true}
 use Rattle.search.proofs.rows.Fronting.{settles}
 use Rattle.search.proofs.rows.is_nearest.Goals as goal

@@ -1,8 +1,5 @@
 -- `search::rows::nearest_on_breadcrumb` meets its contract: where the segment in front settles it, and where it does not.
-use Prim.Native.Nat.{◌-◌}
 use native.Mathlib.Omega.{arith}
-use borrow.Author.Rules.{rules}
-use Rattle.search.specs.Rows.{row_length}
 use Rattle.search.proofs.rows.Fronting.{nearest-in-front}
 use Rattle.search.proofs.rows.nearest_on_breadcrumb.Goals as goal
 
