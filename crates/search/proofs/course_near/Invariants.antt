@@ -9,7 +9,9 @@ use Rattle.search.proofs.course_near.Given as goal
 
 abbrev pub invariant-loop-end : goal.invariant-loop-end
 invariant-loop-end l =
-    (l.end ≤ l.len) × Falls (considered (crumbs l.len l.line) l.p (cost_anywhere (crumbs l.len l.line) l.p)) (every (crumbs l.len l.line)) l.best (l.end - 1)
+    (l.end ≤ l.len)
+    × Falls (considered (crumbs l.len l.line) l.p (cost_anywhere (crumbs l.len l.line) l.p)) (every (crumbs l.len l.line)) l.best
+    (l.end - 1)
 
 abbrev pub decreases-loop-end : goal.decreases-loop-end
 decreases-loop-end l = l.end

@@ -6,7 +6,9 @@ use Rattle.search.specs.Along.{place_before}
 use Rattle.search.proofs.line_at_along.Given as goal
 
 abbrev pub invariant-loop-i : goal.invariant-loop-i
-invariant-loop-i l = (l.i < l.end) × (place_before (crumbs l.len l.line) l.along l.i ≡ place_before (crumbs l.len l.line) l.along (l.end - 1))
+invariant-loop-i l =
+    (l.i < l.end)
+    × (place_before (crumbs l.len l.line) l.along l.i ≡ place_before (crumbs l.len l.line) l.along (l.end - 1))
 
 abbrev pub decreases-loop-i : goal.decreases-loop-i
 decreases-loop-i l = l.i
