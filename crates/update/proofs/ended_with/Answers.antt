@@ -26,6 +26,6 @@ returns c = λ w.
     let line = g.line.now in
     let direct = c.direct in
     let shown = c.shown-last in
-    let shows = direct.ensures _ (stands-begun (whole k.result w) exit line g.p g.now-ms) in
-    ends_with (whole g.h w) (whole k.result w) g.crumbs.now exit line (k.ensures w) g.p g.now-ms g.e
+    let shows = direct.ensures _ (stands-begun (whole k.result w) exit line g.p g.now_ms) in
+    ends_with (whole g.h w) (whole k.result w) g.crumbs.now exit line (k.ensures w) g.p g.now_ms g.e
     direct.result (told_in shown.result w) shows (shown.ensures exit w)

@@ -24,7 +24,7 @@ pub returns-then-b : goal.returns-then-b
 returns-then-b c =
     let g = c.args in
     let h = whole g.h g.window.now in
-    turned_round h g.line.now g.crumbs.now c.retraced.new.crumbs g.p g.now-ms
+    turned_round h g.line.now g.crumbs.now c.retraced.new.crumbs g.p g.now_ms
     (retraced_as h c.retracing-b.result)
     (asks-retracing h g.crumbs.now g.p c.retracing-b.result c.retracing-b.ensures)
     (told_in c.retraced.result c.retraced.new.window)
@@ -44,7 +44,7 @@ pub returns-then-h : goal.returns-then-h
 returns-then-h c =
     let g = c.args in
     let h = whole g.h g.window.now in
-    rode-on h g.line.now g.crumbs.now c.add_update.new.crumbs g.p g.now-ms
+    rode-on h g.line.now g.crumbs.now c.add_update.new.crumbs g.p g.now_ms
     (retraced_as h c.retracing-b.result)
     (asks-retracing h g.crumbs.now g.p c.retracing-b.result c.retracing-b.ensures)
     (told_in c.add_update.result c.add_update.new.window)
@@ -57,6 +57,6 @@ pub returns : goal.returns
 returns c =
     let g = c.args in
     let u = c.add_update-2 in
-    never-turned (whole g.h g.window.now) g.line.now g.crumbs.now u.new.crumbs g.p g.now-ms
+    never-turned (whole g.h g.window.now) g.line.now g.crumbs.now u.new.crumbs g.p g.now_ms
     (told_in u.result u.new.window)
     c.if-h.false u.ensures

@@ -25,5 +25,5 @@ returns c =
     let k = c.add-grown in
     let u = c.update in
     let w = k.new.window in
-    grown-updated h (whole k.result w) g.p g.crumbs.now k.new.crumbs c.requires.grows k.ensures g.line.now g.now-ms
+    grown-updated h (whole k.result w) g.p g.crumbs.now k.new.crumbs c.requires.grows k.ensures g.line.now g.now_ms
     (told_in u.result w) u.new.crumbs (u.ensures w)

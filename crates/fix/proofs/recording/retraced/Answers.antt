@@ -24,7 +24,7 @@ update-u-requires c =
     let g = c.args in
     let back = c.turned_back-back in
     let e = c.engage-e in
-    λ w. engaged-fit (whole back.result w) g.crumbs.now g.line.now g.now-ms (decided_in e.result w)
+    λ w. engaged-fit (whole back.result w) g.crumbs.now g.line.now g.now_ms (decided_in e.result w)
     (e.ensures w) _ c.if-e.true ((back.ensures w).fit _ c.requires.window_len.1.trail)
     (back-room (whole g.h w) (whole back.result w) (back.ensures w) _ c.requires.window_len.1.course)
 
@@ -36,9 +36,9 @@ returns-then-e c =
     let e = c.engage-e in
     let w = g.window.now in
     turned_on (whole g.h w) (whole back.result w) (back.ensures w) g.line.now g.crumbs.now u.new.crumbs g.p
-    g.now-ms _
+    g.now_ms _
     (engaged-on (whole back.result w) g.line.now g.crumbs.now u.new.crumbs g.p
-    g.now-ms (decided_in e.result w) (e.ensures w) (told_in u.result w)
+    g.now_ms (decided_in e.result w) (e.ensures w) (told_in u.result w)
     c.if-e.true (u.ensures w))
 
 pub add_update-requires : goal.add_update-requires
@@ -53,11 +53,11 @@ add_update-requires c =
     let idle = back-idle h cut (back.ensures w) c.requires.retrace_len_bound.1 in (
       (
         c.requires.window_len.0,
-        unengaged-fit cut g.crumbs.now g.line.now g.now-ms r (e.ensures w) _ c.if-e.false
+        unengaged-fit cut g.crumbs.now g.line.now g.now_ms r (e.ensures w) _ c.if-e.false
             (back-fit h cut (back.ensures w) _ _ c.requires.retrace_len_bound.1 c.requires.window_len.1),
       ),
       idle-grows r.homing (ap (λ (f : Follow). f.line) (unengaged-follow cut g.crumbs.now g.line.now
-          g.now-ms r (e.ensures w) c.if-e.false) ∙ idle),
+          g.now_ms r (e.ensures w) c.if-e.false) ∙ idle),
     )
 
 pub returns : goal.returns
@@ -69,7 +69,7 @@ returns c =
     let w = g.window.now in
     let t = told_in u.result u.new.window in
     turned_on (whole g.h w) (whole back.result w) (back.ensures w) g.line.now g.crumbs.now u.new.crumbs g.p
-    g.now-ms t
+    g.now_ms t
     (unengaged-on (whole back.result w) g.line.now g.crumbs.now u.new.crumbs g.p
-    g.now-ms (decided_in e.result w) (e.ensures w) t c.if-e.false
+    g.now_ms (decided_in e.result w) (e.ensures w) t c.if-e.false
     u.ensures)
