@@ -18,5 +18,5 @@ returns c =
     let u = c.seen in
     let known = c.known_told-1.given in
     let at = c.place-1.given in
-    subst (λ (x : Place). Observes g.line.now x g.now-ms g.h g.crumbs.now u.result u.new.1.0)
+    subst (λ (x : Place). Observes g.line.now x g.now-ms g.h g.crumbs.now u.result u.new.crumbs)
     (same_at at.0.0 at.0.1.0 known.0.1 known.1.0.1 ∙ sym at.1) u.ensures

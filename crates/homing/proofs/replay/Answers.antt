@@ -49,11 +49,11 @@ returns c =
     ∙ ap (λ (y : Fix). asks (length b) (call.Replay y g.at-ms) (state_of g.h b)) same in
     let k = c.replay-grown in
     let C = capacity (length b) in
-    subst (λ (r : Changed). Replays x g.at-ms g.h b r k.new.1.0) (sym c.taken.ensures)
+    subst (λ (r : Changed). Replays x g.at-ms g.h b r k.new.crumbs) (sym c.taken.ensures)
     (record {
       answered = yes e c.if-number-ne0.false refl;
       called =
-          takes-rule (call.Replay x g.at-ms) g.h k.result b k.new.1.0 (λ D. replay D _ g.at-ms)
+          takes-rule (call.Replay x g.at-ms) g.h k.result b k.new.crumbs (λ D. replay D _ g.at-ms)
           (sym e ∙ c.if-number-ne0.false)
           (ap (λ (y : Fix). (replay C y g.at-ms (state_of g.h b)).state) same) k.ensures;
     })

@@ -53,7 +53,7 @@ returns c =
       answered = yes e c.if-number-ne0.false
           (u.ensures.told ∙ ap (λ (x : Fix). (seen C l x g.now-ms (state_of g.h b)).answer) same);
       called =
-          takes-rule (call.Observe g.line.now (place.At g.lat g.lon) g.now-ms) g.h u.result.homing b u.new.1.0
+          takes-rule (call.Observe g.line.now (place.At g.lat g.lon) g.now-ms) g.h u.result.homing b u.new.crumbs
           (λ D. seen D l _ g.now-ms) (sym e ∙ c.if-number-ne0.false)
           (ap (λ (x : Fix). (seen C l x g.now-ms (state_of g.h b)).state) same)
           u.ensures.follows;

@@ -35,7 +35,7 @@ returns c =
     record {
       answered = yes e c.if-number-ne0.false k.ensures.answered;
       called =
-          takes-rule (call.SetFollowing g.line.now g.follow g.now-ms) g.h k.result.homing b k.new.1.0
+          takes-rule (call.SetFollowing g.line.now g.follow g.now-ms) g.h k.result.homing b k.new.crumbs
           (λ C. set_following g.follow C (course_in g.line.now (state_of g.h b)) g.now-ms)
           (sym e ∙ c.if-number-ne0.false) refl k.ensures.follows;
     }

@@ -69,7 +69,7 @@ returns-in-Ends c = λ w.
     let line = g.line.now in
     let ended = c.ended_with in
     ends (whole g.h w) b line g.p g.now-ms followed becomes c.in-Ends.is
-    (whole c.begun-in-Ends.result w) (c.begun-in-Ends.ensures w) (told_in ended.result w) ended.new.1.1.0 (ended.ensures w)
+    (whole c.begun-in-Ends.result w) (c.begun-in-Ends.ensures w) (told_in ended.result w) ended.new.crumbs (ended.ensures w)
 
 pub returns-in-GoesOn : goal.returns-in-GoesOn
 unfolding begun

@@ -24,10 +24,10 @@ pub returns-then-b : goal.returns-then-b
 returns-then-b c =
     let g = c.args in
     let h = whole g.h g.window.now in
-    turned_round h g.line.now g.crumbs.now c.retraced.new.1.1.0 g.p g.now-ms
+    turned_round h g.line.now g.crumbs.now c.retraced.new.crumbs g.p g.now-ms
     (retraced_as h c.retracing-b.result)
     (asks-retracing h g.crumbs.now g.p c.retracing-b.result c.retracing-b.ensures)
-    (told_in c.retraced.result c.retraced.new.1.0)
+    (told_in c.retraced.result c.retraced.new.window)
     c.if-h.true c.if-b.true c.retraced.ensures
 
 pub add_update-requires : goal.add_update-requires
@@ -44,10 +44,10 @@ pub returns-then-h : goal.returns-then-h
 returns-then-h c =
     let g = c.args in
     let h = whole g.h g.window.now in
-    rode-on h g.line.now g.crumbs.now c.add_update.new.1.1.0 g.p g.now-ms
+    rode-on h g.line.now g.crumbs.now c.add_update.new.crumbs g.p g.now-ms
     (retraced_as h c.retracing-b.result)
     (asks-retracing h g.crumbs.now g.p c.retracing-b.result c.retracing-b.ensures)
-    (told_in c.add_update.result c.add_update.new.1.0)
+    (told_in c.add_update.result c.add_update.new.window)
     c.if-h.true c.if-b.false c.add_update.ensures
 
 pub add_update-requires-2 : goal.add_update-requires-2
@@ -57,6 +57,6 @@ pub returns : goal.returns
 returns c =
     let g = c.args in
     let u = c.add_update-2 in
-    never-turned (whole g.h g.window.now) g.line.now g.crumbs.now u.new.1.1.0 g.p g.now-ms
-    (told_in u.result u.new.1.0)
+    never-turned (whole g.h g.window.now) g.line.now g.crumbs.now u.new.crumbs g.p g.now-ms
+    (told_in u.result u.new.window)
     c.if-h.false u.ensures

@@ -23,10 +23,10 @@ pub returns-then-j : goal.returns-then-j
 returns-then-j c =
     let g = c.args in
     let h = whole g.h g.window.now in
-    joined-up h g.line.now g.crumbs.now c.joined_course.new.1.1.0 g.p g.now-ms
+    joined-up h g.line.now g.crumbs.now c.joined_course.new.crumbs g.p g.now-ms
     (joined_as h c.joining-j.result)
     (asks-joining h g.crumbs.now g.line.now g.p c.joining-j.result c.joining-j.ensures)
-    (told_in c.joined_course.result c.joined_course.new.1.0)
+    (told_in c.joined_course.result c.joined_course.new.window)
     c.if-j.true c.joined_course.ensures
 
 pub may_retrace-requires : goal.may_retrace-requires
@@ -43,7 +43,7 @@ pub returns : goal.returns
 returns c =
     let g = c.args in
     let h = whole g.h g.window.now in
-    rode-by h g.line.now g.crumbs.now c.may_retrace.new.1.1.0 g.p g.now-ms (joined_as h c.joining-j.result)
+    rode-by h g.line.now g.crumbs.now c.may_retrace.new.crumbs g.p g.now-ms (joined_as h c.joining-j.result)
     (asks-joining h g.crumbs.now g.line.now g.p c.joining-j.result c.joining-j.ensures)
-    (told_in c.may_retrace.result c.may_retrace.new.1.0)
+    (told_in c.may_retrace.result c.may_retrace.new.window)
     c.if-j.false c.may_retrace.ensures

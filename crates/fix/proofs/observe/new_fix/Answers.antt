@@ -37,8 +37,8 @@ returns c =
     let ef = c.located-frame.ensures in
     let there = arrives h y g.now-ms ef c.framed-p.ensures c.track_heading-motion.ensures in
     updates-after (λ C c. new_fix C l (record { lat = g.lat; lon = g.lon }) g.now-ms (with_here_ms g.now-ms c))
-    (λ C. fix_on g.h.follow.line C l c.framed-p.result g.now-ms) h r b c.fix_on.new.1.1.0
-    (told_in c.fix_on.result c.fix_on.new.1.0) (same_len h r refl)
+    (λ C. fix_on g.h.follow.line C l c.framed-p.result g.now-ms) h r b c.fix_on.new.crumbs
+    (told_in c.fix_on.result c.fix_on.new.window) (same_len h r refl)
     (sym (ap (λ (y : Fix). new_fix C l y g.now-ms (with_here_ms g.now-ms (state_of h b))) same)
     ∙ new-fix y g.now-ms h r there g.line.now b c.framed-p.result c.framed-p.ensures ef C)
     c.fix_on.ensures

@@ -50,7 +50,7 @@ returns c = λ w.
     let turned = turns p g.now-ms (whole g.h w) c.track_heading-on.ensures in
     let C = capacity (length b) in
     updates-after (λ C. still_at g.here C l g.now-ms) (λ C. update C l p g.now-ms) (whole g.h w) on b
-    c.update.new.1.0 (told_in c.update.result w)
+    c.update.new.crumbs (told_in c.update.result w)
     (same_len (whole g.h w) on refl)
     (still-due g.here C l g.now-ms (state_of (whole g.h w) b) p c.in-At.is
     (ap (λ (n : ℕ). ltb n still_ms) (sym c.elapsed.ensures) ∙ le-ltb _ _ c.if-elapsed-lt-STILL_MS.false)

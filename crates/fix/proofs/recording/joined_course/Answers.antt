@@ -23,5 +23,5 @@ returns c =
     let on = c.engage_at-on in
     let k = c.add_update-u in
     let w = g.window.now in
-    joined-on (whole g.h w) (whole on.result w) g.line.now g.crumbs.now k.new.1.1.0 g.p g.now-ms
-    (told_in k.result k.new.1.0) (on.ensures w) k.ensures
+    joined-on (whole g.h w) (whole on.result w) g.line.now g.crumbs.now k.new.crumbs g.p g.now-ms
+    (told_in k.result k.new.window) (on.ensures w) k.ensures

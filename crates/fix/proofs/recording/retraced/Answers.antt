@@ -35,9 +35,9 @@ returns-then-e c =
     let u = c.update-u in
     let e = c.engage-e in
     let w = g.window.now in
-    turned_on (whole g.h w) (whole back.result w) (back.ensures w) g.line.now g.crumbs.now u.new.1.0 g.p
+    turned_on (whole g.h w) (whole back.result w) (back.ensures w) g.line.now g.crumbs.now u.new.crumbs g.p
     g.now-ms _
-    (engaged-on (whole back.result w) g.line.now g.crumbs.now u.new.1.0 g.p
+    (engaged-on (whole back.result w) g.line.now g.crumbs.now u.new.crumbs g.p
     g.now-ms (decided_in e.result w) (e.ensures w) (told_in u.result w)
     c.if-e.true (u.ensures w))
 
@@ -67,9 +67,9 @@ returns c =
     let u = c.add_update in
     let e = c.engage-e in
     let w = g.window.now in
-    let t = told_in u.result u.new.1.0 in
-    turned_on (whole g.h w) (whole back.result w) (back.ensures w) g.line.now g.crumbs.now u.new.1.1.0 g.p
+    let t = told_in u.result u.new.window in
+    turned_on (whole g.h w) (whole back.result w) (back.ensures w) g.line.now g.crumbs.now u.new.crumbs g.p
     g.now-ms t
-    (unengaged-on (whole back.result w) g.line.now g.crumbs.now u.new.1.1.0 g.p
+    (unengaged-on (whole back.result w) g.line.now g.crumbs.now u.new.crumbs g.p
     g.now-ms (decided_in e.result w) (e.ensures w) t c.if-e.false
     u.ensures)

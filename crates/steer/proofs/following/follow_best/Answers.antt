@@ -27,7 +27,7 @@ returns-in_default c =
     let h = whole g.h w in
     let l = course_of h g.line.now in
     decides-as (λ C. follow g.best C l g.now-ms) (λ C. way_home C l g.now-ms) h g.crumbs.now
-    (decided_in k.result w) k.new.1.1.0
+    (decided_in k.result w) k.new.crumbs
     (ap (λ (b : Best). follow b (capacity (length g.crumbs.now)) l g.now-ms (state_of h g.crumbs.now))
     c.in_default.is)
     k.ensures
@@ -52,8 +52,8 @@ returns c =
     let h = whole g.h w in
     let l = course_of h g.line.now in
     decides-as (λ C. follow g.best C l g.now-ms) (λ C. follow (Found near) C l g.now-ms) h g.crumbs.now
-    (decided_in k.result w) k.new.1.0
+    (decided_in k.result w) k.new.crumbs
     (ap (λ (b : Best). follow b (capacity (length g.crumbs.now)) l g.now-ms (state_of h g.crumbs.now))
     c.in-Found.is)
     (goes-on-course h (whole c.engage_at-engaged.result w) near (decided_in k.result w) g.crumbs.now
-    k.new.1.0 g.line.now g.now-ms (c.engage_at-engaged.ensures w) (k.ensures w))
+    k.new.crumbs g.line.now g.now-ms (c.engage_at-engaged.ensures w) (k.ensures w))

@@ -15,4 +15,4 @@ returns c = λ w.
     let k = c.update-u in
     brought-at (whole g.h w) g.crumbs.now g.line.now g.now-ms
     c.in-At.p
-    (told_in k.result w) k.new.1.0 c.in-At.is (k.ensures w)
+    (told_in k.result w) k.new.crumbs c.in-At.is (k.ensures w)

@@ -19,7 +19,7 @@ returns-then-engaged c = λ w.
     let k = c.brought in
     let l = course_of (whole g.h w) g.line.now in
     decides-as (λ C. engaged_or g.engaged C l g.now-ms) (λ C. brought C l g.now-ms) (whole g.h w) g.crumbs.now
-    (decided_in k.result w) k.new.1.0
+    (decided_in k.result w) k.new.crumbs
     (ap (λ (b : Bool). engaged_or b (capacity (length g.crumbs.now)) l g.now-ms (state_of (whole g.h w) g.crumbs.now))
     c.if-engaged.true)
     (k.ensures w)
