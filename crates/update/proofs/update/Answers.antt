@@ -14,7 +14,7 @@ outcome_at-o-requires c =
     let g = c.args in
     let f = c.followed_by-f.ensures in
     let h = whole g.h [] in
-    (lent-here h g.crumbs.now g.line.now f (c.requires []), last-here h g.crumbs.now g.line.now f (c.requires []))
+    record { lent = lent-here h g.crumbs.now g.line.now f (c.requires []); segment_lt_len = last-here h g.crumbs.now g.line.now f (c.requires []) }
 
 pub direct-requires : goal.direct-requires
 direct-requires c =
@@ -36,7 +36,7 @@ matched_at-requires c =
     let line = g.line.now in
     let near = match-on (whole g.h []) b line g.p g.now_ms followed becomes c.in-GoesOn.is in
     let fit = c.requires [] in
-    ((fit.trail.held, fit.course), (lent-here (whole g.h []) b line followed fit, near.0, near.1))
+    record { held_bound = (fit.trail.held, fit.course); lent = (lent-here (whole g.h []) b line followed fit, near.0, near.1) }
 
 pub returns-in-Straight : goal.returns-in-Straight
 returns-in-Straight c = λ w.
