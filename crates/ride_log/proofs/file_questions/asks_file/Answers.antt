@@ -19,7 +19,7 @@ question7-requires c = (refl, (counted _ c.question6.ensures (not_from_true _ c.
 
 pub returns-then-not-question7 : goal.returns-then-not-question7
 returns-then-not-question7 c = file-chain _ c.question6.ensures (not_from_true _ c.if-not-question6.false) c.question7.ensures
-    c.if-not-question7.true
+    (not_from_false _ c.if-not-question7.true)
 
 pub asks_records-requires : goal.asks_records-requires
 unfolding record_count
@@ -27,4 +27,4 @@ asks_records-requires c = refl
 
 pub returns : goal.returns
 returns c = file-records _ c.question6.ensures (not_from_true _ c.if-not-question6.false)
-    c.question7.ensures c.if-not-question7.false c.asks_records.ensures
+    c.question7.ensures (not_from_true _ c.if-not-question7.false) c.asks_records.ensures
