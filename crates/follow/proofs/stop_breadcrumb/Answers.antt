@@ -11,7 +11,7 @@ use Rattle.follow.proofs.stop_breadcrumb.Goals as goal
 
 pub returns : goal.returns
 unfolding forgotten track places
-returns c = λ w. let s = c.before.before.before.before.before.before.before.before.before in let g = s.args in
+returns c = λ w. let g = c.args in
     let h = whole g.h w in
     let k = c.leave_at in
     stops_at h _ (whole k.result w) g.crumbs.now k.new.1.0 (ap (λ (x : Follow). with_follow x

@@ -9,7 +9,7 @@ pub returns : goal.returns
 returns c = λ s x.
     let g = c.args in
     let course = crumbs g.x.placed g.line.now in
-    shows x course g.p g.w g.e c.requires.1
+    shows x course g.p g.w g.e c.requires.start_value
     c.goal_on-goal.ensures
     c.distance-direct.ensures
     c.on_course.ensures

@@ -5,4 +5,4 @@ use Rattle.plane.specs.declared.Projection.{Projection}
 use Rattle.numbers_door.proofs.cittumay_project.Goals as goal
 
 pub returns : goal.returns
-returns c = (ap (λ (q : Projection). q.t) c.project-found.ensures, ap (λ (q : Projection). q.point) c.project-found.ensures)
+returns c = record { value = ap (λ (q : Projection). q.t) c.project-found.ensures; north_after = ap (λ (q : Projection). q.point) c.project-found.ensures }

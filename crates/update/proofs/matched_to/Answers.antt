@@ -9,7 +9,7 @@ use Rattle.update.proofs.matched_to.Goals as goal
 
 pub returns-then-near : goal.returns-then-near
 unfolding drop_m constant of_bits
-returns-then-near c = (λ C at course p s is. drops C at course p s c.args.near c.if-near.true, λ len on. tt)
+returns-then-near c = record { by_index = (λ C at course p s is. drops C at course p s c.args.near c.if-near.true); by_index_2 = (λ len on. tt) }
 
 pub returns-then-at_course_end : goal.returns-then-at_course_end
 unfolding drop_m constant of_bits

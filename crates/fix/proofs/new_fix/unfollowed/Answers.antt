@@ -7,7 +7,7 @@ use borrow.Author.Rules.{rules}
 use Rattle.fix.proofs.new_fix.unfollowed.Goals as goal
 
 pub joining-j-requires : goal.joining-j-requires
-joining-j-requires c = c.requires.0.1.fit.course
+joining-j-requires c = c.requires.window_len.1.fit.course
 
 pub joined_course-requires : goal.joined_course-requires
 joined_course-requires c =
@@ -15,7 +15,7 @@ joined_course-requires c =
     let h = whole g.h g.window.now in
     let r = joined_as h c.joining-j.result in
     let a = asks-joining h g.crumbs.now g.line.now g.p c.joining-j.result c.joining-j.ensures in (
-      (c.requires.0.0, (join-ready h g.crumbs.now g.line.now g.p r a _ c.requires.0.1).fit),
+      (c.requires.window_len.0, (join-ready h g.crumbs.now g.line.now g.p r a _ c.requires.window_len.1).fit),
       joined_at h g.crumbs.now g.line.now g.p r a c.if-j.true,
     )
 
@@ -35,8 +35,8 @@ may_retrace-requires c =
     let h = whole g.h g.window.now in
     let r = joined_as h c.joining-j.result in
     let a = asks-joining h g.crumbs.now g.line.now g.p c.joining-j.result c.joining-j.ensures in (
-      (c.requires.0.0, join-ready h g.crumbs.now g.line.now g.p r a _ c.requires.0.1),
-      c.requires.1,
+      (c.requires.window_len.0, join-ready h g.crumbs.now g.line.now g.p r a _ c.requires.window_len.1),
+      c.requires.line_value,
     )
 
 pub returns : goal.returns

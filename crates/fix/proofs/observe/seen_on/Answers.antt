@@ -16,8 +16,7 @@ use borrow.Author.Rules.{rules}
 use Rattle.fix.proofs.observe.seen_on.Goals as goal
 
 pub still_at-requires : goal.still_at-requires
-still_at-requires c = let s = c in
-    λ w. (ready-same (whole s.args.h s.args.window.now) _ _ _ s.requires.1 refl refl refl).fit
+still_at-requires c = λ w. (ready-same (whole c.args.h c.args.window.now) _ _ _ c.requires.1 refl refl refl).fit
 
 pub returns-then-same_fix : goal.returns-then-same_fix
 returns-then-same_fix c =

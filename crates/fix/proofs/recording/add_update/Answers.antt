@@ -15,7 +15,7 @@ update-requires c =
     let k = c.add-grown in
     let grown = whole k.result k.new.1.0 in
     let fit =
-    fit-grown h grown g.p g.crumbs.now k.new.1.1.0 c.requires.1 k.ensures (length g.line.now) c.requires.0.1 in
+    fit-grown h grown g.p g.crumbs.now k.new.1.1.0 c.requires.grows k.ensures (length g.line.now) c.requires.window_len.1 in
     λ w. fit_same grown (whole k.result w) _ _ fit refl refl refl
 
 pub returns : goal.returns
@@ -25,5 +25,5 @@ returns c =
     let k = c.add-grown in
     let u = c.update in
     let w = k.new.1.0 in
-    grown-updated h (whole k.result w) g.p g.crumbs.now k.new.1.1.0 c.requires.1 k.ensures g.line.now g.now-ms
+    grown-updated h (whole k.result w) g.p g.crumbs.now k.new.1.1.0 c.requires.grows k.ensures g.line.now g.now-ms
     (told_in u.result w) u.new.1.0 (u.ensures w)

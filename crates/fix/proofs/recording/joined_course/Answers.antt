@@ -13,7 +13,7 @@ add_update-u-requires c =
     let on = c.engage_at-on in
     let there = whole on.result g.window.now in
     let engaged = on.ensures g.window.now in (
-      (c.requires.0.0, on-fit h there g.line.now g.h.course.join_end g.now-ms engaged _ _ c.requires.1 c.requires.0.1),
+      (c.requires.window_len.0, on-fit h there g.line.now g.h.course.join_end g.now-ms engaged _ _ c.requires.bound c.requires.window_len.1),
       on-grows h there g.line.now g.h.course.join_end g.now-ms engaged,
     )
 

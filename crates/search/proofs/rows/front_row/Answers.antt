@@ -8,7 +8,7 @@ use Rattle.search.proofs.rows.Fronting.{front-start, front-end}
 use Rattle.search.proofs.rows.front_row.Goals as goal
 
 pub loop-end-init : goal.loop-end-init
-loop-end-init c = (omega arith, omega arith, front-start _ _ _ c.requires.1)
+loop-end-init c = (omega arith, omega arith, front-start _ _ _ c.requires.row_length_bound)
 
 pub row_at-first-requires : goal.row_at-first-requires
 row_at-first-requires c = omega arith

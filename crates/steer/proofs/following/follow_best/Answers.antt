@@ -16,7 +16,7 @@ use borrow.Author.Rules.{rules}
 use Rattle.steer.proofs.following.follow_best.Goals as goal
 
 pub way_home-requires : goal.way_home-requires
-way_home-requires c = let s = c in (s.requires.0, s.requires.1.0)
+way_home-requires c = record { guided_fit = c.requires.guided_fit; line_value = c.requires.line_value.0 }
 
 pub returns-in_default : goal.returns-in_default
 unfolding follow
@@ -33,15 +33,15 @@ returns-in_default c =
     k.ensures
 
 pub engage_at-engaged-requires : goal.engage_at-engaged-requires
-engage_at-engaged-requires c = (c.requires.0 []).course
+engage_at-engaged-requires c = (c.requires.guided_fit []).course
 
 pub brought-requires : goal.brought-requires
 brought-requires c =
     let g = c.args in
     let near = c.in-Found.near in
     λ w. engaged-fits (whole g.h w) (whole c.engage_at-engaged.result w) (course_of (whole g.h w) g.line.now) near.end
-    g.now-ms (c.engage_at-engaged.ensures w) (length g.crumbs.now) (length g.line.now) (c.requires.0 w)
-    (subst (λ (b : Best). InLine g.h.course.line_len b) c.in-Found.is c.requires.1.1)
+    g.now-ms (c.engage_at-engaged.ensures w) (length g.crumbs.now) (length g.line.now) (c.requires.guided_fit w)
+    (subst (λ (b : Best). InLine g.h.course.line_len b) c.in-Found.is c.requires.line_value.1)
 
 pub returns : goal.returns
 returns c =

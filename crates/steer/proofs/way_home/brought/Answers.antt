@@ -6,8 +6,8 @@ use borrow.Author.Rules.{rules}
 use Rattle.steer.proofs.way_home.brought.Goals as goal
 
 pub returns-in_default : goal.returns-in_default
-returns-in_default c = λ w. let s = c.before.before.before.before in let g = s.args in
-    brought-nowhere (whole g.h w) g.crumbs.now g.line.now g.now-ms c.in_default.is (s.requires w).trail
+returns-in_default c = λ w. let g = c.args in
+    brought-nowhere (whole g.h w) g.crumbs.now g.line.now g.now-ms c.in_default.is (c.requires w).trail
 
 pub returns : goal.returns
 returns c = λ w.

@@ -9,7 +9,7 @@ use borrow.Author.Rules.{rules}
 use Rattle.steer.proofs.way_home.way_home.Goals as goal
 
 pub flush-flushed-requires : goal.flush-flushed-requires
-flush-flushed-requires c = (c.requires.0 []).trail
+flush-flushed-requires c = (c.requires.guided_fit []).trail
 
 pub engage-engaged-requires : goal.engage-engaged-requires
 engage-engaged-requires c =
@@ -17,7 +17,7 @@ engage-engaged-requires c =
     let k = c.flush-flushed in
     let w = g.window.now in
     flushed-fits (whole g.h w) (whole k.result w) g.crumbs.now k.new.1.1.0 k.ensures (length g.line.now)
-    (c.requires.0 w).course
+    (c.requires.guided_fit w).course
 
 pub engaged_or-requires : goal.engaged_or-requires
 engaged_or-requires c =
@@ -28,8 +28,8 @@ engaged_or-requires c =
     let h = whole g.h v in
     let f = whole k.result v in
     let exit = k.new.1.1.0 in
-    let room = (flushed-fits h f g.crumbs.now exit k.ensures (length g.line.now) (c.requires.0 v).course).1 in
-    let idle = idle-flushed h f g.crumbs.now exit k.ensures c.requires.1 in
+    let room = (flushed-fits h f g.crumbs.now exit k.ensures (length g.line.now) (c.requires.guided_fit v).course).1 in
+    let idle = idle-flushed h f g.crumbs.now exit k.ensures c.requires.line_value in
     λ w. home_fits (whole k.result w) (decided_in e.result w) (course_of f g.line.now) g.now-ms exit (e.ensures w)
     (length g.line.now) k.ensures.fit room idle
 
