@@ -39,7 +39,8 @@ fn read_behind(input: &mut impl Read, file: &mut [u8], kept: usize) -> Got
 
 // Reads the input to its end, or until the file is full.
 fn read_input(input: &mut impl Read, file: &mut [u8]) -> Got
-    ensures { result.bytes ≤ length file.new }
+    ensures within { result.bytes ≤ length file.new }
+    ensures front { result.bytes ≡ length (take result.bytes file.new) }
 {
     let mut kept = 0;
     while kept < file.len() {
