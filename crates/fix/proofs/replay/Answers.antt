@@ -9,12 +9,12 @@ use Rattle.fix.proofs.replay.Goals as goal
 
 pub replay_parts-after-requires : goal.replay_parts-after-requires
 replay_parts-after-requires c =
-    let long : length c.args.h.window ≡ 96 = length_unmapped _ c.args.h.window 96 c.well_formed.0.1.1.1.0.1.0.1 in
+    let long : length c.args.h.window ≡ 96 = c.well_formed.0.1.1.1.0.1.0.1 in
     (long, subst (λ (g : Ridden). trail.TrailFit g.trail (length c.args.crumbs.now)) (sym c.taken_apart-g.ensures) c.requires)
 
 pub returns : goal.returns
 returns c =
     let a = c.args in
-    replays-whole a.now-ms (handed-fix a.lat a.lon c.ranges.lat.sfits c.ranges.lon.sfits) c.taken_apart-g.ensures
+    replays-whole a.now_ms (handed-fix a.lat a.lon c.ranges.lat.sfits c.ranges.lon.sfits) c.taken_apart-g.ensures
     c.put_together.ensures
     (c.replay_parts-after.ensures.follows a.h)

@@ -16,7 +16,7 @@ returns-in_default c = λ w. left-nowhere (whole c.args.h w) c.args.matched c.ar
 pub returns : goal.returns
 unfolding track
 returns c = λ w. let g = c.args in let k = c.keep in
-    subst (λ (x : Spot). Follows (λ C. leave_at C x g.segment) (whole g.h w) g.crumbs.now (whole k.result w) k.new.1.0)
+    subst (λ (x : Spot). Follows (λ C. leave_at C x g.segment) (whole g.h w) g.crumbs.now (whole k.result w) k.new.crumbs)
     (sym c.in-At.is)
-    (left_at (whole g.h w) _ (whole k.result w) c.in-At.p g.segment g.crumbs.now k.new.1.0
+    (left_at (whole g.h w) _ (whole k.result w) c.in-At.p g.segment g.crumbs.now k.new.crumbs
     (cut-state (whole g.h w) g.segment g.crumbs.now c.requires.1) c.requires.1 (k.ensures w))

@@ -31,4 +31,4 @@ unfolding stop_on
 returns-in-Breadcrumb c = λ w. let g = c.args in
     let k = c.stop_breadcrumb in
     stops-on stop_breadcrumb line.Breadcrumb (whole g.h w) (whole k.result w) g.crumbs.now
-    k.new.1.0 c.in-Breadcrumb.is (λ C t. refl) (k.ensures w)
+    k.new.crumbs c.in-Breadcrumb.is (λ C t. refl) (k.ensures w)

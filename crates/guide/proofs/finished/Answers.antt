@@ -15,4 +15,4 @@ returns c = λ s x.
     c.on_course.ensures
     c.long_enough-long.ensures
     (c.arrival_from-a.ensures s)
-    (c.guide_at-guide.ensures g.crumbs.now _ (record { follow = refl; c = refl; heading = x.heading; crumbs = x.crumbs }))
+    (c.guide_at-guide.ensures g.crumbs.now _ (record { follow = refl; arrived = refl; heading = x.heading; crumbs = x.crumbs }))

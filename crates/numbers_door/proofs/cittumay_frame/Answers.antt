@@ -26,4 +26,4 @@ pub returns : goal.returns
 returns c =
     let g = c.args in
     let h = c.ranges in
-    c.frame-place.ensures ∙ handed g.lat0 g.lon0 g.lat g.lon g.east-per-e7 h.lat0 h.lon0 h.lat h.lon
+    c.frame-place.ensures ∙ handed g.lat0 g.lon0 g.lat g.lon g.east_per_e7 h.lat0 h.lon0 h.lat h.lon

@@ -38,5 +38,5 @@ unfolding visit visit_kind
 returns c =
     let g = c.args in
     let k = c.visit_samples in
-    subst (λ (x : Kind). Makes (visit_kind x g.e g.r) g.h g.crumbs.now k.result k.new.1.1.0)
+    subst (λ (x : Kind). Makes (visit_kind x g.e g.r) g.h g.crumbs.now k.result k.new.crumbs)
     (sym c.in-Samples.is) k.ensures

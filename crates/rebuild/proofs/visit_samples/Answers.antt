@@ -16,7 +16,7 @@ loop-i-init c =
     let four : length c.args.t4.samples ≡ 4 =
     sym (length-map c.args.t4.samples _) ∙ c.well_formed.1.1.1.0.1.1.1.1.1.0.1.0.1 in
     let few : c.args.t4.count ≤ 4 = c.requires.count_bound in
-    let long : length c.args.h.window ≡ 96 = length_unmapped _ c.args.h.window 96 c.well_formed.1.0.1.1.1.0.1.0.1 in
+    let long : length c.args.h.window ≡ 96 = c.well_formed.1.0.1.1.1.0.1.0.1 in
     (going_start c.taken_apart-parts.ensures c.requires.trail_fit (subst (λ n. c.args.t4.count ≤ n) (sym four) few), long)
 
 pub bounds-e-i : goal.bounds-e-i

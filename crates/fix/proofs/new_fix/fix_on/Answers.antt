@@ -23,7 +23,7 @@ unfolding fix_on
 returns-in-Breadcrumb c =
     let g = c.args in
     let u = c.update in
-    by-line (whole g.h g.window.now) lines.Breadcrumb g.line.now g.crumbs.now u.new.1.0 g.p g.now-ms
+    by-line (whole g.h g.window.now) lines.Breadcrumb g.line.now g.crumbs.now u.new.crumbs g.p g.now_ms
     (told_in u.result g.window.now)
     c.in-Breadcrumb.is (u.ensures g.window.now)
 
@@ -32,14 +32,14 @@ unfolding fix_on
 returns-in-Course c =
     let g = c.args in
     let u = c.add_update in
-    by-line (whole g.h g.window.now) lines.Course g.line.now g.crumbs.now u.new.1.1.0 g.p g.now-ms
-    (told_in u.result u.new.1.0)
+    by-line (whole g.h g.window.now) lines.Course g.line.now g.crumbs.now u.new.crumbs g.p g.now_ms
+    (told_in u.result u.new.window)
     c.in-Course.is u.ensures
 
 pub returns-in-Nothing : goal.returns-in-Nothing
 returns-in-Nothing c =
     let g = c.args in
     let u = c.unfollowed in
-    by-line (whole g.h g.window.now) lines.Nothing g.line.now g.crumbs.now u.new.1.1.0 g.p g.now-ms
-    (told_in u.result u.new.1.0)
+    by-line (whole g.h g.window.now) lines.Nothing g.line.now g.crumbs.now u.new.crumbs g.p g.now_ms
+    (told_in u.result u.new.window)
     c.in-Nothing.is u.ensures

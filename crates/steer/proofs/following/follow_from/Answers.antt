@@ -20,14 +20,11 @@ near_here-best-requires c = (c.requires []).course
 
 pub follow_best-requires : goal.follow_best-requires
 follow_best-requires c =
-    let g = c.args in (
-      c.requires,
-      (
+    let g = c.args in record { guided_fit = c.requires; line_value = (
         c.in-Nothing.is,
         subst (λ (b : Best). InLine g.h.course.line_len b)
             (sym (c.near_here-best.ensures [])) (near-in g.h.here (whole g.h []) g.line.now),
-      ),
-    )
+      ) }
 
 pub returns-in-Nothing : goal.returns-in-Nothing
 unfolding follow_from
@@ -38,12 +35,12 @@ returns-in-Nothing c =
     let w = g.window.now in
     let h = whole g.h w in
     let l = course_of h g.line.now in
-    decides-as (λ C. follow_from g.h.follow.line C l g.now-ms) (λ C. follow
-    c.near_here-best.result C l g.now-ms) h g.crumbs.now (decided_in k.result w)
-    k.new.1.1.1.0
-    (ap (λ (x : Line). follow_from x C l g.now-ms (state_of h g.crumbs.now))
+    decides-as (λ C. follow_from g.h.follow.line C l g.now_ms) (λ C. follow
+    c.near_here-best.result C l g.now_ms) h g.crumbs.now (decided_in k.result w)
+    k.new.crumbs
+    (ap (λ (x : Line). follow_from x C l g.now_ms (state_of h g.crumbs.now))
     c.in-Nothing.is
-    ∙ sym (ap (λ (b : Best). follow b C l g.now-ms (state_of h g.crumbs.now))
+    ∙ sym (ap (λ (b : Best). follow b C l g.now_ms (state_of h g.crumbs.now))
     (c.near_here-best.ensures w)))
     k.ensures
 
@@ -55,9 +52,9 @@ returns-in-Breadcrumb c =
     let w = g.window.now in
     let h = whole g.h w in
     let l = course_of h g.line.now in
-    decides-as (λ C. follow_from g.h.follow.line C l g.now-ms) (λ C. brought C l g.now-ms) h g.crumbs.now
-    (decided_in k.result w) k.new.1.0
-    (ap (λ (x : Line). follow_from x (capacity (length g.crumbs.now)) l g.now-ms (state_of h g.crumbs.now))
+    decides-as (λ C. follow_from g.h.follow.line C l g.now_ms) (λ C. brought C l g.now_ms) h g.crumbs.now
+    (decided_in k.result w) k.new.crumbs
+    (ap (λ (x : Line). follow_from x (capacity (length g.crumbs.now)) l g.now_ms (state_of h g.crumbs.now))
     c.in-Breadcrumb.is)
     (k.ensures w)
 
@@ -69,8 +66,8 @@ returns-in-Course c =
     let w = g.window.now in
     let h = whole g.h w in
     let l = course_of h g.line.now in
-    decides-as (λ C. follow_from g.h.follow.line C l g.now-ms) (λ C. brought C l g.now-ms) h g.crumbs.now
-    (decided_in k.result w) k.new.1.0
-    (ap (λ (x : Line). follow_from x (capacity (length g.crumbs.now)) l g.now-ms (state_of h g.crumbs.now))
+    decides-as (λ C. follow_from g.h.follow.line C l g.now_ms) (λ C. brought C l g.now_ms) h g.crumbs.now
+    (decided_in k.result w) k.new.crumbs
+    (ap (λ (x : Line). follow_from x (capacity (length g.crumbs.now)) l g.now_ms (state_of h g.crumbs.now))
     c.in-Course.is)
     (k.ensures w)

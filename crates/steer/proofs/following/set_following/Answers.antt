@@ -9,4 +9,4 @@ set_on-d-requires c = fit_apart c.without_window-g.ensures c.requires
 pub returns : goal.returns
 returns c =
     let a = c.args in
-    set-whole a.follow a.now-ms a.line.now c.without_window-g.ensures c.with_window.ensures c.set_on-d.ensures
+    set-whole a.follow a.now_ms a.line.now c.without_window-g.ensures c.with_window.ensures c.set_on-d.ensures
