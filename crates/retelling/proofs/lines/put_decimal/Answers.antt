@@ -6,4 +6,4 @@ use Rattle.retelling.proofs.lines.put_decimal.Goals as goal
 pub returns : goal.returns
 returns c =
     let made = c.decimal-count.ensures in
-    writes-decimal _ _ made.1.0 made.1.1 c.put_word.ensures
+    writes-decimal _ _ made.len made.digits c.put_word.ensures
