@@ -1,12 +1,10 @@
 -- `numbers_door::cittumay_frame` meets its contract.
 use mathlib.Core.Path.{◌≡◌, ap, ◌∙◌}
-use borrow.Author.Rules.{rules}
 use lib.IntN.{ℤ}
 use lib.Ieee.{Float}
 use mir.Syntax.{w32}
 use mir.Val.{SFits, to_z, of_z}
 use mir.ValLaws.{to_z-of_z}
-use Rattle.plane.specs.declared.Point.{Point}
 use Rattle.plane.specs.Fix.{frame}
 use Rattle.numbers_door.proofs.cittumay_frame.Goals as goal
 
@@ -26,4 +24,4 @@ pub returns : goal.returns
 returns c =
     let g = c.args in
     let h = c.ranges in
-    c.frame-place.ensures ∙ handed g.lat0 g.lon0 g.lat g.lon g.east-per-e7 h.lat0 h.lon0 h.lat h.lon
+    c.frame-place.ensures ∙ handed g.lat0 g.lon0 g.lat g.lon g.east_per_e7 h.lat0 h.lon0 h.lat h.lon
