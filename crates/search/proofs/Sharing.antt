@@ -1,5 +1,4 @@
 -- A share along a segment. Assumes nothing.
-use Prim.Native.Nat.{◌-◌}
 use mathlib.Core.Path.{◌≡◌, sym}
 use mathlib.Core.Bool.{true, false}
 use lib.Ieee.{Float, lt}

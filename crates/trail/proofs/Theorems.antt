@@ -24,7 +24,7 @@ use Rattle.thin.specs.Crumb.{measuring_pass, doubled, target, Thinning, passes_f
 use Rattle.thin.specs.Theorems.{doubled_by}
 use Rattle.thin.proofs.Theorems.{thins-any}
 use Rattle.trail.specs.Notes.{Note, Kept, Thinned}
-use Rattle.crumbs.specs.Along.{realong_behind, realong}
+use Rattle.crumbs.specs.Along.{crumb_of, along_to, realong_behind, realong}
 use Rattle.trail.specs.Trail.{window_places, Track, thin, put, keep, flush, wait, strays, simplify, add}
 use Rattle.trail.proofs.Rules.{keep-full, keep-room, flush-none, flush-some, bends, simplify-bends, simplify-straight, add-first}
 use Rattle.trail.proofs.Rules.{near, add-near, add-far}
@@ -33,7 +33,7 @@ use Rattle.trail.proofs.Rules.{near, add-near, add-far}
 behind_places : (a : Crumb) (l : List Crumb) → map point (realong_behind a l) ≡ map point l
 unfolding realong_behind
 behind_places a [] = refl
-behind_places a (b ∷ l) = ap (λ m. point b ∷ m) (behind_places _ l)
+behind_places a (b ∷ l) = ap (λ m. point b ∷ m) (behind_places (crumb_of (point b) (along_to a (point b))) l)
 
 -- changes no place
 pub realong-places : (l : List Crumb) → map point (realong l) ≡ map point l
@@ -44,7 +44,7 @@ realong-places (a ∷ l) = ap (λ m. point a ∷ m) (behind_places a l)
 length-behind : (a : Crumb) (l : List Crumb) → length (realong_behind a l) ≡ length l
 unfolding realong_behind
 length-behind a [] = refl
-length-behind a (b ∷ l) = ap suc (length-behind _ l)
+length-behind a (b ∷ l) = ap suc (length-behind (crumb_of (point b) (along_to a (point b))) l)
 
 pub length-realong : (l : List Crumb) → length (realong l) ≡ length l
 unfolding realong

@@ -5,10 +5,8 @@ use Rattle.course.proofs.framed.Goals as goal
 
 pub returns-in-At : goal.returns-in-At
 returns-in-At c =
-    let origin = c.origin-1.given in
-    let known = c.known_told-1.given in
     framed_at c.args.f c.args.lat c.args.lon c.ranges.lat.sfits c.ranges.lon.sfits
-    origin.0.0 origin.0.1.0 known.0.1 known.1.0.1 origin.1 c.frame.ensures
+    c.in-At.lat0 c.in-At.lon0 (search rules) (search rules) c.in-At.is c.frame.ensures
 
 pub returns-in-Missing : goal.returns-in-Missing
 returns-in-Missing c =

@@ -16,7 +16,7 @@ loop-k-preserved c =
     let s = c.args in
     let at = c.count-n.result - 1 - c.loop-k.k in
     placing-on c.loop-k.invariant c.loop-k-test.true
-    (framed-handed s.f (get_or s.lats.now at (pos 0)) (get_or s.lons.now at (pos 0)) c.lat-1.given c.lon-1.given
+    (framed-handed s.f (get_or s.lats.now at (pos 0)) (get_or s.lons.now at (pos 0)) (search rules) (search rules)
     c.framed-p.ensures)
     c.recorded_m.ensures c.put.ensures
 

@@ -12,10 +12,10 @@ pub returns-then-is_at : goal.returns-then-is_at
 returns-then-is_at c =
     let g = c.args in
     ap (λ (n : ℕ). ltb fix_lost_ms n) c.elapsed.ensures
-    ∙ sym (ap (λ (x : Bool). x && ltb fix_lost_ms (elapsed g.now-ms g.h.here_ms))
+    ∙ sym (ap (λ (x : Bool). x && ltb fix_lost_ms (elapsed g.now_ms g.h.here_ms))
     (sym c.is_at.ensures ∙ c.if-is_at.true))
 
 pub returns : goal.returns
 returns c =
     let g = c.args in
-    sym (ap (λ (x : Bool). x && ltb fix_lost_ms (elapsed g.now-ms g.h.here_ms)) (sym c.is_at.ensures ∙ c.if-is_at.false))
+    sym (ap (λ (x : Bool). x && ltb fix_lost_ms (elapsed g.now_ms g.h.here_ms)) (sym c.is_at.ensures ∙ c.if-is_at.false))

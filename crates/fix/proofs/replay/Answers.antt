@@ -15,6 +15,6 @@ replay_parts-after-requires c =
 pub returns : goal.returns
 returns c =
     let a = c.args in
-    replays-whole a.now-ms (handed-fix a.lat a.lon c.ranges.lat.sfits c.ranges.lon.sfits) c.taken_apart-g.ensures
+    replays-whole a.now_ms (handed-fix a.lat a.lon c.ranges.lat.sfits c.ranges.lon.sfits) c.taken_apart-g.ensures
     c.put_together.ensures
-    (c.replay_parts-after.ensures.0 a.h)
+    (c.replay_parts-after.ensures.follows a.h)

@@ -12,7 +12,7 @@ returns c =
     let x : Fix = record { lat = a.lat; lon = a.lon } in
     let same = handed-fix a.lat a.lon c.ranges.lat.sfits c.ranges.lon.sfits in
     let f = c.located-frame.result in (
-      (λ h. replays-parts (ridden a.g a.window.now h) x a.now-ms f c.framed-p.result c.track_heading-motion.result
+      (λ h. replays-parts (ridden a.g a.window.now h) x a.now_ms f c.framed-p.result c.track_heading-motion.result
           c.add-added.result _
           c.after_thinning-follow.result c.passing-lap.result a.crumbs.now _
           (c.located-frame.ensures ∙ ap (λ (y : Fix). located y a.g.frame) same)

@@ -17,11 +17,11 @@ overflow_sub-len c =
 pub returns-then-leads : goal.returns-then-leads
 returns-then-leads c = λ w.
     let g = c.args in
-    engaged (course_of (whole g.h w) g.line.now) g.now-ms (whole g.h w) g.crumbs.now (whole c.engage_at-guided.result w)
+    engaged (course_of (whole g.h w) g.line.now) g.now_ms (whole g.h w) g.crumbs.now (whole c.engage_at-guided.result w)
     (sym c.leads.ensures ∙ c.if-leads.true) (c.engage_at-guided.ensures w)
 
 pub returns : goal.returns
 returns c = λ w.
     let g = c.args in
-    refused (course_of (whole g.h w) g.line.now) g.now-ms (whole g.h w) g.crumbs.now
+    refused (course_of (whole g.h w) g.line.now) g.now_ms (whole g.h w) g.crumbs.now
     (sym c.leads.ensures ∙ c.if-leads.false)

@@ -6,4 +6,4 @@ use Rattle.follow.proofs.engage_at.Goals as goal
 
 pub returns : goal.returns
 unfolding engage_at
-returns c = λ w. record { same = λ b. simp (← c.course-from.ensures); trail = refl }
+returns c = λ w. record { same = λ b. simp (← c.course_from-next.ensures); trail = refl }

@@ -11,9 +11,9 @@ use Rattle.follow.proofs.stop_breadcrumb.Goals as goal
 
 pub returns : goal.returns
 unfolding forgotten track places
-returns c = λ w. let s = c.before.before.before.before.before.before.before.before.before in let g = s.args in
+returns c = λ w. let g = c.args in
     let h = whole g.h w in
     let k = c.leave_at in
-    stops_at h _ (whole k.result w) g.crumbs.now k.new.1.0 (ap (λ (x : Follow). with_follow x
+    stops_at h _ (whole k.result w) g.crumbs.now k.new.crumbs (ap (λ (x : Follow). with_follow x
     (with_track (forgotten (track h.trail w g.crumbs.now)) (state_of h g.crumbs.now)))
     c.stopped-forgotten.ensures) refl (k.ensures w)

@@ -6,4 +6,4 @@ use Rattle.follow.proofs.stop_course.Goals as goal
 
 pub returns : goal.returns
 unfolding stop_course
-returns c = λ w. record { same = λ b. simp (← c.before.stopped.ensures, ← c.held-off.ensures); trail = refl }
+returns c = λ w. record { same = λ b. simp (← c.stopped-next.ensures, ← c.held_off-next.ensures); trail = refl }

@@ -14,21 +14,21 @@ stop_breadcrumb-requires c =
 
 pub returns-in-Nothing : goal.returns-in-Nothing
 unfolding stop_on
-returns-in-Nothing c = λ w. let s = c.before.before.before.before.before in let g = s.args in
+returns-in-Nothing c = λ w. let g = c.args in
     stops-on (λ C t. done (tt {0}) (stop_nothing t)) line.Nothing (whole g.h w) (whole c.stop_nothing.result w)
     g.crumbs.now g.crumbs.now c.in-Nothing.is (λ C t. refl)
-    (unmoved stop_nothing (whole g.h w) (whole c.stop_nothing.result w) g.crumbs.now s.requires.0 (c.stop_nothing.ensures w))
+    (unmoved stop_nothing (whole g.h w) (whole c.stop_nothing.result w) g.crumbs.now c.requires.0 (c.stop_nothing.ensures w))
 
 pub returns-in-Course : goal.returns-in-Course
 unfolding stop_on
-returns-in-Course c = λ w. let s = c.before.before.before.before.before in let g = s.args in
+returns-in-Course c = λ w. let g = c.args in
     stops-on (λ C t. done (tt {0}) (stop_course t)) line.Course (whole g.h w) (whole c.stop_course.result w)
     g.crumbs.now g.crumbs.now c.in-Course.is (λ C t. refl)
-    (unmoved stop_course (whole g.h w) (whole c.stop_course.result w) g.crumbs.now s.requires.0 (c.stop_course.ensures w))
+    (unmoved stop_course (whole g.h w) (whole c.stop_course.result w) g.crumbs.now c.requires.0 (c.stop_course.ensures w))
 
 pub returns-in-Breadcrumb : goal.returns-in-Breadcrumb
 unfolding stop_on
-returns-in-Breadcrumb c = λ w. let s = c.before.before.before.before.before.before.before.before in let g = s.args in
+returns-in-Breadcrumb c = λ w. let g = c.args in
     let k = c.stop_breadcrumb in
     stops-on stop_breadcrumb line.Breadcrumb (whole g.h w) (whole k.result w) g.crumbs.now
-    k.new.1.0 c.in-Breadcrumb.is (λ C t. refl) (k.ensures w)
+    k.new.crumbs c.in-Breadcrumb.is (λ C t. refl) (k.ensures w)

@@ -6,4 +6,4 @@ use Rattle.follow.proofs.stop_nothing.Goals as goal
 
 pub returns : goal.returns
 unfolding stop_nothing
-returns c = λ w. record { same = λ b. simp (← c.stopped.ensures); trail = refl }
+returns c = λ w. record { same = λ b. simp (← c.stopped-next.ensures); trail = refl }

@@ -9,10 +9,10 @@ pub returns : goal.returns
 returns c = λ s x.
     let g = c.args in
     let course = crumbs g.x.placed g.line.now in
-    shows x course g.p g.w g.e c.requires.1
+    shows x course g.p g.w g.e c.requires.start_value
     c.goal_on-goal.ensures
     c.distance-direct.ensures
     c.on_course.ensures
     c.long_enough-long.ensures
     (c.arrival_from-a.ensures s)
-    (c.guide_at-guide.ensures g.crumbs.now _ (record { follow = refl; c = refl; heading = x.heading; crumbs = x.crumbs }))
+    (c.guide_at-guide.ensures g.crumbs.now _ (record { follow = refl; arrived = refl; heading = x.heading; crumbs = x.crumbs }))

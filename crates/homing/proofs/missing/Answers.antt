@@ -19,7 +19,7 @@ returns-then-number-ne0 c =
     let e = or_nothing c.asks_both-number.ensures in
     record {
       answered = no e _ c.if-number-ne0.true;
-      called = refuses (call.Observe g.line.now place.Missing g.now-ms) g.h g.crumbs.now e c.if-number-ne0.true;
+      called = refuses (call.Observe g.line.now place.Missing g.now_ms) g.h g.crumbs.now e c.if-number-ne0.true;
     }
 
 pub returns : goal.returns
@@ -31,6 +31,6 @@ returns c =
     let k = c.missing-homing in
     record {
       answered = yes e c.if-number-ne0.false refl;
-      called = takes (call.Observe g.line.now place.Missing g.now-ms) g.h k.result b b (sym e ∙ c.if-number-ne0.false)
+      called = takes (call.Observe g.line.now place.Missing g.now_ms) g.h k.result b b (sym e ∙ c.if-number-ne0.false)
           (k.ensures.same b) refl refl;
     }

@@ -9,14 +9,13 @@ use Rattle.homing.proofs.observe.Goals as goal
 pub returns-in_default : goal.returns-in_default
 returns-in_default c =
     let g = c.args in
-    subst (λ (x : Place). Observes g.line.now x g.now-ms g.h g.crumbs.now c.missing.result g.crumbs.now)
+    subst (λ (x : Place). Observes g.line.now x g.now_ms g.h g.crumbs.now c.missing.result g.crumbs.now)
     (sym c.in_default.is) c.missing.ensures
 
 pub returns : goal.returns
 returns c =
     let g = c.args in
     let u = c.seen in
-    let known = c.known_told-1.given in
-    let at = c.place-1.given in
-    subst (λ (x : Place). Observes g.line.now x g.now-ms g.h g.crumbs.now u.result u.new.1.0)
-    (same_at at.0.0 at.0.1.0 known.0.1 known.1.0.1 ∙ sym at.1) u.ensures
+    let known = c.in-At.known_told-1-own.given in
+    subst (λ (x : Place). Observes g.line.now x g.now_ms g.h g.crumbs.now u.result u.new.crumbs)
+    (same_at c.in-At.lat c.in-At.lon known.0.1 known.1.0.1 ∙ sym c.in-At.is) u.ensures

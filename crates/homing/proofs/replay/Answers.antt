@@ -23,13 +23,13 @@ returns-then-number-ne0 c =
     let g = c.args in
     let b = g.crumbs.now in
     let x : Fix = record { lat = g.lat; lon = g.lon } in
-    let e = c.asks_replay-number.ensures g.at-ms
-    ∙ ap (λ (y : Fix). asks (length b) (call.Replay y g.at-ms) (state_of g.h b))
+    let e = c.asks_replay-number.ensures g.at_ms
+    ∙ ap (λ (y : Fix). asks (length b) (call.Replay y g.at_ms) (state_of g.h b))
     (handed-fix g.lat g.lon c.ranges.lat.sfits c.ranges.lon.sfits) in
-    subst (λ (r : Changed). Replays x g.at-ms g.h b r b) (sym c.refused.ensures)
+    subst (λ (r : Changed). Replays x g.at_ms g.h b r b) (sym c.refused.ensures)
     (record {
       answered = no e tt c.if-number-ne0.true;
-      called = refuses (call.Replay x g.at-ms) g.h b e c.if-number-ne0.true;
+      called = refuses (call.Replay x g.at_ms) g.h b e c.if-number-ne0.true;
     })
 
 pub replay-grown-requires : goal.replay-grown-requires
@@ -45,15 +45,15 @@ returns c =
     let b = g.crumbs.now in
     let x : Fix = record { lat = g.lat; lon = g.lon } in
     let same = handed-fix g.lat g.lon c.ranges.lat.sfits c.ranges.lon.sfits in
-    let e = c.asks_replay-number.ensures g.at-ms
-    ∙ ap (λ (y : Fix). asks (length b) (call.Replay y g.at-ms) (state_of g.h b)) same in
+    let e = c.asks_replay-number.ensures g.at_ms
+    ∙ ap (λ (y : Fix). asks (length b) (call.Replay y g.at_ms) (state_of g.h b)) same in
     let k = c.replay-grown in
     let C = capacity (length b) in
-    subst (λ (r : Changed). Replays x g.at-ms g.h b r k.new.1.0) (sym c.taken.ensures)
+    subst (λ (r : Changed). Replays x g.at_ms g.h b r k.new.crumbs) (sym c.taken.ensures)
     (record {
       answered = yes e c.if-number-ne0.false refl;
       called =
-          takes-rule (call.Replay x g.at-ms) g.h k.result b k.new.1.0 (λ D. replay D _ g.at-ms)
+          takes-rule (call.Replay x g.at_ms) g.h k.result b k.new.crumbs (λ D. replay D _ g.at_ms)
           (sym e ∙ c.if-number-ne0.false)
-          (ap (λ (y : Fix). (replay C y g.at-ms (state_of g.h b)).state) same) k.ensures;
+          (ap (λ (y : Fix). (replay C y g.at_ms (state_of g.h b)).state) same) k.ensures;
     })

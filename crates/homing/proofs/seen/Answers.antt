@@ -23,12 +23,12 @@ unfolding says_sight
 returns-then-number-ne0 c =
     let g = c.args in
     let b = g.crumbs.now in
-    let e = c.asks_seen-number.ensures g.now-ms
-    ∙ ap (λ (x : Place). asks (length b) (call.Observe g.line.now x g.now-ms) (state_of g.h b))
+    let e = c.asks_seen-number.ensures g.now_ms
+    ∙ ap (λ (x : Place). asks (length b) (call.Observe g.line.now x g.now_ms) (state_of g.h b))
     (same_at g.lat g.lon c.ranges.lat.sfits c.ranges.lon.sfits) in
     record {
       answered = no e _ c.if-number-ne0.true;
-      called = refuses (call.Observe g.line.now (place.At g.lat g.lon) g.now-ms) g.h b e c.if-number-ne0.true;
+      called = refuses (call.Observe g.line.now (place.At g.lat g.lon) g.now_ms) g.h b e c.if-number-ne0.true;
     }
 
 pub seen-t-requires : goal.seen-t-requires
@@ -44,17 +44,17 @@ returns c =
     let b = g.crumbs.now in
     let l = course_in g.line.now (state_of g.h b) in
     let same = handed-fix g.lat g.lon c.ranges.lat.sfits c.ranges.lon.sfits in
-    let e = c.asks_seen-number.ensures g.now-ms
-    ∙ ap (λ (x : Place). asks (length b) (call.Observe g.line.now x g.now-ms) (state_of g.h b))
+    let e = c.asks_seen-number.ensures g.now_ms
+    ∙ ap (λ (x : Place). asks (length b) (call.Observe g.line.now x g.now_ms) (state_of g.h b))
     (same_at g.lat g.lon c.ranges.lat.sfits c.ranges.lon.sfits) in
     let u = c.seen-t in
     let C = capacity (length b) in
     record {
       answered = yes e c.if-number-ne0.false
-          (u.ensures.told ∙ ap (λ (x : Fix). (seen C l x g.now-ms (state_of g.h b)).answer) same);
+          (u.ensures.told ∙ ap (λ (x : Fix). (seen C l x g.now_ms (state_of g.h b)).answer) same);
       called =
-          takes-rule (call.Observe g.line.now (place.At g.lat g.lon) g.now-ms) g.h u.result.homing b u.new.1.0
-          (λ D. seen D l _ g.now-ms) (sym e ∙ c.if-number-ne0.false)
-          (ap (λ (x : Fix). (seen C l x g.now-ms (state_of g.h b)).state) same)
+          takes-rule (call.Observe g.line.now (place.At g.lat g.lon) g.now_ms) g.h u.result.homing b u.new.crumbs
+          (λ D. seen D l _ g.now_ms) (sym e ∙ c.if-number-ne0.false)
+          (ap (λ (x : Fix). (seen C l x g.now_ms (state_of g.h b)).state) same)
           u.ensures.follows;
     }

@@ -38,9 +38,9 @@ returns c =
     let b = g.crumbs.now in
     let e = c.asks_crumbs-number.ensures in
     let k = c.set_auto_follow-chosen in
-    subst (λ (r : Changed). SetsAuto g.on g.h b r k.new.1.0) (sym c.taken.ensures)
+    subst (λ (r : Changed). SetsAuto g.on g.h b r k.new.crumbs) (sym c.taken.ensures)
     (record {
       answered = yes e c.if-number-ne0.false refl;
-      called = takes-rule (call.SetAutoFollow g.on) g.h k.result b k.new.1.0 (set_auto_follow g.on)
+      called = takes-rule (call.SetAutoFollow g.on) g.h k.result b k.new.crumbs (set_auto_follow g.on)
           (sym e ∙ c.if-number-ne0.false) refl k.ensures;
     })

@@ -44,12 +44,12 @@ returns c =
     let xs = fixes g.lats.now g.lons.now in
     let e = c.asks_course-number.ensures in
     let k = c.set_course-lined in
-    subst (λ (r : Changed). SetsCourse xs g.h l r k.new.1.0) (sym c.taken.ensures)
+    subst (λ (r : Changed). SetsCourse xs g.h l r k.new.line) (sym c.taken.ensures)
     (record {
       answered = λ b. yes (e b) c.if-number-ne0.false refl;
       called = λ b. takes (call.SetCourse l xs) g.h k.result b b (sym (e b) ∙ c.if-number-ne0.false)
           (k.ensures.same b) refl refl;
-      placed = λ b _. places-line xs g.h k.result l k.new.1.0 k.ensures;
+      placed = λ b _. places-line xs g.h k.result l k.new.line k.ensures;
       refused = λ b ne. absurd (ne (sym (e b) ∙ c.if-number-ne0.false));
       size = k.ensures.size;
     })

@@ -18,7 +18,7 @@ returns-then-number-ne0 c =
     let e = c.asks_both-number.ensures in
     record {
       answered = no e _ c.if-number-ne0.true;
-      called = refuses (call.SetFollowing g.line.now g.follow g.now-ms) g.h g.crumbs.now e c.if-number-ne0.true;
+      called = refuses (call.SetFollowing g.line.now g.follow g.now_ms) g.h g.crumbs.now e c.if-number-ne0.true;
     }
 
 pub set_following-a-requires : goal.set_following-a-requires
@@ -35,7 +35,7 @@ returns c =
     record {
       answered = yes e c.if-number-ne0.false k.ensures.answered;
       called =
-          takes-rule (call.SetFollowing g.line.now g.follow g.now-ms) g.h k.result.homing b k.new.1.0
-          (λ C. set_following g.follow C (course_in g.line.now (state_of g.h b)) g.now-ms)
+          takes-rule (call.SetFollowing g.line.now g.follow g.now_ms) g.h k.result.homing b k.new.crumbs
+          (λ C. set_following g.follow C (course_in g.line.now (state_of g.h b)) g.now_ms)
           (sym e ∙ c.if-number-ne0.false) refl k.ensures.follows;
     }

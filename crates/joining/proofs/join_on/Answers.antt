@@ -15,4 +15,4 @@ returns-in-Segment c = λ s.
 
 pub returns-in-NoSegment : goal.returns-in-NoSegment
 unfolding join_on joined_to
-returns-in-NoSegment c = λ s. record { answered = simp c.enum_told.given.1; same = simp c.in-NoSegment.is }
+returns-in-NoSegment c = λ s. record { answered = simp c.in-NoSegment.is; same = simp c.in-NoSegment.is }

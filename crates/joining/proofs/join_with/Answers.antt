@@ -6,19 +6,17 @@ use Rattle.joining.proofs.join_with.Goals as goal
 
 pub returns-in_default : goal.returns-in_default
 returns-in_default c = λ s. let g = c.args in
-    unknown g.auto-follow g.c g.line.now s g.p g.heading c.in_default.is
+    unknown g.auto_follow g.c g.line.now s g.p g.heading c.in_default.is
 
 pub returns-then-may_join : goal.returns-then-may_join
 returns-then-may_join c = λ s.
-    let told = c.heading-1.given in
     let g = c.args in
     c.joined.ensures
-    ∙ found g.auto-follow g.c g.line.now s g.p g.heading told.0.0 told.1 c.may_join.result
+    ∙ found g.auto_follow g.c g.line.now s g.p g.heading c.in-Known.known c.in-Known.is c.may_join.result
     c.may_join.ensures c.if-may_join.true
 
 pub returns : goal.returns
 returns c = λ s.
-    let told = c.heading-1.given in
     let g = c.args in
-    none g.auto-follow g.c g.line.now s g.p g.heading told.0.0 told.1 c.may_join.result
+    none g.auto_follow g.c g.line.now s g.p g.heading c.in-Known.known c.in-Known.is c.may_join.result
     c.may_join.ensures c.if-may_join.false

@@ -14,8 +14,8 @@ unfolding joining
 returns c = λ s same.
     let g = c.args in
     let course = crumbs g.c.line_len g.line.now in
-    let at : State = with_course g.c (with_auto_follow g.auto-follow s) in
+    let at : State = with_course g.c (with_auto_follow g.auto_follow s) in
     let is : c.join_with-join.result ≡ join_with s.motion.heading course g.p at =
     c.join_with-join.ensures s ∙ ap (λ (x : Heading). join_with x course g.p at) (sym same) in
-    let a = subst (λ (j : Join). Joins (join_on j) at c.join_on.result) is (c.join_on.ensures (with_auto_follow g.auto-follow s)) in
+    let a = subst (λ (j : Join). Joins (join_on j) at c.join_on.result) is (c.join_on.ensures (with_auto_follow g.auto_follow s)) in
     record { answered = a.answered; same = a.same }

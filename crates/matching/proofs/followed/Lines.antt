@@ -170,11 +170,11 @@ module _ (p : Point) (ends : Range) (len : ℕ) (low : 1 ≤ ends.from) (high : 
   met-in l Nothing met = tt
   met-in l (Found near) met = let m = met near refl in (omega (arith, m.from, low), omega (arith, m.to, high))
 
-  nearest_in : (on : Line) (course : List Crumb) (s : State) → InLine len (nearest on course p ends s)
+  nearest_in_line : (on : Line) (course : List Crumb) (s : State) → InLine len (nearest on course p ends s)
   unfolding nearest
-  nearest_in line.Course course s = met-in course _ (course-met course p ends low (progress s))
-  nearest_in line.Nothing course s = met-in s.track.crumbs _ (breadcrumb-met s.track.crumbs p ends)
-  nearest_in line.Breadcrumb course s = met-in s.track.crumbs _ (breadcrumb-met s.track.crumbs p ends)
+  nearest_in_line line.Course course s = met-in course _ (course-met course p ends low (progress s))
+  nearest_in_line line.Nothing course s = met-in s.track.crumbs _ (breadcrumb-met s.track.crumbs p ends)
+  nearest_in_line line.Breadcrumb course s = met-in s.track.crumbs _ (breadcrumb-met s.track.crumbs p ends)
 
 nearer-in : (len : ℕ) (near : Nearest) (best : Best) → InLine len (Found near) → InLine len best → InLine len (Found (nearer near best))
 unfolding nearer
@@ -197,7 +197,7 @@ module _ (course : List Crumb) (p : Point) (s : State) where
       all = record { from = 1; to = len - 1 }
 
       by : (t : Bool) → InLine len (Found (elim t [ true ↦ nearer near (nearest s.follow.line course p all s) | false ↦ near ]))
-      by true = nearer-in len near _ on (nearest_in p all len (omega arith) (omega (arith, on.1)) s.follow.line course s)
+      by true = nearer-in len near _ on (nearest_in_line p all len (omega arith) (omega (arith, on.1)) s.follow.line course s)
       by false = on
 
   widened-from-in : (best : Best) → InLine len best → InLine len (widened_from best course p s)
@@ -207,4 +207,4 @@ module _ (course : List Crumb) (p : Point) (s : State) where
 
   pub match-in : 2 ≤ len → InLine len (match_in course p s)
   unfolding match_in around_segment
-  match-in two = widened-from-in _ (nearest_in p _ len (low_end _ _ refl) (high_end _ _ _ two refl) s.follow.line course s)
+  match-in two = widened-from-in _ (nearest_in_line p _ len (low_end _ _ refl) (high_end _ _ _ two refl) s.follow.line course s)

@@ -9,13 +9,13 @@ use Rattle.questions.proofs.state_fits.Goals as goal
 
 pub returns-then-not-counts_fit : goal.returns-then-not-counts_fit
 unfolding state_fits
-returns-then-not-counts_fit c = λ b. simp (counts-counted, ← c.counts_fit.ensures, not-true c.counts_fit.result c.if-not-counts_fit.true)
+returns-then-not-counts_fit c = λ b. simp (counts-counted, ← c.counts_fit.ensures, c.if-not-counts_fit.true)
 
 pub window_fits-requires : goal.window_fits-requires
 window_fits-requires c =
     let h = c.args.t1 in
     window-counted h.trail h.follow h.course.line_len
-    (sym c.counts_fit.ensures ∙ not-false c.counts_fit.result c.if-not-counts_fit.false)
+    (sym c.counts_fit.ensures ∙ c.if-not-counts_fit.false)
 
 pub returns : goal.returns
 unfolding state_fits numbers_fit spots_fit track
@@ -23,7 +23,7 @@ returns c =
     λ b. simp (
       counts-counted,
       ← c.counts_fit.ensures,
-      not-false c.counts_fit.result c.if-not-counts_fit.false,
+      c.if-not-counts_fit.false,
       ← c.window_fits.ensures,
       ← c.spots_fit.ensures,
       ← c.along_fits.ensures,

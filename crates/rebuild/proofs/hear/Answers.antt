@@ -13,13 +13,11 @@ returns-in_default c =
 pub returns-then-skips : goal.returns-then-skips
 returns-then-skips c =
     let g = c.args in
-    let at = c.enum_told-1.given in
-    skipped g.later g.sample g.r c.ticked-on.result c.ticked-on.ensures (fix_at at.0.0 at.0.1.0) at.1
+    skipped g.later g.sample g.r c.ticked-on.result c.ticked-on.ensures (fix_at c.in-At.field-0 c.in-At.field-1) c.in-At.is
     (sym c.skips.ensures ∙ c.if-skips.true)
 
 pub returns : goal.returns
 returns c =
     let g = c.args in
-    let at = c.enum_told-1.given in
-    not-skipped g.later g.sample g.r c.ticked-on.result c.ticked-on.ensures (fix_at at.0.0 at.0.1.0) at.1
+    not-skipped g.later g.sample g.r c.ticked-on.result c.ticked-on.ensures (fix_at c.in-At.field-0 c.in-At.field-1) c.in-At.is
     (sym c.skips.ensures ∙ c.if-skips.false) c.stage_behind-stage.ensures c.starts_anew-anew.ensures

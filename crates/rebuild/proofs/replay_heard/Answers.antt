@@ -6,17 +6,16 @@ use Rattle.rebuild.proofs.replay_heard.Goals as goal
 
 pub returns-in_default : goal.returns-in_default
 returns-in_default c =
-    ((λ h. none-replayed c.args.x c.in_default.is c.requires.1), c.requires.0)
+    record { makes = (λ h. none-replayed c.args.x c.in_default.is c.requires.1); window_len = c.requires.0 }
 
 pub replay_parts-requires : goal.replay_parts-requires
 replay_parts-requires c = c.requires
 
 pub returns : goal.returns
 returns c =
-    let at = c.place-1.given in
     (
-      (λ h. one-replayed c.args.x (fix_at at.0.0 at.0.1.0) at.1
-          (handed-fix at.0.0 at.0.1.0 c.known_told-1.given.0.1 c.known_told-1.given.1.0.1)
-          (c.replay_parts.ensures.0 h)),
-      c.replay_parts.ensures.1,
+      (λ h. one-replayed c.args.x (fix_at c.in-At.lat c.in-At.lon) c.in-At.is
+          (handed-fix c.in-At.lat c.in-At.lon c.in-At.known_told-1-own.given.0.1 c.in-At.known_told-1-own.given.1.0.1)
+          (c.replay_parts.ensures.follows h)),
+      c.replay_parts.ensures.window_len,
     )

@@ -14,16 +14,14 @@ returns-in_default c = let a = c.args in sym (ap (λ (s : Stage). stage_behind s
 pub returns-then-later : goal.returns-then-later
 unfolding stage_behind
 returns-then-later c =
-    let told = c.stage-1.given in
     let a = c.args in
-    sym (ap (λ (s : Stage). stage_behind s a.later a.utc) told.1
-    ∙ ap (λ (b : Bool). stage_behind (stage.Pending told.0.0) b a.utc) c.if-later.true)
+    sym (ap (λ (s : Stage). stage_behind s a.later a.utc) c.in-Pending.is
+    ∙ ap (λ (b : Bool). stage_behind (stage.Pending c.in-Pending.last) b a.utc) c.if-later.true)
 
 pub returns : goal.returns
 unfolding stage_behind
 returns c =
-    let told = c.stage-1.given in
     let a = c.args in
     ap stage.Pending c.or_else-latest.ensures
-    ∙ sym (ap (λ (s : Stage). stage_behind s a.later a.utc) told.1
-    ∙ ap (λ (b : Bool). stage_behind (stage.Pending told.0.0) b a.utc) c.if-later.false)
+    ∙ sym (ap (λ (s : Stage). stage_behind s a.later a.utc) c.in-Pending.is
+    ∙ ap (λ (b : Bool). stage_behind (stage.Pending c.in-Pending.last) b a.utc) c.if-later.false)

@@ -14,16 +14,14 @@ returns-in_default c = let a = c.args in sym (ap (λ (s : Stage). starts_anew s 
 pub returns-then-later : goal.returns-then-later
 unfolding starts_anew
 returns-then-later c =
-    let told = c.stage-1.given in
     let a = c.args in
     ap not c.carries_on.ensures
-    ∙ sym (ap (λ (s : Stage). starts_anew s a.later a.utc) told.1
-    ∙ ap (λ (b : Bool). starts_anew (stage.Pending told.0.0) b a.utc) c.if-later.true)
+    ∙ sym (ap (λ (s : Stage). starts_anew s a.later a.utc) c.in-Pending.is
+    ∙ ap (λ (b : Bool). starts_anew (stage.Pending c.in-Pending.last) b a.utc) c.if-later.true)
 
 pub returns : goal.returns
 unfolding starts_anew
 returns c =
-    let told = c.stage-1.given in
     let a = c.args in
-    sym (ap (λ (s : Stage). starts_anew s a.later a.utc) told.1
-    ∙ ap (λ (b : Bool). starts_anew (stage.Pending told.0.0) b a.utc) c.if-later.false)
+    sym (ap (λ (s : Stage). starts_anew s a.later a.utc) c.in-Pending.is
+    ∙ ap (λ (b : Bool). starts_anew (stage.Pending c.in-Pending.last) b a.utc) c.if-later.false)

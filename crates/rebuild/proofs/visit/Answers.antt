@@ -31,12 +31,12 @@ returns-in_default c =
     let g = c.args in
     subst (λ (m : Made). Makes m g.h g.crumbs.now (visited g.r g.h) g.crumbs.now)
     (sym (not-samples g.e.kind g.e g.r c.in_default.keys2))
-    (makes-quiet g.r g.h g.crumbs.now c.requires.0)
+    (makes-quiet g.r g.h g.crumbs.now c.requires.trail_fit)
 
 pub returns : goal.returns
 unfolding visit visit_kind
 returns c =
     let g = c.args in
     let k = c.visit_samples in
-    subst (λ (x : Kind). Makes (visit_kind x g.e g.r) g.h g.crumbs.now k.result k.new.1.1.0)
+    subst (λ (x : Kind). Makes (visit_kind x g.e g.r) g.h g.crumbs.now k.result k.new.crumbs)
     (sym c.in-Samples.is) k.ensures

@@ -15,12 +15,12 @@ pub loop-i-init : goal.loop-i-init
 loop-i-init c =
     let four : length c.args.t4.samples ≡ 4 =
     sym (length-map c.args.t4.samples _) ∙ c.well_formed.1.1.1.0.1.1.1.1.1.0.1.0.1 in
-    let few : c.args.t4.count ≤ 4 = c.requires.1 in
+    let few : c.args.t4.count ≤ 4 = c.requires.count_bound in
     let long : length c.args.h.window ≡ 96 = length_unmapped _ c.args.h.window 96 c.well_formed.1.0.1.1.1.0.1.0.1 in
-    (going_start c.taken_apart-parts.ensures c.requires.0 (subst (λ n. c.args.t4.count ≤ n) (sym four) few), long)
+    (going_start c.taken_apart-parts.ensures c.requires.trail_fit (subst (λ n. c.args.t4.count ≤ n) (sym four) few), long)
 
 pub bounds-e-i : goal.bounds-e-i
-bounds-e-i c = omega (arith, c.loop-i-test.true, c.requires.1)
+bounds-e-i c = omega (arith, c.loop-i-test.true, c.requires.count_bound)
 
 pub replay_heard-parts-requires : goal.replay_heard-parts-requires
 replay_heard-parts-requires c =
@@ -35,7 +35,7 @@ replay_heard-parts-requires c =
 
 pub overflow_add-i : goal.overflow_add-i
 overflow_add-i c =
-    omega (arith, c.loop-i-test.true, c.requires.1)
+    omega (arith, c.loop-i-test.true, c.requires.count_bound)
 
 pub loop-i-smaller : goal.loop-i-smaller
 loop-i-smaller c =
@@ -51,8 +51,8 @@ loop-i-preserved c =
       | inr t ↦ begins-so t.0.left l.invariant.1 t.1 t.2
     ] in (
       going_on l.invariant.0 c.loop-i-test.true _
-          (heard c.hear-x.ensures l.invariant.0.made.fit b (c.replay_heard-parts.ensures.0 c.if-x.homing)),
-      c.replay_heard-parts.ensures.1,
+          (heard c.hear-x.ensures l.invariant.0.made.fit b (c.replay_heard-parts.ensures.makes c.if-x.homing)),
+      c.replay_heard-parts.ensures.window_len,
     )
 
 pub shape_of-crumbs : goal.shape_of-crumbs

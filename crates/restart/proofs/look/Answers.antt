@@ -6,7 +6,7 @@ use Rattle.restart.proofs.look.Goals as goal
 pub returns-then-e-r : goal.returns-then-e-r
 returns-then-e-r c =
     let g = c.args in
-    not-visited g.e g.r g.h g.crumbs.now c.requires.0 c.if-e-r.true
+    not-visited g.e g.r g.h g.crumbs.now c.requires.trail_fit c.if-e-r.true
 
 pub returns : goal.returns
 returns c = let g = c.args in

@@ -10,7 +10,7 @@ pub stop_at-stop-requires : goal.stop_at-stop-requires
 stop_at-stop-requires c = tt
 
 pub record_at-index-requires : goal.record_at-index-requires
-record_at-index-requires c = c.requires.1
+record_at-index-requires c = c.requires.file_value
 
 pub loop-slot-init : goal.loop-slot-init
 loop-slot-init c = let pre = c.requires in
@@ -34,7 +34,7 @@ look-v-requires c =
     let g = c.loop-slot.invariant in (
       g.made.fit,
       going-count g c.loop-slot-test.true c.if-index-eq0.false c.entry_at-entry.ensures
-          c.requires.1,
+          c.requires.file_value,
     )
 
 pub next_of-index-requires : goal.next_of-index-requires

@@ -163,9 +163,9 @@ loop-k-preserved c =
     goes_on c.loop-k.invariant c.loop-k-test.true
     c.readable.ensures
     c.if-not-readable.false
-    (length_front line c.step-h.new.1.1.0 (get_or
+    (length_front line c.step-h.new.line (get_or
     c.args.sizes.now k 0)
-    c.step-h.auto.1.1.0) c.step-h.ensures
+    c.step-h.auto.line) c.step-h.ensures
 
 pub shape_of-crumbs : goal.shape_of-crumbs
 shape_of-crumbs c = c.loop-k.invariant.long

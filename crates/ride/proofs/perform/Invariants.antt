@@ -12,14 +12,14 @@ abbrev pub invariant-loop-k : goal.invariant-loop-k
 invariant-loop-k l =
     Performing
     (record {
-      l.room = length l.initial.line;
-      l.ops = l.ops;
-      l.clocks = l.clocks;
-      l.sizes = l.sizes;
-      l.counts = l.counts;
-      l.lines = l.lines;
-      l.lats = l.lats;
-      l.lons = l.lons;
+      room = length l.initial.line;
+      ops = l.ops;
+      clocks = l.clocks;
+      sizes = l.sizes;
+      counts = l.counts;
+      lines = l.lines;
+      lats = l.lats;
+      lons = l.lons;
     })
     l.initial.h
     l.initial.crumbs

@@ -7,7 +7,7 @@ pub returns-in-Taken : goal.returns-in-Taken
 returns-in-Taken c =
     rides c.new-made.ensures
     c.in-Taken.is c.perform-h.ensures
-    c.perform-h.auto.1.1.0
+    c.perform-h.auto.line
 
 pub returns-in-Refused : goal.returns-in-Refused
 returns-in-Refused c = stays c.new-made.ensures _ c.in-Refused.is

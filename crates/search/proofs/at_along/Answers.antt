@@ -1,13 +1,9 @@
 -- `search::at_along` meets its contract: going down from `end - 1` finds the rule's place.
-use Prim.Native.Nat.{◌-◌, ◌<◌}
-use mathlib.Core.Logic.{⊎_elim}
-use mathlib.Core.Path.{◌≡◌, refl, ◌∙◌}
+use mathlib.Core.Path.{refl, ◌∙◌}
 use native.Mathlib.Omega.{arith}
-use borrow.Author.Rules.{rules}
-use Rattle.crumbs.specs.Crumb.{crumbs}
-use Rattle.search.specs.Along.{place_before}
 use Rattle.search.proofs.Walking.{along-there, place-below, place_here, place-first}
 use Rattle.search.proofs.at_along.Goals as goal
+use Rattle.search.proofs.at_along.Goals.{then-loop-i-test+else-crumb-along, else-loop-i-test}
 
 pub overflow_sub-i : goal.overflow_sub-i
 overflow_sub-i c = omega arith
@@ -42,5 +38,8 @@ crumb-requires-3 c = omega arith
 pub returns : goal.returns
 returns c =
     along-there _ _ _
-    (⊎_elim (λ w. place_here _ _ _ w.1.ensures w.3.left) (λ w. place-first _ _ _ (omega arith)) c.loop-i-test.branch)
+    (elim c.loop-i-test.branch [
+      | then-loop-i-test+else-crumb-along w ↦ place_here _ _ _ w.crumb.ensures w.if-crumb-along.false
+      | else-loop-i-test w ↦ place-first _ _ _ (omega arith)
+    ])
     c.loop-i.invariant.1 c.crumb-2.ensures c.crumb-3.ensures c.point_along.ensures

@@ -1,5 +1,4 @@
 -- `search::closer` meets its contract: the test is the rule's.
-use borrow.Author.Rules.{rules}
 use Rattle.search.specs.Course.{closer}
 use Rattle.search.proofs.closer.Goals as goal
 

@@ -1,5 +1,5 @@
 -- What holds of the match on the followed course for every line, position and heading. Assumes nothing.
-use Prim.Native.Nat.{◌-◌, ◌≤◌}
+use Prim.Native.Nat.{◌≤◌}
 use mathlib.Core.Bool.{Bool, true, false}
 use mathlib.Core.List.{List}
 use Rattle.plane.specs.declared.Point.{Point}

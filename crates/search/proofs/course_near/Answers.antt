@@ -1,14 +1,10 @@
 -- `search::course_near` meets its contract: the ends still to be considered decide.
-use Prim.Native.Nat.{◌-◌, ◌≤◌}
 use mathlib.Core.Path.{ap, ◌∙◌}
 use native.Mathlib.Omega.{arith}
-use borrow.Author.Rules.{rules}
 use Rattle.crumbs.proofs.Crumbs.{length-crumbs}
-use Rattle.crumbs.specs.Crumb.{crumbs}
 use Rattle.search.specs.Course.{closer, cost_anywhere, course_near}
 use Rattle.segments.specs.Segment.{considered, found}
-use Rattle.search.specs.Search.{every}
-use Rattle.search.proofs.Searching.{falls-from, Falls, falls-on, falls_out}
+use Rattle.search.proofs.Searching.{falls-from, falls-on, falls_out}
 use Rattle.search.proofs.course_near.Goals as goal
 
 pub loop-end-init : goal.loop-end-init

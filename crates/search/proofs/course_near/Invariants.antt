@@ -1,19 +1,17 @@
 -- `search::course_near` meets its contract: the ends still to be considered decide.
 use Prim.Native.Nat.{◌-◌, ◌≤◌}
-use mathlib.Core.Path.{ap, ◌∙◌}
-use native.Mathlib.Omega.{arith}
-use borrow.Author.Rules.{rules}
-use Rattle.crumbs.proofs.Crumbs.{length-crumbs}
 use Rattle.crumbs.specs.Crumb.{crumbs}
-use Rattle.search.specs.Course.{closer, cost_anywhere, course_near}
-use Rattle.segments.specs.Segment.{considered, found}
+use Rattle.search.specs.Course.{cost_anywhere}
+use Rattle.segments.specs.Segment.{considered}
 use Rattle.search.specs.Search.{every}
-use Rattle.search.proofs.Searching.{falls-from, Falls, falls-on, falls_out}
+use Rattle.search.proofs.Searching.{Falls}
 use Rattle.search.proofs.course_near.Given as goal
 
 abbrev pub invariant-loop-end : goal.invariant-loop-end
 invariant-loop-end l =
-    (l.end ≤ l.len) × Falls (considered (crumbs l.len l.line) l.p (cost_anywhere (crumbs l.len l.line) l.p)) (every (crumbs l.len l.line)) l.best (l.end - 1)
+    (l.end ≤ l.len)
+    × Falls (considered (crumbs l.len l.line) l.p (cost_anywhere (crumbs l.len l.line) l.p)) (every (crumbs l.len l.line)) l.best
+    (l.end - 1)
 
 abbrev pub decreases-loop-end : goal.decreases-loop-end
 decreases-loop-end l = l.end

@@ -1,11 +1,7 @@
 -- `search::ends` meets its contract: those counted and those of the rest are all.
-use Prim.Native.Nat.{◌-◌, ◌+◌, ◌≤◌}
-use mathlib.Core.Path.{◌≡◌, sym, ◌∙◌}
+use mathlib.Core.Path.{sym, ◌∙◌}
 use native.Mathlib.Omega.{arith}
-use lib.ListN.{drop}
 use Rattle.crumbs.proofs.Crumbs.{length-crumbs}
-use Rattle.crumbs.specs.Crumb.{crumbs}
-use Rattle.search.specs.Along.{ends}
 use Rattle.search.proofs.Walking.{ends_on, ends-here, ends-out}
 use Rattle.search.proofs.ends.Goals as goal
 

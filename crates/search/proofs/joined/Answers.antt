@@ -1,11 +1,8 @@
 -- `search::joined` meets its contract: the ends below decide.
-use Prim.Native.Nat.{◌-◌, ◌≤◌}
-use mathlib.Core.Path.{◌≡◌, sym, ◌∙◌}
+use mathlib.Core.Path.{sym, ◌∙◌}
 use native.Mathlib.Omega.{arith}
-use borrow.Author.Rules.{rules}
 use Rattle.crumbs.proofs.Crumbs.{length-crumbs}
-use Rattle.crumbs.specs.Crumb.{crumbs}
-use Rattle.search.specs.Course.{joined_from, joined}
+use Rattle.search.specs.Course.{joined}
 use Rattle.search.proofs.Walking.{joined-out, joined-here, joined-below}
 use Rattle.search.proofs.joined.Goals as goal
 
@@ -35,13 +32,12 @@ pub loop-end-smaller : goal.loop-end-smaller
 loop-end-smaller c = omega arith
 
 pub loop-end-preserved : goal.loop-end-preserved
-loop-end-preserved c =
-    (
-      omega arith,
-      sym (joined-below _ _ _ _ (omega arith) c.line_crumb.ensures c.line_crumb-in-loop-end.ensures c.joins.ensures
-          c.if-joins.false)
-          ∙ c.loop-end.invariant.1,
-    )
+loop-end-preserved c = (
+  omega arith,
+  sym (joined-below _ _ _ _ (omega arith) c.line_crumb.ensures c.line_crumb-in-loop-end.ensures c.joins.ensures
+      c.if-joins.false)
+      ∙ c.loop-end.invariant.1,
+)
 
 pub returns : goal.returns
 returns c = sym (joined-out _ _ _ _ (omega arith)) ∙ c.loop-end.invariant.1

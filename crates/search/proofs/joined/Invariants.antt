@@ -1,16 +1,14 @@
 -- `search::joined` meets its contract: the ends below decide.
 use Prim.Native.Nat.{◌-◌, ◌≤◌}
-use mathlib.Core.Path.{◌≡◌, sym, ◌∙◌}
-use native.Mathlib.Omega.{arith}
-use borrow.Author.Rules.{rules}
-use Rattle.crumbs.proofs.Crumbs.{length-crumbs}
+use mathlib.Core.Path.{◌≡◌}
 use Rattle.crumbs.specs.Crumb.{crumbs}
 use Rattle.search.specs.Course.{joined_from, joined}
-use Rattle.search.proofs.Walking.{joined-out, joined-here, joined-below}
 use Rattle.search.proofs.joined.Given as goal
 
 abbrev pub invariant-loop-end : goal.invariant-loop-end
-invariant-loop-end l = (l.end ≤ l.len) × (joined_from (crumbs l.len l.line) l.p l.heading (l.end - 1) ≡ joined (crumbs l.len l.line) l.p l.heading)
+invariant-loop-end l =
+    (l.end ≤ l.len)
+    × (joined_from (crumbs l.len l.line) l.p l.heading (l.end - 1) ≡ joined (crumbs l.len l.line) l.p l.heading)
 
 abbrev pub decreases-loop-end : goal.decreases-loop-end
 decreases-loop-end l = l.end

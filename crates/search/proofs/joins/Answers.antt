@@ -1,10 +1,8 @@
 -- `search::joins` meets its contract: the tests are the rule's, and what its square says is further off than 25 m is not joined. Assumes
 -- nothing.
-use borrow.Author.Rules.{rules}
 use lib.Ieee.{of_bits}
 use Rattle.binary32.specs.Arithmetic.{constant}
 use Rattle.crumbs.specs.Crumb.{point}
-use Rattle.segments.proofs.Ranging.{flip}
 use Rattle.search.specs.Course.{join_m, joins}
 use Rattle.search.proofs.Joining.{not-joined}
 use Rattle.search.proofs.joins.Goals as goal
@@ -15,7 +13,7 @@ returns-then-not-off_square c =
     let g = c.args in
     let e = c.off_square.ensures in
     let k = not-joined g.p (point g.a) (point g.b)
-    (simp (← c.point-from.ensures, ← c.point-to.ensures, ← e) (flip _ c.if-not-off_square.true)) in
+    (simp (← c.point-from.ensures, ← c.point-to.ensures, ← e) c.if-not-off_square.true) in
     simp k
 
 pub returns-then-off_segment : goal.returns-then-off_segment

@@ -1,12 +1,8 @@
 -- `search::nearest_on_breadcrumb` meets its contract: the ends still to be considered decide.
-use Prim.Native.Nat.{◌+◌, ◌-◌}
 use mathlib.Core.Path.{ap, ◌∙◌}
 use native.Mathlib.Omega.{arith}
-use borrow.Author.Rules.{rules}
-use Rattle.crumbs.specs.Crumb.{crumbs}
-use Rattle.segments.specs.declared.costs.Ranking.TheVariants.{Plain}
-use Rattle.segments.specs.Segment.{considered, cost_within, found}
-use Rattle.search.proofs.Searching.{Rises, rises-start, rises-on, rises-out, breadcrumb-is}
+use Rattle.segments.specs.Segment.{found}
+use Rattle.search.proofs.Searching.{rises-start, rises-on, rises-out, breadcrumb-is}
 use Rattle.search.proofs.nearest_on_breadcrumb.Goals as goal
 
 pub loop-end-init : goal.loop-end-init

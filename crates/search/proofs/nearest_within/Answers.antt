@@ -1,14 +1,11 @@
 -- `search::nearest_within` meets its contract: the ends still to be considered decide.
-use Prim.Native.Nat.{◌+◌, ◌-◌}
 use mathlib.Core.Path.{ap, ◌∙◌}
-use mathlib.Core.Logic.{inl, inr}
 use native.Mathlib.Omega.{arith}
-use borrow.Author.Rules.{rules}
-use Rattle.crumbs.specs.Crumb.{crumbs}
-use Rattle.segments.specs.Segment.{considered, cost_within, found}
+use Rattle.segments.specs.Segment.{found}
 use Rattle.search.specs.Search.{nearest_within}
-use Rattle.search.proofs.Searching.{Falls, falls-start, falls-on, falls_out}
+use Rattle.search.proofs.Searching.{falls-start, falls-on, falls_out}
 use Rattle.search.proofs.nearest_within.Goals as goal
+use Rattle.search.proofs.nearest_within.Goals.{then-may_cost, else-may_cost}
 
 pub loop-end-init : goal.loop-end-init
 loop-end-init c = falls-start
@@ -35,8 +32,9 @@ loop-end-preserved c =
     let a = c.line_crumb-a.ensures in
     let b = c.line_crumb-b.ensures in
     elim c.if-may_cost.branch [
-      | inl t ↦ falls-on c.loop-end.invariant first more (t.2 ∙ t.1.ensures _ a b)
-      | inr t ↦ falls-on c.loop-end.invariant first more (t.1 ∙ c.may_cost.ensures t.0.left _ _ c.loop-end.best a b)
+      | then-may_cost w ↦ falls-on c.loop-end.invariant first more (w.best-is ∙ w.consider-best.ensures _ a b)
+      | else-may_cost w ↦ falls-on c.loop-end.invariant first more
+          (w.best-is ∙ c.may_cost.ensures w.if-may_cost.false _ _ c.loop-end.best a b)
     ]
 
 pub returns : goal.returns

@@ -1,13 +1,8 @@
 -- `search::nearest_within` meets its contract: the ends still to be considered decide.
 use Prim.Native.Nat.{◌+◌, ◌-◌}
-use mathlib.Core.Path.{ap, ◌∙◌}
-use mathlib.Core.Logic.{inl, inr}
-use native.Mathlib.Omega.{arith}
-use borrow.Author.Rules.{rules}
 use Rattle.crumbs.specs.Crumb.{crumbs}
-use Rattle.segments.specs.Segment.{considered, cost_within, found}
-use Rattle.search.specs.Search.{nearest_within}
-use Rattle.search.proofs.Searching.{Falls, falls-start, falls-on, falls_out}
+use Rattle.segments.specs.Segment.{considered, cost_within}
+use Rattle.search.proofs.Searching.{Falls}
 use Rattle.search.proofs.nearest_within.Given as goal
 
 abbrev pub invariant-loop-end : goal.invariant-loop-end

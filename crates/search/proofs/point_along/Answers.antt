@@ -1,5 +1,4 @@
 -- `search::point_along` meets its contract: each operation is the rule's.
-use borrow.Author.Rules.{rules}
 use Rattle.plane.specs.Plane.{between}
 use Rattle.search.specs.Along.{point_along}
 use Rattle.search.proofs.point_along.Goals as goal

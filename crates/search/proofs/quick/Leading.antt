@@ -7,18 +7,14 @@ use mathlib.Core.Bool.{Bool, true, false, not, ◌||◌, cond, true≢false}
 use mathlib.Core.List.{List}
 use native.Mathlib.Omega.{arith}
 use borrow.Author.Tests.{eqb-true, eqb-false}
-use lib.Dec.{T, eqb, eqb→eq, eqb_refl}
-use lib.Ieee.{Float, binary32, lt, fits, add}
-use lib.Ieee.Fits.{add-fits}
-use Rattle.binary32.specs.Arithmetic.{◌⊕◌, ◌⊖◌, ◌⊗◌}
+use lib.Dec.{T, eqb}
+use lib.Ieee.{Float, binary32, lt, fits}
 use Rattle.binary32.specs.Root.{root}
 use Rattle.plane.specs.declared.Point.{Point}
-use Rattle.plane.specs.Plane.{distance, project}
 use Rattle.plane.specs.Square.{off_square}
 use Rattle.crumbs.specs.declared.Crumb.{Crumb}
 use Rattle.crumbs.specs.Crumb.{point}
 use Rattle.segments.specs.declared.costs.Nearest.{Nearest}
-use Rattle.segments.specs.declared.costs.Cost.{Cost}
 use Rattle.segments.specs.declared.costs.Cost.TheVariants.{Out, Metres}
 use Rattle.segments.specs.declared.costs.Ranking.TheVariants.{Plain}
 use Rattle.segments.specs.Cost.{plain, cost_of}
@@ -28,7 +24,7 @@ use Rattle.segments.specs.declared.SoFar.{SoFar}
 use Rattle.segments.specs.declared.SoFar.TheVariants.{Empty, Least}
 use Rattle.segments.specs.declared.Stretch.{Stretch}
 use Rattle.segments.specs.Line.{at}
-use Rattle.segments.specs.Segment.{meets, nearest_on, cheaper, cost_within, considered, found}
+use Rattle.segments.specs.Segment.{nearest_on, cheaper, cost_within, considered, found}
 use Rattle.search.specs.declared.Range.{Range}
 use Rattle.search.specs.Search.{rising, falling, count}
 use Rattle.search.proofs.Searching.{Rises, rises-start, rises-on, rises-out, Falls, falls-start, falls-on, falls_out}

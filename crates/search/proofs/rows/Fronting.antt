@@ -3,13 +3,12 @@ use Prim.Native.Nat.{ℕ, zero, suc, ◌+◌, ◌-◌, ◌≤◌, ◌<◌}
 use mathlib.Core.Path.{◌≡◌, refl, sym, ap, ◌∙◌, subst}
 use mathlib.Core.Bool.{Bool, true, false, not, ◌&&◌, ◌||◌, cond, true≢false, and-eq-true_iff}
 use mathlib.Core.List.{List}
-use mathlib.Core.Logic.{◌⊎◌, inl, inr}
+use mathlib.Core.Logic.{inl, inr}
 use native.Mathlib.Omega.{arith}
 use native.Mathlib.Decide.{ℕ_discrete}
 use borrow.Author.Tests.{ltb-true, ltb-false, not-false}
 use lib.Dec.{T, ltb}
-use lib.ListN.{get_or}
-use lib.Ieee.{Float, binary32, of_bits, nan, fits, is_nan, lt, le}
+use lib.Ieee.{Float, binary32, of_bits, fits, is_nan, lt, le}
 use lib.Ieee.Bits.{of_bits-fits}
 use Rattle.binary32.specs.Root.{root}
 use Rattle.binary32.proofs.roots.Order.{le-lt, lt-le, total, less-number, at-most-number}
@@ -21,7 +20,6 @@ use Rattle.segments.specs.declared.costs.Cost.{Cost}
 use Rattle.segments.specs.declared.costs.Cost.TheVariants.{Out, Metres}
 use Rattle.segments.specs.declared.costs.Ranking.TheVariants.{Plain}
 use Rattle.segments.specs.Cost.{plain, cost_of}
-use Rattle.segments.specs.declared.Best.{Best}
 use Rattle.segments.specs.declared.Best.TheVariants.{Found}
 use Rattle.segments.specs.declared.SoFar.{SoFar}
 use Rattle.segments.specs.declared.Stretch.{Stretch}
@@ -34,10 +32,9 @@ use Rattle.search.specs.declared.Range.{Range}
 use Rattle.search.specs.declared.rows.Front.{Front}
 use Rattle.search.specs.Search.{rising, count, anywhere, nearest_on_breadcrumb}
 use Rattle.search.specs.Square.{reaches}
-use Rattle.search.specs.Rows.{row_length, SquaresFrom, LeastSoFar, NoneLess, InFront, Farther, Behind, Settled}
+use Rattle.search.specs.Rows.{row_length, SquaresFrom, LeastSoFar, NoneLess, InFront, Behind, Settled}
 use Rattle.search.proofs.Choosing.{Leads, Chosen, Tried, rising-all}
 use Rattle.search.proofs.Theorems.{Lower, lower-one-way}
-use Rattle.search.proofs.rows.Filling.{not-less-than}
 
 abbrev Number : Float → Type 0
 Number x = T (not (is_nan x))

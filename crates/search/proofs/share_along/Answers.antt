@@ -1,6 +1,5 @@
 -- `search::share_along` meets its contract: the test is the rule's.
 use mathlib.Core.Path.{◌∙◌}
-use borrow.Author.Rules.{rules}
 use lib.Ieee.{of_bits}
 use Rattle.search.proofs.Sharing.{share-long, share-short}
 use Rattle.search.proofs.share_along.Goals as goal

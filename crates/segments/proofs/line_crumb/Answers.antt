@@ -5,4 +5,4 @@ use Rattle.segments.proofs.Line.{at_held}
 use Rattle.segments.proofs.line_crumb.Goals as goal
 
 pub returns : goal.returns
-returns c = c.line_at_lem.ensures ∙ sym (at_held _ _ _ c.requires.0)
+returns c = c.line_at.ensures ∙ sym (at_held _ _ _ c.requires.0)

@@ -11,5 +11,5 @@ returns c =
     let k = c.place-line_len in
     let off = c.off_course-off in
     course-set (fixes g.lats.now g.lons.now) g.h off.result _ k.result c.waits-unplaced.result
-    g.line.now k.new.1.1.1.0
+    g.line.now k.new.line
     off.ensures k.ensures c.waits-unplaced.ensures c.lined-next.ensures (λ b. refl) refl

@@ -17,6 +17,6 @@ returns c =
     let w = c.args.words.now in
     let put = first-front h w first.result first.ensures.0 c.put_words.ensures in
     let last = c.back_words-back.ensures in (
-      words-front h w c.put_words.new.1.0 c.back_words-back.result put last.0 c.put_words-2.ensures,
+      words-front h w c.put_words.new.words c.back_words-back.result put last.0 c.put_words-2.ensures,
       words-fit h first.ensures.1 last.1 first.ensures.2 first.ensures.3 first.ensures.4,
     )

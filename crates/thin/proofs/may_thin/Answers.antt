@@ -7,14 +7,14 @@ use Rattle.thin.proofs.may_thin.Goals as goal
 
 pub returns-then-not-whole : goal.returns-then-not-whole
 unfolding question9
-returns-then-not-whole c = simp (← c.whole.ensures, not-true c.whole.result c.if-not-whole.true)
+returns-then-not-whole c = simp (← c.whole.ensures, c.if-not-whole.true)
 
 pub returns-then-capacity-lt3 : goal.returns-then-capacity-lt3
 unfolding question9
 returns-then-capacity-lt3 c =
     simp (
       ← c.whole.ensures,
-      not-false c.whole.result c.if-not-whole.false,
+      c.if-not-whole.false,
       ← c.capacity-capacity.ensures,
       lt-leb _ _ c.if-capacity-lt3.true,
     )
@@ -24,7 +24,7 @@ unfolding question9
 returns-then-capacity-gt4096 c =
     simp (
       ← c.whole.ensures,
-      not-false c.whole.result c.if-not-whole.false,
+      c.if-not-whole.false,
       ← c.capacity-capacity.ensures,
       le-leb _ _ c.if-capacity-lt3.false,
       lt-leb _ _ c.if-capacity-gt4096.true,
@@ -35,7 +35,7 @@ unfolding question9
 returns-then-capacity-len c =
     simp (
       ← c.whole.ensures,
-      not-false c.whole.result c.if-not-whole.false,
+      c.if-not-whole.false,
       ← c.capacity-capacity.ensures,
       le-leb _ _ c.if-capacity-lt3.false,
       le-leb _ _ c.if-capacity-gt4096.false,
@@ -47,7 +47,7 @@ unfolding question9 of_bits
 returns c =
     simp (
       ← c.whole.ensures,
-      not-false c.whole.result c.if-not-whole.false,
+      c.if-not-whole.false,
       ← c.capacity-capacity.ensures,
       le-leb _ _ c.if-capacity-lt3.false,
       le-leb _ _ c.if-capacity-gt4096.false,

@@ -28,7 +28,7 @@ pub overflow_sub-len : goal.overflow_sub-len
 overflow_sub-len c = omega arith
 
 pub next-anchor-requires : goal.next-anchor-requires
-next-anchor-requires c = (omega arith, c.found-bound.ensures)
+next-anchor-requires c = record { anchor_bound = omega arith; under = c.found-bound.ensures }
 
 pub crumb_at-c-requires : goal.crumb_at-c-requires
 crumb_at-c-requires c =
@@ -73,7 +73,7 @@ pub overflow_add-result : goal.overflow_add-result
 overflow_add-result c = omega arith
 
 pub shape_of-buf : goal.shape_of-buf
-shape_of-buf c = let l = c in c.put-2.auto.0 ∙ l.loop.invariant.size
+shape_of-buf c = c.put-2.auto.buf ∙ c.loop-anchor.invariant.size
 
 pub returns : goal.returns
 returns c =

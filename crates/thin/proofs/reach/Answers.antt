@@ -1,20 +1,23 @@
 -- `thin::reach` is the rule's reach.
 use Prim.Native.Nat.{◌-◌, ◌<◌}
-use mathlib.Core.Logic.{⊎_elim}
 use mathlib.Core.Path.{refl}
 use native.Mathlib.Omega.{arith}
 use borrow.Author.Rules.{rules}
-use borrow.Author.Tests.{leb-true, leb-false}
 use Rattle.thin.proofs.Reaching.{Between, Ends, ends-start, ends-out, ends_on, ends-stray, between-on}
 use Rattle.thin.proofs.Rowing.{between-near}
 use Rattle.thin.proofs.Bounding.{stays, leaves}
 use Rattle.thin.proofs.reach.Goals as goal
+use Rattle.thin.proofs.reach.Goals.{
+  then-ends-test+else-end-anchor-le-SPAN,
+  else-ends-test,
+  then-ends-test+then-end-anchor-le-SPAN+then-loop-j-test+then-strays,
+}
 
 pub overflow_add-end : goal.overflow_add-end
 overflow_add-end c = omega arith
 
 pub ends-init : goal.ends-init
-ends-init c = ends-start c.requires.0.0
+ends-init c = ends-start c.requires.anchor_lt_len.0
 
 pub overflow_sub-end : goal.overflow_sub-end
 overflow_sub-end c = omega arith
@@ -27,14 +30,14 @@ near_from-first-requires c = omega arith
 
 pub loop-j-init : goal.loop-j-init
 loop-j-init c =
-    between-near c.ends.invariant c.ends-test.true (leb-true _ _ c.if-end-anchor-le-SPAN.true)
-    c.requires.1.0
+    between-near c.ends.invariant c.ends-test.true c.if-end-anchor-le-SPAN.true
+    c.requires.under.0
     c.point_at-a.ensures
     c.point_at-b.ensures
     c.near_from-first.ensures
 
 pub strays-requires : goal.strays-requires
-strays-requires c = let start = c in start.requires.1
+strays-requires c = c.requires.under
 
 pub overflow_step-j : goal.overflow_step-j
 overflow_step-j c = omega arith
@@ -44,7 +47,7 @@ loop-j-smaller c = omega arith
 
 pub loop-j-preserved : goal.loop-j-preserved
 loop-j-preserved c =
-    between-on c.ends.invariant c.ends-test.true (leb-true _ _ c.if-end-anchor-le-SPAN.true)
+    between-on c.ends.invariant c.ends-test.true c.if-end-anchor-le-SPAN.true
     c.loop-j.invariant
     c.loop-j-test.true
     refl
@@ -59,7 +62,7 @@ ends-smaller c = omega arith
 
 pub ends-preserved : goal.ends-preserved
 ends-preserved c =
-    ends_on c.ends.invariant c.ends-test.true (leb-true _ _ c.if-end-anchor-le-SPAN.true)
+    ends_on c.ends.invariant c.ends-test.true c.if-end-anchor-le-SPAN.true
     c.loop-j.invariant
     c.loop-j-test.false
 
@@ -68,13 +71,12 @@ overflow_sub-result c = omega arith
 
 pub returns : goal.returns
 returns c =
-    ⊎_elim
-    (λ w. ends-out c.ends.invariant (let far : 256 < c.ends.end - c.args.anchor = leb-false _ _ w.1.left in
-    omega arith))
-    (⊎_elim
-    (λ w. ends-out c.ends.invariant (omega arith))
-    (λ w.
-    ends-stray c.ends.invariant w.0.taken (leb-true _ _ w.1.taken) w.4.inv w.5.taken
-    refl
-    (leaves _ w.7.ensures w.6.ensures c.point_at-a.ensures w.2.ensures w.8.taken)))
-    c.ends-test.branch
+    elim c.ends-test.branch [
+      | then-ends-test+else-end-anchor-le-SPAN w ↦
+        ends-out c.ends.invariant (let far : 256 < c.ends.end - c.args.anchor = w.if-end-anchor-le-SPAN.false in omega arith)
+      | else-ends-test w ↦ ends-out c.ends.invariant (omega arith)
+      | then-ends-test+then-end-anchor-le-SPAN+then-loop-j-test+then-strays w ↦
+        ends-stray c.ends.invariant w.ends-test.true w.if-end-anchor-le-SPAN.true w.loop-j.invariant w.loop-j-test.true
+        refl
+        (leaves _ w.strays.ensures w.point_at-p.ensures c.point_at-a.ensures w.point_at-b.ensures w.if-strays.true)
+    ]

@@ -16,10 +16,10 @@ pub returns-then-distance : goal.returns-then-distance
 unfolding min_step_m constant round of_bits
 returns-then-distance c =
     adds-near c.args.t _ _ c.args.p (omega (arith, c.if-t-eq0.false)) c.end-anchor.ensures c.last.ensures c.requires.1
-    (rw c.distance.ensures c c.if-distance.true)
+    (rw c.distance.ensures at c.if-distance.true)
 
 pub returns : goal.returns
 unfolding min_step_m constant round of_bits
 returns c =
     adds-far c.args.t _ _ c.args.p (omega (arith, c.if-t-eq0.false)) c.end-anchor.ensures c.last.ensures
-    (rw c.distance.ensures c c.if-distance.false) c.simplify.ensures
+    (rw c.distance.ensures at c.if-distance.false) c.simplify.ensures

@@ -5,7 +5,7 @@ use borrow.Author.Rules.{rules}
 use Rattle.trail.proofs.flush.Goals as goal
 
 pub returns-then-n-eq0 : goal.returns-then-n-eq0
-returns-then-n-eq0 c = let at = c in flushes-none at.args.window.now _ at.requires c.if-n-eq0.true
+returns-then-n-eq0 c = flushes-none c.args.window.now _ c.requires c.if-n-eq0.true
 
 pub returns : goal.returns
 returns c =

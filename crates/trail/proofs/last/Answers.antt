@@ -10,4 +10,4 @@ returns-then-window_len-eq0 c = rw (c.if-window_len-eq0.true, none-places)
 pub returns : goal.returns
 returns c =
     let a = c.args in
-    rw (last-places a.window-len a.window.now (omega arith)) c.waiting.ensures
+    rw (last-places a.window_len a.window.now (omega arith)) c.waiting.ensures

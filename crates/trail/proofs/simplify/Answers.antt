@@ -1,11 +1,11 @@
 -- `trail::simplify` flushes the window where it has to, and then has the place wait.
-use mathlib.Core.Logic.{⊎_elim}
 use native.Mathlib.Omega.{arith}
-use borrow.Author.Tests.{eqb-false}
+use Rattle.std.proofs.lemmas.Bool.{eq-eqb, ne_eqb}
 use Rattle.trail.specs.Trail.{window_places}
 use Rattle.trail.proofs.Recording.{room-to-wait, strayed, filled, straight, simplifies-bends, simplifies-straight}
 use borrow.Author.Rules.{rules}
 use Rattle.trail.proofs.simplify.Goals as goal
+use Rattle.trail.proofs.simplify.Goals.{then-strays-via-then-strays, then-strays-via-else-strays+then-t-eq-WINDOW}
 
 pub wait-requires : goal.wait-requires
 wait-requires c =
@@ -16,16 +16,19 @@ returns-then-strays c =
     let is = c.strays.ensures in
     let a = c.args in
     simplifies-bends a.t _ _ a.anchor a.p
-    (⊎_elim (λ x. strayed a.t _ _ a.anchor a.p is x.taken) (λ x. filled a.t _ _ a.anchor a.p is x.2.taken)
-    c.then-strays.branch)
+    (elim c.then-strays.branch [
+      | then-strays-via-then-strays w ↦ strayed a.t _ _ a.anchor a.p is w.if-strays.true
+      | then-strays-via-else-strays+then-t-eq-WINDOW w ↦
+        filled a.t _ _ a.anchor a.p is (eq-eqb a.t.window_len window_places w.if-t-eq-WINDOW.true)
+    ])
     c.flush-flushed.ensures c.wait.ensures
 
 pub wait-requires-2 : goal.wait-requires-2
 wait-requires-2 c =
-    (c.requires.0, omega (arith, eqb-false c.args.t.window_len window_places c.if-t-eq-WINDOW.false, c.requires.1))
+    (c.requires.0, omega arith)
 
 pub returns : goal.returns
 returns c =
     let a = c.args in
     simplifies-straight a.t _ _ a.anchor a.p c.requires.1
-    (straight a.t _ _ a.anchor a.p c.strays.ensures c.if-strays.false c.if-t-eq-WINDOW.false) c.wait-2.ensures
+    (straight a.t _ _ a.anchor a.p c.strays.ensures c.if-strays.false (ne_eqb a.t.window_len window_places c.if-t-eq-WINDOW.false)) c.wait-2.ensures

@@ -20,7 +20,7 @@ returns-then-off_segment-tolerance c =
     let far : lt a.tolerance (off_segment (waiting_at a.window.now c.loop-i.i) a.anchor a.p)
     ≡ true =
     simp (← c.waiting-w.ensures, ← c.off_segment.ensures) c.if-off_segment-tolerance.true in
-    sym (strays-found a.tolerance a.anchor a.p a.window.now a.window-len c.loop-i.i
+    sym (strays-found a.tolerance a.anchor a.p a.window.now a.window_len c.loop-i.i
     c.loop-i-test.true far)
 
 pub loop-i-preserved : goal.loop-i-preserved

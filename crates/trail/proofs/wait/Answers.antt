@@ -4,4 +4,4 @@ use borrow.Author.Rules.{rules}
 use Rattle.trail.proofs.wait.Goals as goal
 
 pub returns : goal.returns
-returns c = let at = c in waits at.args.t at.args.window.now at.args.p at.requires.0 at.requires.1
+returns c = waits c.args.t c.args.window.now c.args.p c.requires.0 c.requires.1

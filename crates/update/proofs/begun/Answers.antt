@@ -12,6 +12,6 @@ unfolding begun
 returns c = λ w.
     let g = c.args in
     record {
-      same = λ b. ap (λ (l : Lap). with_updated_ms g.now-ms (with_lap l (state_of (whole g.h w) b))) c.step_pass-next.ensures;
+      same = λ b. ap (λ (l : Lap). with_updated_ms g.now_ms (with_lap l (state_of (whole g.h w) b))) c.step_pass-next.ensures;
       trail = refl;
     }

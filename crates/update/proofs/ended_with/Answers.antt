@@ -15,17 +15,17 @@ pub direct-requires : goal.direct-requires
 direct-requires c =
     let k = c.stop_following-stopped in
     let g = c.args in
-    let placed = placed-after (whole g.h []) (whole k.result []) g.crumbs.now k.new.1.0 g.line.now (k.ensures [])
+    let placed = placed-after (whole g.h []) (whole k.result []) g.crumbs.now k.new.crumbs g.line.now (k.ensures [])
     (c.requires []).course in ((k.ensures []).fit.held, placed)
 
 pub returns : goal.returns
 returns c = λ w.
     let k = c.stop_following-stopped in
     let g = c.args in
-    let exit = k.new.1.0 in
+    let exit = k.new.crumbs in
     let line = g.line.now in
     let direct = c.direct in
     let shown = c.shown-last in
-    let shows = direct.ensures _ (stands-begun (whole k.result w) exit line g.p g.now-ms) in
-    ends_with (whole g.h w) (whole k.result w) g.crumbs.now exit line (k.ensures w) g.p g.now-ms g.e
+    let shows = direct.ensures _ (stands-begun (whole k.result w) exit line g.p g.now_ms) in
+    ends_with (whole g.h w) (whole k.result w) g.crumbs.now exit line (k.ensures w) g.p g.now_ms g.e
     direct.result (told_in shown.result w) shows (shown.ensures exit w)

@@ -15,6 +15,6 @@ returns c = λ course s i.
     let g = c.args in
     let best = c.matched-best.ensures course s i in
     let told = c.in-Found.is in (
-      λ C at. meets C at course g.p s best told ∙ c.matched_to.ensures.0 C at course g.p s (line_of i),
-      c.matched_to.ensures.1 g.f.len (met-in i g.p c.requires.1.0 best told),
+      λ C at. meets C at course g.p s best told ∙ c.matched_to.ensures.by_index C at course g.p s (line_of i),
+      c.matched_to.ensures.by_index_2 g.f.len (met-in i g.p c.requires.le_len.0 best told),
     )

@@ -11,7 +11,7 @@ returns c = λ s x i.
     let g = c.args in
     let was = g.x.follow in
     let is_due = ap (λ (y : Bool). off_event was.off c.off_now-off.result y) c.due.ensures in
-    matches _ g.p g.now-ms g.near s x i
+    matches _ g.p g.now_ms g.near s x i
     c.off_now-off.ensures
     (c.off_event-e.ensures ∙ is_due)
     c.way_on-w.ensures

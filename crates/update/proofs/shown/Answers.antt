@@ -14,6 +14,6 @@ unfolding begun
 returns c = λ b w.
     let g = c.args in
     let after : Lap → State =
-    λ l. (displaying g.d (with_updated_ms g.now-ms (with_lap l (with_course g.course (state_of (whole g.h w) b))))).state in
-    tells (λ s. displaying g.d (begun g.p g.now-ms (with_course g.course s))) (whole g.h w) b _ _ refl refl
+    λ l. (displaying g.d (with_updated_ms g.now_ms (with_lap l (with_course g.course (state_of (whole g.h w) b))))).state in
+    tells (λ s. displaying g.d (begun g.p g.now_ms (with_course g.course s))) (whole g.h w) b _ _ refl refl
     (ap after c.step_pass.ensures) refl

@@ -14,7 +14,7 @@ outcome_at-o-requires c =
     let g = c.args in
     let f = c.followed_by-f.ensures in
     let h = whole g.h [] in
-    (lent-here h g.crumbs.now g.line.now f (c.requires []), last-here h g.crumbs.now g.line.now f (c.requires []))
+    record { lent = lent-here h g.crumbs.now g.line.now f (c.requires []); segment_lt_len = last-here h g.crumbs.now g.line.now f (c.requires []) }
 
 pub direct-requires : goal.direct-requires
 direct-requires c =
@@ -25,7 +25,7 @@ pub ended_with-requires : goal.ended_with-requires
 ended_with-requires c =
     let g = c.args in
     let begun = c.begun-in-Ends in
-    λ w. fit-begun g.p g.now-ms (whole g.h w) (whole begun.result w) _ _ (begun.ensures w) (c.requires w)
+    λ w. fit-begun g.p g.now_ms (whole g.h w) (whole begun.result w) _ _ (begun.ensures w) (c.requires w)
 
 pub matched_at-requires : goal.matched_at-requires
 matched_at-requires c =
@@ -34,9 +34,9 @@ matched_at-requires c =
     let g = c.args in
     let b = g.crumbs.now in
     let line = g.line.now in
-    let near = match-on (whole g.h []) b line g.p g.now-ms followed becomes c.in-GoesOn.is in
+    let near = match-on (whole g.h []) b line g.p g.now_ms followed becomes c.in-GoesOn.is in
     let fit = c.requires [] in
-    ((fit.trail.held, fit.course), (lent-here (whole g.h []) b line followed fit, near.0, near.1))
+    record { held_bound = (fit.trail.held, fit.course); lent = (lent-here (whole g.h []) b line followed fit, near.0, near.1) }
 
 pub returns-in-Straight : goal.returns-in-Straight
 returns-in-Straight c = λ w.
@@ -45,9 +45,9 @@ returns-in-Straight c = λ w.
     let g = c.args in
     let b = g.crumbs.now in
     let line = g.line.now in
-    let shows = c.direct.ensures _ (stands-begun (whole g.h w) b line g.p g.now-ms) in
+    let shows = c.direct.ensures _ (stands-begun (whole g.h w) b line g.p g.now_ms) in
     let told = c.in-Straight.is in
-    goes-straight (whole g.h w) b line g.p g.now-ms followed becomes (c.requires w).trail told
+    goes-straight (whole g.h w) b line g.p g.now_ms followed becomes (c.requires w).trail told
     c.direct.result shows (told_in c.shown.result w) (c.shown.ensures b w)
 
 pub returns-in-Stays : goal.returns-in-Stays
@@ -57,7 +57,7 @@ returns-in-Stays c = λ w.
     let g = c.args in
     let b = g.crumbs.now in
     let line = g.line.now in
-    stays (whole g.h w) b line g.p g.now-ms followed becomes (c.requires w).trail c.in-Stays.is
+    stays (whole g.h w) b line g.p g.now_ms followed becomes (c.requires w).trail c.in-Stays.is
     (whole c.begun.result w) (c.begun.ensures w)
 
 pub returns-in-Ends : goal.returns-in-Ends
@@ -68,8 +68,8 @@ returns-in-Ends c = λ w.
     let b = g.crumbs.now in
     let line = g.line.now in
     let ended = c.ended_with in
-    ends (whole g.h w) b line g.p g.now-ms followed becomes c.in-Ends.is
-    (whole c.begun-in-Ends.result w) (c.begun-in-Ends.ensures w) (told_in ended.result w) ended.new.1.1.0 (ended.ensures w)
+    ends (whole g.h w) b line g.p g.now_ms followed becomes c.in-Ends.is
+    (whole c.begun-in-Ends.result w) (c.begun-in-Ends.ensures w) (told_in ended.result w) ended.new.crumbs (ended.ensures w)
 
 pub returns-in-GoesOn : goal.returns-in-GoesOn
 unfolding begun
@@ -80,9 +80,9 @@ returns-in-GoesOn c = λ w.
     let b = g.crumbs.now in
     let line = g.line.now in
     let matched = c.matched_at in
-    let i = begun-followed (followed-here (whole g.h w) b line followed) g.p g.now-ms in
-    let shows = matched.ensures _ (stands-begun (whole g.h w) b line g.p g.now-ms) i in
+    let i = begun-followed (followed-here (whole g.h w) b line followed) g.p g.now_ms in
+    let shows = matched.ensures _ (stands-begun (whole g.h w) b line g.p g.now_ms) i in
     let told = c.in-GoesOn.is in
-    goes_on (whole g.h w) b line g.p g.now-ms followed becomes (c.requires w).trail told
+    goes_on (whole g.h w) b line g.p g.now_ms followed becomes (c.requires w).trail told
     matched.result shows c.course_matched.ensures (told_in c.shown-in-GoesOn.result w)
     (c.shown-in-GoesOn.ensures b w)

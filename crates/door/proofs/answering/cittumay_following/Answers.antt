@@ -10,4 +10,4 @@ returns-then-not-there c = not-held (unloaded c.load-there.ensures c.if-not-ther
 pub returns : goal.returns
 returns c =
     handed (loaded c.load-there.ensures c.if-not-there.false) _
-    c.following-answer.ensures c.put_verdict.ensures.0 c.put_verdict.ensures.1
+    c.following-answer.ensures c.put_verdict.ensures.value c.put_verdict.ensures.yes_after

@@ -11,4 +11,4 @@ pub returns : goal.returns
 returns c =
     handed (loaded c.load-there.ensures
     c.if-not-there.false) _
-    c.route_home-answer.ensures c.put_ahead.ensures.0 c.put_ahead.ensures.1
+    c.route_home-answer.ensures c.put_ahead.ensures.value c.put_ahead.ensures.north_after

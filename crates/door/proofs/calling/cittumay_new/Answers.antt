@@ -16,5 +16,5 @@ pub returns : goal.returns
 returns c =
     with-room c.new-made.ensures
     c.has_room.ensures
-    c.if-not-has_room.false c.keep_changed.ensures.0
-    c.keep_changed.ensures.1
+    c.if-not-has_room.false c.keep_changed.ensures.value
+    c.keep_changed.ensures.leaves

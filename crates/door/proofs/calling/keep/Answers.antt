@@ -4,10 +4,7 @@ use borrow.Author.Rules.{rules}
 use Rattle.door.proofs.calling.keep.Goals as goal
 
 pub returns-then-number-ne0 : goal.returns-then-number-ne0
-returns-then-number-ne0 c = (refl, record { taken = λ e. absurd (c.if1.true e); refused = λ _. (refl, refl) })
+returns-then-number-ne0 c = record { value = refl; leaves = record { taken = λ e. absurd (c.if-number-ne0.true e); refused = λ _. (refl, refl) } }
 
 pub returns : goal.returns
-returns c = (
-  sym c.if-number-ne0.false,
-  record { taken = λ _. c.store.ensures; refused = λ ne. absurd (ne refl) },
-)
+returns c = record { value = sym c.if-number-ne0.false; leaves = record { taken = λ _. c.store.ensures; refused = λ ne. absurd (ne refl) } }

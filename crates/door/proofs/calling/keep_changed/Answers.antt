@@ -4,8 +4,5 @@ use borrow.Author.Rules.{rules}
 use Rattle.door.proofs.calling.keep_changed.Goals as goal
 
 pub returns : goal.returns
-returns c = (
-  c.keep.ensures.0
-      ∙ c.number_of_reply.ensures,
-  c.keep.ensures.1,
-)
+returns c = record { value = c.keep.ensures.value
+      ∙ c.number_of_reply.ensures; leaves = c.keep.ensures.leaves }

@@ -10,22 +10,20 @@ use borrow.Author.Rules.{rules}
 use Rattle.fix.proofs.new_fix.fix_on.Goals as goal
 
 pub update-requires : goal.update-requires
-update-requires c = let s = c in
-    λ w. fit_same (whole s.args.h s.args.window.now) (whole s.args.h w) _ _ s.requires.1.fit refl refl refl
+update-requires c = λ w. fit_same (whole c.args.h c.args.window.now) (whole c.args.h w) _ _ c.requires.1.fit refl refl refl
 
 pub add_update-requires : goal.add_update-requires
-add_update-requires c = let s = c in
-    ((s.requires.0, s.requires.1.fit), course-grows (whole s.args.h s.args.window.now) c.in-Course.is)
+add_update-requires c = record { window_len = (c.requires.0, c.requires.1.fit); grows = course-grows (whole c.args.h c.args.window.now) c.in-Course.is }
 
 pub unfollowed-requires : goal.unfollowed-requires
-unfollowed-requires c = let start = c in (start.requires, c.in-Nothing.is)
+unfollowed-requires c = record { window_len = c.requires; line_value = c.in-Nothing.is }
 
 pub returns-in-Breadcrumb : goal.returns-in-Breadcrumb
 unfolding fix_on
 returns-in-Breadcrumb c =
     let g = c.args in
     let u = c.update in
-    by-line (whole g.h g.window.now) lines.Breadcrumb g.line.now g.crumbs.now u.new.1.0 g.p g.now-ms
+    by-line (whole g.h g.window.now) lines.Breadcrumb g.line.now g.crumbs.now u.new.crumbs g.p g.now_ms
     (told_in u.result g.window.now)
     c.in-Breadcrumb.is (u.ensures g.window.now)
 
@@ -34,14 +32,14 @@ unfolding fix_on
 returns-in-Course c =
     let g = c.args in
     let u = c.add_update in
-    by-line (whole g.h g.window.now) lines.Course g.line.now g.crumbs.now u.new.1.1.0 g.p g.now-ms
-    (told_in u.result u.new.1.0)
+    by-line (whole g.h g.window.now) lines.Course g.line.now g.crumbs.now u.new.crumbs g.p g.now_ms
+    (told_in u.result u.new.window)
     c.in-Course.is u.ensures
 
 pub returns-in-Nothing : goal.returns-in-Nothing
 returns-in-Nothing c =
     let g = c.args in
     let u = c.unfollowed in
-    by-line (whole g.h g.window.now) lines.Nothing g.line.now g.crumbs.now u.new.1.1.0 g.p g.now-ms
-    (told_in u.result u.new.1.0)
+    by-line (whole g.h g.window.now) lines.Nothing g.line.now g.crumbs.now u.new.crumbs g.p g.now_ms
+    (told_in u.result u.new.window)
     c.in-Nothing.is u.ensures

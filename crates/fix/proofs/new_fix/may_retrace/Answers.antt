@@ -8,8 +8,7 @@ use borrow.Author.Rules.{rules}
 use Rattle.fix.proofs.new_fix.may_retrace.Goals as goal
 
 pub retracing-b-requires : goal.retracing-b-requires
-retracing-b-requires c = let s = c in
-    (s.requires.0.1.fit.trail.held, omega (arith, s.requires.0.1.retrace))
+retracing-b-requires c = (c.requires.window_len.1.fit.trail.held, omega (arith, c.requires.window_len.1.retrace))
 
 pub retraced-requires : goal.retraced-requires
 retraced-requires c =
@@ -17,18 +16,18 @@ retraced-requires c =
     let h = whole g.h g.window.now in
     let r = retraced_as h c.retracing-b.result in
     let a = asks-retracing h g.crumbs.now g.p c.retracing-b.result c.retracing-b.ensures in (
-      (c.requires.0.0, retrace-fit h g.crumbs.now g.p r a _ c.requires.0.1.fit),
-      (retrace-few h g.crumbs.now g.p r a c.if-b.true c.requires.0.1.back, c.requires.1),
+      (c.requires.window_len.0, retrace-fit h g.crumbs.now g.p r a _ c.requires.window_len.1.fit),
+      (retrace-few h g.crumbs.now g.p r a c.if-b.true c.requires.window_len.1.back, c.requires.line_value),
     )
 
 pub returns-then-b : goal.returns-then-b
 returns-then-b c =
     let g = c.args in
     let h = whole g.h g.window.now in
-    turned_round h g.line.now g.crumbs.now c.retraced.new.1.1.0 g.p g.now-ms
+    turned_round h g.line.now g.crumbs.now c.retraced.new.crumbs g.p g.now_ms
     (retraced_as h c.retracing-b.result)
     (asks-retracing h g.crumbs.now g.p c.retracing-b.result c.retracing-b.ensures)
-    (told_in c.retraced.result c.retraced.new.1.0)
+    (told_in c.retraced.result c.retraced.new.window)
     c.if-h.true c.if-b.true c.retraced.ensures
 
 pub add_update-requires : goal.add_update-requires
@@ -37,28 +36,27 @@ add_update-requires c =
     let h = whole g.h g.window.now in
     let r = retraced_as h c.retracing-b.result in
     let a = asks-retracing h g.crumbs.now g.p c.retracing-b.result c.retracing-b.ensures in (
-      (c.requires.0.0, retrace-fit h g.crumbs.now g.p r a _ c.requires.0.1.fit),
-      idle-grows r.homing c.requires.1,
+      (c.requires.window_len.0, retrace-fit h g.crumbs.now g.p r a _ c.requires.window_len.1.fit),
+      idle-grows r.homing c.requires.line_value,
     )
 
 pub returns-then-h : goal.returns-then-h
 returns-then-h c =
     let g = c.args in
     let h = whole g.h g.window.now in
-    rode-on h g.line.now g.crumbs.now c.add_update.new.1.1.0 g.p g.now-ms
+    rode-on h g.line.now g.crumbs.now c.add_update.new.crumbs g.p g.now_ms
     (retraced_as h c.retracing-b.result)
     (asks-retracing h g.crumbs.now g.p c.retracing-b.result c.retracing-b.ensures)
-    (told_in c.add_update.result c.add_update.new.1.0)
+    (told_in c.add_update.result c.add_update.new.window)
     c.if-h.true c.if-b.false c.add_update.ensures
 
 pub add_update-requires-2 : goal.add_update-requires-2
-add_update-requires-2 c = let s = c in
-    ((s.requires.0.0, s.requires.0.1.fit), idle-grows (whole s.args.h s.args.window.now) s.requires.1)
+add_update-requires-2 c = record { window_len = (c.requires.window_len.0, c.requires.window_len.1.fit); grows = idle-grows (whole c.args.h c.args.window.now) c.requires.line_value }
 
 pub returns : goal.returns
 returns c =
     let g = c.args in
     let u = c.add_update-2 in
-    never-turned (whole g.h g.window.now) g.line.now g.crumbs.now u.new.1.1.0 g.p g.now-ms
-    (told_in u.result u.new.1.0)
+    never-turned (whole g.h g.window.now) g.line.now g.crumbs.now u.new.crumbs g.p g.now_ms
+    (told_in u.result u.new.window)
     c.if-h.false u.ensures

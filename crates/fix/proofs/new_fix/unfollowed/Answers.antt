@@ -7,7 +7,7 @@ use borrow.Author.Rules.{rules}
 use Rattle.fix.proofs.new_fix.unfollowed.Goals as goal
 
 pub joining-j-requires : goal.joining-j-requires
-joining-j-requires c = c.requires.0.1.fit.course
+joining-j-requires c = c.requires.window_len.1.fit.course
 
 pub joined_course-requires : goal.joined_course-requires
 joined_course-requires c =
@@ -15,7 +15,7 @@ joined_course-requires c =
     let h = whole g.h g.window.now in
     let r = joined_as h c.joining-j.result in
     let a = asks-joining h g.crumbs.now g.line.now g.p c.joining-j.result c.joining-j.ensures in (
-      (c.requires.0.0, (join-ready h g.crumbs.now g.line.now g.p r a _ c.requires.0.1).fit),
+      (c.requires.window_len.0, (join-ready h g.crumbs.now g.line.now g.p r a _ c.requires.window_len.1).fit),
       joined_at h g.crumbs.now g.line.now g.p r a c.if-j.true,
     )
 
@@ -23,10 +23,10 @@ pub returns-then-j : goal.returns-then-j
 returns-then-j c =
     let g = c.args in
     let h = whole g.h g.window.now in
-    joined-up h g.line.now g.crumbs.now c.joined_course.new.1.1.0 g.p g.now-ms
+    joined-up h g.line.now g.crumbs.now c.joined_course.new.crumbs g.p g.now_ms
     (joined_as h c.joining-j.result)
     (asks-joining h g.crumbs.now g.line.now g.p c.joining-j.result c.joining-j.ensures)
-    (told_in c.joined_course.result c.joined_course.new.1.0)
+    (told_in c.joined_course.result c.joined_course.new.window)
     c.if-j.true c.joined_course.ensures
 
 pub may_retrace-requires : goal.may_retrace-requires
@@ -35,15 +35,15 @@ may_retrace-requires c =
     let h = whole g.h g.window.now in
     let r = joined_as h c.joining-j.result in
     let a = asks-joining h g.crumbs.now g.line.now g.p c.joining-j.result c.joining-j.ensures in (
-      (c.requires.0.0, join-ready h g.crumbs.now g.line.now g.p r a _ c.requires.0.1),
-      c.requires.1,
+      (c.requires.window_len.0, join-ready h g.crumbs.now g.line.now g.p r a _ c.requires.window_len.1),
+      c.requires.line_value,
     )
 
 pub returns : goal.returns
 returns c =
     let g = c.args in
     let h = whole g.h g.window.now in
-    rode-by h g.line.now g.crumbs.now c.may_retrace.new.1.1.0 g.p g.now-ms (joined_as h c.joining-j.result)
+    rode-by h g.line.now g.crumbs.now c.may_retrace.new.crumbs g.p g.now_ms (joined_as h c.joining-j.result)
     (asks-joining h g.crumbs.now g.line.now g.p c.joining-j.result c.joining-j.ensures)
-    (told_in c.may_retrace.result c.may_retrace.new.1.0)
+    (told_in c.may_retrace.result c.may_retrace.new.window)
     c.if-j.false c.may_retrace.ensures

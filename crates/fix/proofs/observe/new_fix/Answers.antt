@@ -20,7 +20,7 @@ fix_on-requires c =
     let g = c.args in
     let h = whole g.h g.window.now in (
       c.requires.0,
-      arrived-ready _ g.now-ms h _ (arrives h _ g.now-ms c.located-frame.ensures c.framed-p.ensures
+      arrived-ready _ g.now_ms h _ (arrives h _ g.now_ms c.located-frame.ensures c.framed-p.ensures
           c.track_heading-motion.ensures) _ _ c.requires.1,
     )
 
@@ -32,13 +32,13 @@ returns c =
     let l = course_of h g.line.now in
     let C = capacity (length b) in
     let y : Fix = record { lat = handed g.lat; lon = handed g.lon } in
-    let r = moved_to h y g.now-ms c.located-frame.result c.framed-p.result c.track_heading-motion.result in
+    let r = moved_to h y g.now_ms c.located-frame.result c.framed-p.result c.track_heading-motion.result in
     let same = handed-fix g.lat g.lon c.ranges.lat.sfits c.ranges.lon.sfits in
     let ef = c.located-frame.ensures in
-    let there = arrives h y g.now-ms ef c.framed-p.ensures c.track_heading-motion.ensures in
-    updates-after (λ C c. new_fix C l (record { lat = g.lat; lon = g.lon }) g.now-ms (with_here_ms g.now-ms c))
-    (λ C. fix_on g.h.follow.line C l c.framed-p.result g.now-ms) h r b c.fix_on.new.1.1.0
-    (told_in c.fix_on.result c.fix_on.new.1.0) (same_len h r refl)
-    (sym (ap (λ (y : Fix). new_fix C l y g.now-ms (with_here_ms g.now-ms (state_of h b))) same)
-    ∙ new-fix y g.now-ms h r there g.line.now b c.framed-p.result c.framed-p.ensures ef C)
+    let there = arrives h y g.now_ms ef c.framed-p.ensures c.track_heading-motion.ensures in
+    updates-after (λ C c. new_fix C l (record { lat = g.lat; lon = g.lon }) g.now_ms (with_here_ms g.now_ms c))
+    (λ C. fix_on g.h.follow.line C l c.framed-p.result g.now_ms) h r b c.fix_on.new.crumbs
+    (told_in c.fix_on.result c.fix_on.new.window) (same_len h r refl)
+    (sym (ap (λ (y : Fix). new_fix C l y g.now_ms (with_here_ms g.now_ms (state_of h b))) same)
+    ∙ new-fix y g.now_ms h r there g.line.now b c.framed-p.result c.framed-p.ensures ef C)
     c.fix_on.ensures

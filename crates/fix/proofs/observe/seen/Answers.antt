@@ -21,6 +21,6 @@ seen_on-u-requires c =
 pub returns : goal.returns
 returns c =
     let a = c.args in
-    seen-whole a.now-ms a.line.now (handed-fix a.lat a.lon c.ranges.lat.sfits c.ranges.lon.sfits)
+    seen-whole a.now_ms a.line.now (handed-fix a.lat a.lon c.ranges.lat.sfits c.ranges.lon.sfits)
     c.without_window-g.ensures
     c.with_window.ensures c.seen_on-u.ensures

@@ -16,8 +16,7 @@ use borrow.Author.Rules.{rules}
 use Rattle.fix.proofs.observe.seen_on.Goals as goal
 
 pub still_at-requires : goal.still_at-requires
-still_at-requires c = let s = c in
-    λ w. (ready-same (whole s.args.h s.args.window.now) _ _ _ s.requires.1 refl refl refl).fit
+still_at-requires c = λ w. (ready-same (whole c.args.h c.args.window.now) _ _ _ c.requires.1 refl refl refl).fit
 
 pub returns-then-same_fix : goal.returns-then-same_fix
 returns-then-same_fix c =
@@ -27,9 +26,9 @@ returns-then-same_fix c =
     let same = handed-fix g.lat g.lon c.ranges.lat.sfits c.ranges.lon.sfits in
     let l = course_of h g.line.now in
     let u = c.still_at in
-    updates-after (λ C. seen C l x g.now-ms) (λ C. still_at g.h.here C l g.now-ms) h _ g.crumbs.now u.new.1.0
+    updates-after (λ C. seen C l x g.now_ms) (λ C. still_at g.h.here C l g.now_ms) h _ g.crumbs.now u.new.crumbs
     (told_in u.result g.window.now) (omega arith)
-    (seen-again (capacity (length g.crumbs.now)) l x g.now-ms (state_of h g.crumbs.now)
+    (seen-again (capacity (length g.crumbs.now)) l x g.now_ms (state_of h g.crumbs.now)
     (sym (c.same_fix.ensures ∙ ap (λ (y : Fix). same_fix g.h.fed y) same)
     ∙ c.if-same_fix.true))
     (u.ensures g.window.now)
@@ -43,10 +42,10 @@ returns c =
     let l = course_of h g.line.now in
     let u = c.new_fix in
     let C = capacity (length g.crumbs.now) in
-    let t = with_here_ms g.now-ms (state_of h g.crumbs.now) in
-    updates-after (λ C. seen C l x g.now-ms) (λ C c. new_fix C l _ g.now-ms (with_here_ms g.now-ms c)) h h g.crumbs.now
-    u.new.1.1.0 (told_in u.result u.new.1.0) (omega arith)
-    (seen-new C l x g.now-ms (state_of h g.crumbs.now) (sym (c.same_fix.ensures
+    let t = with_here_ms g.now_ms (state_of h g.crumbs.now) in
+    updates-after (λ C. seen C l x g.now_ms) (λ C c. new_fix C l _ g.now_ms (with_here_ms g.now_ms c)) h h g.crumbs.now
+    u.new.crumbs (told_in u.result u.new.window) (omega arith)
+    (seen-new C l x g.now_ms (state_of h g.crumbs.now) (sym (c.same_fix.ensures
     ∙ ap (λ (y : Fix). same_fix g.h.fed y) same) ∙ c.if-same_fix.false)
-    ∙ sym (ap (λ (y : Fix). new_fix C l y g.now-ms t) same))
+    ∙ sym (ap (λ (y : Fix). new_fix C l y g.now_ms t) same))
     u.ensures

@@ -13,9 +13,9 @@ update-requires c =
     let g = c.args in
     let h = whole g.h g.window.now in
     let k = c.add-grown in
-    let grown = whole k.result k.new.1.0 in
+    let grown = whole k.result k.new.window in
     let fit =
-    fit-grown h grown g.p g.crumbs.now k.new.1.1.0 c.requires.1 k.ensures (length g.line.now) c.requires.0.1 in
+    fit-grown h grown g.p g.crumbs.now k.new.crumbs c.requires.grows k.ensures (length g.line.now) c.requires.window_len.1 in
     λ w. fit_same grown (whole k.result w) _ _ fit refl refl refl
 
 pub returns : goal.returns
@@ -24,6 +24,6 @@ returns c =
     let h = whole g.h g.window.now in
     let k = c.add-grown in
     let u = c.update in
-    let w = k.new.1.0 in
-    grown-updated h (whole k.result w) g.p g.crumbs.now k.new.1.1.0 c.requires.1 k.ensures g.line.now g.now-ms
-    (told_in u.result w) u.new.1.0 (u.ensures w)
+    let w = k.new.window in
+    grown-updated h (whole k.result w) g.p g.crumbs.now k.new.crumbs c.requires.grows k.ensures g.line.now g.now_ms
+    (told_in u.result w) u.new.crumbs (u.ensures w)

@@ -13,8 +13,8 @@ add_update-u-requires c =
     let on = c.engage_at-on in
     let there = whole on.result g.window.now in
     let engaged = on.ensures g.window.now in (
-      (c.requires.0.0, on-fit h there g.line.now g.h.course.join_end g.now-ms engaged _ _ c.requires.1 c.requires.0.1),
-      on-grows h there g.line.now g.h.course.join_end g.now-ms engaged,
+      (c.requires.window_len.0, on-fit h there g.line.now g.h.course.join_end g.now_ms engaged _ _ c.requires.bound c.requires.window_len.1),
+      on-grows h there g.line.now g.h.course.join_end g.now_ms engaged,
     )
 
 pub returns : goal.returns
@@ -23,5 +23,5 @@ returns c =
     let on = c.engage_at-on in
     let k = c.add_update-u in
     let w = g.window.now in
-    joined-on (whole g.h w) (whole on.result w) g.line.now g.crumbs.now k.new.1.1.0 g.p g.now-ms
-    (told_in k.result k.new.1.0) (on.ensures w) k.ensures
+    joined-on (whole g.h w) (whole on.result w) g.line.now g.crumbs.now k.new.crumbs g.p g.now_ms
+    (told_in k.result k.new.window) (on.ensures w) k.ensures

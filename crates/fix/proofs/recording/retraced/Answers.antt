@@ -15,8 +15,8 @@ engage-e-requires c =
     let g = c.args in
     let back = c.turned_back-back in
     let w = g.window.now in (
-      ((back.ensures w).fit _ c.requires.0.1.trail).held,
-      back-room (whole g.h w) (whole back.result w) (back.ensures w) _ c.requires.0.1.course,
+      ((back.ensures w).fit _ c.requires.window_len.1.trail).held,
+      back-room (whole g.h w) (whole back.result w) (back.ensures w) _ c.requires.window_len.1.course,
     )
 
 pub update-u-requires : goal.update-u-requires
@@ -24,9 +24,9 @@ update-u-requires c =
     let g = c.args in
     let back = c.turned_back-back in
     let e = c.engage-e in
-    λ w. engaged-fit (whole back.result w) g.crumbs.now g.line.now g.now-ms (decided_in e.result w)
-    (e.ensures w) _ c.if-e.true ((back.ensures w).fit _ c.requires.0.1.trail)
-    (back-room (whole g.h w) (whole back.result w) (back.ensures w) _ c.requires.0.1.course)
+    λ w. engaged-fit (whole back.result w) g.crumbs.now g.line.now g.now_ms (decided_in e.result w)
+    (e.ensures w) _ c.if-e.true ((back.ensures w).fit _ c.requires.window_len.1.trail)
+    (back-room (whole g.h w) (whole back.result w) (back.ensures w) _ c.requires.window_len.1.course)
 
 pub returns-then-e : goal.returns-then-e
 returns-then-e c =
@@ -35,10 +35,10 @@ returns-then-e c =
     let u = c.update-u in
     let e = c.engage-e in
     let w = g.window.now in
-    turned_on (whole g.h w) (whole back.result w) (back.ensures w) g.line.now g.crumbs.now u.new.1.0 g.p
-    g.now-ms _
-    (engaged-on (whole back.result w) g.line.now g.crumbs.now u.new.1.0 g.p
-    g.now-ms (decided_in e.result w) (e.ensures w) (told_in u.result w)
+    turned_on (whole g.h w) (whole back.result w) (back.ensures w) g.line.now g.crumbs.now u.new.crumbs g.p
+    g.now_ms _
+    (engaged-on (whole back.result w) g.line.now g.crumbs.now u.new.crumbs g.p
+    g.now_ms (decided_in e.result w) (e.ensures w) (told_in u.result w)
     c.if-e.true (u.ensures w))
 
 pub add_update-requires : goal.add_update-requires
@@ -50,14 +50,14 @@ add_update-requires c =
     let h = whole g.h w in
     let cut = whole back.result w in
     let r = decided_in e.result w in
-    let idle = back-idle h cut (back.ensures w) c.requires.1.1 in (
+    let idle = back-idle h cut (back.ensures w) c.requires.retrace_len_bound.1 in (
       (
-        c.requires.0.0,
-        unengaged-fit cut g.crumbs.now g.line.now g.now-ms r (e.ensures w) _ c.if-e.false
-            (back-fit h cut (back.ensures w) _ _ c.requires.1.1 c.requires.0.1),
+        c.requires.window_len.0,
+        unengaged-fit cut g.crumbs.now g.line.now g.now_ms r (e.ensures w) _ c.if-e.false
+            (back-fit h cut (back.ensures w) _ _ c.requires.retrace_len_bound.1 c.requires.window_len.1),
       ),
       idle-grows r.homing (ap (λ (f : Follow). f.line) (unengaged-follow cut g.crumbs.now g.line.now
-          g.now-ms r (e.ensures w) c.if-e.false) ∙ idle),
+          g.now_ms r (e.ensures w) c.if-e.false) ∙ idle),
     )
 
 pub returns : goal.returns
@@ -67,9 +67,9 @@ returns c =
     let u = c.add_update in
     let e = c.engage-e in
     let w = g.window.now in
-    let t = told_in u.result u.new.1.0 in
-    turned_on (whole g.h w) (whole back.result w) (back.ensures w) g.line.now g.crumbs.now u.new.1.1.0 g.p
-    g.now-ms t
-    (unengaged-on (whole back.result w) g.line.now g.crumbs.now u.new.1.1.0 g.p
-    g.now-ms (decided_in e.result w) (e.ensures w) t c.if-e.false
+    let t = told_in u.result u.new.window in
+    turned_on (whole g.h w) (whole back.result w) (back.ensures w) g.line.now g.crumbs.now u.new.crumbs g.p
+    g.now_ms t
+    (unengaged-on (whole back.result w) g.line.now g.crumbs.now u.new.crumbs g.p
+    g.now_ms (decided_in e.result w) (e.ensures w) t c.if-e.false
     u.ensures)

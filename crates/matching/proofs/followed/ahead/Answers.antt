@@ -11,15 +11,15 @@ use Rattle.matching.proofs.followed.ahead.Goals as goal
 
 pub line_at_along-requires : goal.line_at_along-requires
 line_at_along-requires c =
-    (c.requires.1.0, c.requires.1.1, lent-as c.args.f line.Course c.in-Course.is _ _ c.requires.0)
+    (c.requires.le_end.0, c.requires.le_end.1, lent-as c.args.f line.Course c.in-Course.is _ _ c.requires.lent)
 
 pub at_along-requires : goal.at_along-requires
 at_along-requires c =
-    (c.requires.1.0, c.requires.1.1, lent-as c.args.f line.Nothing c.in-Nothing.is _ _ c.requires.0)
+    (c.requires.le_end.0, c.requires.le_end.1, lent-as c.args.f line.Nothing c.in-Nothing.is _ _ c.requires.lent)
 
 pub at_along-requires-in-Breadcrumb : goal.at_along-requires-in-Breadcrumb
 at_along-requires-in-Breadcrumb c =
-    (c.requires.1.0, c.requires.1.1, lent-as c.args.f line.Breadcrumb c.in-Breadcrumb.is _ _ c.requires.0)
+    (c.requires.le_end.0, c.requires.le_end.1, lent-as c.args.f line.Breadcrumb c.in-Breadcrumb.is _ _ c.requires.lent)
 
 pub returns-in-Course : goal.returns-in-Course
 unfolding lookahead_m constant of_bits followed_on

@@ -21,7 +21,6 @@ returns c = λ course s i.
     let from = c.search_from in
     let to = c.search_to in
     let best = c.nearest-best in
-    let told = c.best-1.given in
     ap (λ (n : Nearest). Found n) (c.widened.ensures course s i)
-    ∙ matched-some best.result course g.p s told.0.0 told.1
+    ∙ matched-some best.result course g.p s c.in-Found.near c.in-Found.is
     ∙ matched-from i g.p from.result to.result best.result from.ensures to.ensures (best.ensures course s i)

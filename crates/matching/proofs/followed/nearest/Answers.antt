@@ -8,15 +8,15 @@ use Rattle.matching.proofs.followed.nearest.Goals as goal
 
 pub nearest_on_course-requires : goal.nearest_on_course-requires
 nearest_on_course-requires c =
-    (c.requires.1.0, c.requires.1.1, lent-as c.args.f line.Course c.in-Course.is _ _ c.requires.0)
+    (c.requires.le_from.0, c.requires.le_from.1, lent-as c.args.f line.Course c.in-Course.is _ _ c.requires.lent)
 
 pub nearest_on_breadcrumb-requires : goal.nearest_on_breadcrumb-requires
 nearest_on_breadcrumb-requires c =
-    (c.requires.1.0, c.requires.1.1, lent-as c.args.f line.Nothing c.in-Nothing.is _ _ c.requires.0)
+    (c.requires.le_from.0, c.requires.le_from.1, lent-as c.args.f line.Nothing c.in-Nothing.is _ _ c.requires.lent)
 
 pub nearest_on_breadcrumb-requires-in-Breadcrumb : goal.nearest_on_breadcrumb-requires-in-Breadcrumb
 nearest_on_breadcrumb-requires-in-Breadcrumb c =
-    (c.requires.1.0, c.requires.1.1, lent-as c.args.f line.Breadcrumb c.in-Breadcrumb.is _ _ c.requires.0)
+    (c.requires.le_from.0, c.requires.le_from.1, lent-as c.args.f line.Breadcrumb c.in-Breadcrumb.is _ _ c.requires.lent)
 
 pub returns-in-Course : goal.returns-in-Course
 unfolding nearest_by followed_on

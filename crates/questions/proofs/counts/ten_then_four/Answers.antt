@@ -3,12 +3,12 @@ use borrow.Author.Tests.{not-true, not-false}
 use Rattle.questions.proofs.counts.ten_then_four.Goals as goal
 
 pub returns-then-not-ten : goal.returns-then-not-ten
-returns-then-not-ten c = simp (not-true c.args.ten c.if-not-ten.true)
+returns-then-not-ten c = simp c.if-not-ten.true
 
 pub returns-then-not-four : goal.returns-then-not-four
 returns-then-not-four c =
-    simp (not-false c.args.ten c.if-not-ten.false, not-true c.args.four c.if-not-four.true)
+    simp (c.if-not-ten.false, c.if-not-four.true)
 
 pub returns : goal.returns
 returns c =
-    simp (not-false c.args.ten c.if-not-ten.false, not-false c.args.four c.if-not-four.false)
+    simp (c.if-not-ten.false, c.if-not-four.false)

@@ -6,9 +6,8 @@ use borrow.Author.Rules.{rules}
 use Rattle.ride_log.proofs.file_questions.asks_place.Goals as goal
 
 pub returns-in-At : goal.returns-in-At
-returns-in-At c = let at = c.place-1.given in
-    let known = c.known_told-1.given in
-    place-asked _ at.0.0 at.0.1.0 at.1 known.0.1 known.1.0.1 c.asks_fix.ensures
+returns-in-At c = let known = c.in-At.known_told-1-own.given in
+    place-asked _ c.in-At.lat c.in-At.lon c.in-At.is known.0.1 known.1.0.1 c.asks_fix.ensures
 
 pub returns-in-Missing : goal.returns-in-Missing
 unfolding asks_place

@@ -1,5 +1,4 @@
 -- `search::course_match::after_gap` meets its contract: the test is the rule's.
-use borrow.Author.Rules.{rules}
 use lib.Ieee.{of_bits}
 use Rattle.binary32.specs.Arithmetic.{constant}
 use Rattle.search.specs.CourseMatch.{hop_m, after_gap}

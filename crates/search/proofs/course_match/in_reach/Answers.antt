@@ -1,5 +1,4 @@
 -- `search::course_match::in_reach` meets its contract: the stretch is the rule's.
-use borrow.Author.Rules.{rules}
 use lib.Ieee.{of_bits}
 use Rattle.binary32.specs.Arithmetic.{constant}
 use Rattle.search.specs.CourseMatch.{jump_m, in_reach}

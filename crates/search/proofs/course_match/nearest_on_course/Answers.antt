@@ -2,7 +2,6 @@
 -- segment of the line.
 use mathlib.Core.Path.{sym, ◌∙◌}
 use native.Mathlib.Omega.{arith}
-use borrow.Author.Rules.{rules}
 use Rattle.search.specs.CourseMatch.{nearest_on_course, matched}
 use Rattle.search.proofs.course_match.Theorems.{near-met}
 use Rattle.search.proofs.course_match.nearest_on_course.Goals as goal
@@ -28,7 +27,7 @@ settled-requires c =
     let g = c.args in
     let h = c.requires in
     let m = near-met _ g.p g.ends h.0 g.was _ (sym c.on_near.ensures ∙ c.in-Found.is) in
-    (h, (omega (arith, m.from), omega (arith, m.to)))
+    record { le_from = h; le_end = (omega (arith, m.from), omega (arith, m.to)) }
 
 pub returns : goal.returns
 unfolding nearest_on_course matched

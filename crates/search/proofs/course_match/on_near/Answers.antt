@@ -1,5 +1,4 @@
 -- `search::course_match::on_near` meets its contract: the stretch and the ranking are the rule's.
-use borrow.Author.Rules.{rules}
 use lib.Ieee.{of_bits}
 use Rattle.binary32.specs.Arithmetic.{constant}
 use Rattle.search.specs.CourseMatch.{near_m, on_near}

@@ -1,5 +1,4 @@
 -- `search::course_match::or_else` meets its contract: the case is the rule's.
-use borrow.Author.Rules.{rules}
 use Rattle.search.specs.CourseMatch.{first_found}
 use Rattle.search.proofs.course_match.or_else.Goals as goal
 

@@ -1,5 +1,4 @@
 -- `search::course_match::settled` meets its contract: the test is the rule's.
-use borrow.Author.Rules.{rules}
 use Rattle.search.specs.CourseMatch.{settled}
 use Rattle.search.proofs.course_match.settled.Goals as goal
 

@@ -1,11 +1,5 @@
 -- `search::quick::along_row` meets its contract: the lead behind the segments tried.
-use Prim.Native.Nat.{◌-◌, ◌≤◌}
-use mathlib.Core.Path.{◌≡◌}
 use native.Mathlib.Omega.{arith}
-use borrow.Author.Rules.{rules}
-use Rattle.crumbs.specs.Crumb.{crumbs}
-use Rattle.search.specs.Square.{leads_down}
-use Rattle.search.specs.Rows.{row_length}
 use Rattle.search.proofs.quick.Passing.{over-start, over-next, over-end}
 use Rattle.search.proofs.quick.along_row.Goals as goal
 
@@ -37,12 +31,11 @@ pub loop-k-smaller : goal.loop-k-smaller
 loop-k-smaller c = omega arith
 
 pub loop-k-preserved : goal.loop-k-preserved
-loop-k-preserved c =
-    (
-      omega (arith, c.loop-k-test.true),
-      over-next _ _ _ _ _ _ c.loop-k.invariant.1
-          (c.consider-leading.ensures _ c.line_crumb-a.ensures c.line_crumb-b.ensures),
-    )
+loop-k-preserved c = (
+  omega (arith, c.loop-k-test.true),
+  over-next _ _ _ _ _ _ c.loop-k.invariant.1
+      (c.consider-leading.ensures _ c.line_crumb-a.ensures c.line_crumb-b.ensures),
+)
 
 pub returns : goal.returns
 returns c = let v = c.loop-k.invariant in over-end _ _ _ _ _ _ v.0 c.loop-k-test.false v.1

@@ -1,12 +1,9 @@
 -- `search::quick::along_row` meets its contract: the lead behind the segments tried.
 use Prim.Native.Nat.{◌-◌, ◌≤◌}
 use mathlib.Core.Path.{◌≡◌}
-use native.Mathlib.Omega.{arith}
-use borrow.Author.Rules.{rules}
 use Rattle.crumbs.specs.Crumb.{crumbs}
 use Rattle.search.specs.Square.{leads_down}
 use Rattle.search.specs.Rows.{row_length}
-use Rattle.search.proofs.quick.Passing.{over-start, over-next, over-end}
 use Rattle.search.proofs.quick.along_row.Given as goal
 
 abbrev pub invariant-loop-k : goal.invariant-loop-k

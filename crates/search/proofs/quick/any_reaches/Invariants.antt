@@ -1,10 +1,8 @@
 -- `search::quick::any_reaches` tests each segment.
 use Prim.Native.Nat.{◌-◌}
-use native.Mathlib.Omega.{arith}
-use borrow.Author.Rules.{rules}
 use Rattle.crumbs.specs.Crumb.{crumbs}
 use Rattle.search.specs.Rows.{row_length}
-use Rattle.search.proofs.quick.Passing.{Tested, tested-start, tested-next, tested-end}
+use Rattle.search.proofs.quick.Passing.{Tested}
 use Rattle.search.proofs.quick.any_reaches.Given as goal
 
 abbrev pub invariant-loop-k : goal.invariant-loop-k

@@ -1,5 +1,4 @@
 -- `search::quick::consider` meets its contract.
-use borrow.Author.Rules.{rules}
 use Rattle.search.proofs.quick.Leading.{square-is, leads-in, leads-out}
 use Rattle.search.proofs.quick.consider.Goals as goal
 

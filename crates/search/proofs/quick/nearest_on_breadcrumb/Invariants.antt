@@ -1,11 +1,7 @@
 -- `search::quick::nearest_on_breadcrumb` meets its contract: the lead by squares follows the rule's best.
 use Prim.Native.Nat.{◌+◌, ◌-◌}
-use native.Mathlib.Nat.{lt_of_le_of_lt}
-use native.Mathlib.Omega.{arith}
-use borrow.Author.Rules.{rules}
 use Rattle.crumbs.specs.Crumb.{crumbs}
-use Rattle.search.proofs.Searching.{breadcrumb-is}
-use Rattle.search.proofs.quick.Leading.{Races, races-start, races-on, races-none, races-one, counted}
+use Rattle.search.proofs.quick.Leading.{Races}
 use Rattle.search.proofs.quick.nearest_on_breadcrumb.Given as goal
 
 abbrev pub invariant-loop-end : goal.invariant-loop-end

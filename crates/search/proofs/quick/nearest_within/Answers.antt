@@ -1,6 +1,5 @@
 -- `search::quick::nearest_within` meets its contract.
 use mathlib.Core.Path.{◌∙◌}
-use borrow.Author.Rules.{rules}
 use Rattle.search.proofs.quick.nearest_within.Goals as goal
 
 pub returns-in-Plain : goal.returns-in-Plain

@@ -1,5 +1,4 @@
 -- `search::quick::over_row` meets its contract: where none reaches into the stretch, the lead stays.
-use borrow.Author.Rules.{rules}
 use Rattle.search.proofs.quick.Passing.{row_stays}
 use Rattle.search.proofs.quick.over_row.Goals as goal
 

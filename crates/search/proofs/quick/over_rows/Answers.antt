@@ -1,10 +1,5 @@
 -- `search::quick::over_rows` meets its contract: the lead behind the rows tried.
-use Prim.Native.Nat.{◌+◌, ◌-◌}
 use native.Mathlib.Omega.{arith}
-use borrow.Author.Tests.{leb-true}
-use Rattle.crumbs.specs.Crumb.{crumbs}
-use Rattle.search.specs.Square.{Passes}
-use Rattle.search.specs.Rows.{row_length}
 use Rattle.search.proofs.quick.Passing.{passes-start, passes-row}
 use Rattle.search.proofs.quick.over_rows.Goals as goal
 
@@ -13,22 +8,22 @@ loop-end-init c = passes-start _ _ _
 
 pub over_row-leading-requires : goal.over_row-leading-requires
 over_row-leading-requires c =
-    let row = leb-true row_length (c.loop-end.end - c.args.ends.from) c.if-end-ends-ge-ROW.true in
+    let row = c.if-end-ends-ge-ROW.true in
     omega (arith, c.loop-end.invariant.upto, c.requires, c.loop-end-test.true, row)
 
 pub overflow_sub-end-in-loop-end : goal.overflow_sub-end-in-loop-end
 overflow_sub-end-in-loop-end c =
-    let row = leb-true row_length (c.loop-end.end - c.args.ends.from) c.if-end-ends-ge-ROW.true in
+    let row = c.if-end-ends-ge-ROW.true in
     omega (arith, row)
 
 pub loop-end-smaller : goal.loop-end-smaller
 loop-end-smaller c =
-    let row = leb-true row_length (c.loop-end.end - c.args.ends.from) c.if-end-ends-ge-ROW.true in
+    let row = c.if-end-ends-ge-ROW.true in
     omega (arith, row)
 
 pub loop-end-preserved : goal.loop-end-preserved
 loop-end-preserved c =
-    let row = leb-true row_length (c.loop-end.end - c.args.ends.from) c.if-end-ends-ge-ROW.true in
+    let row = c.if-end-ends-ge-ROW.true in
     passes-row _ _ _ c.loop-end.invariant c.loop-end-test.true row c.over_row-leading.ensures
 
 pub returns-else-end-ends-ge-ROW : goal.returns-else-end-ends-ge-ROW

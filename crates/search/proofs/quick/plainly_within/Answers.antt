@@ -1,13 +1,8 @@
 -- `search::quick::plainly_within` meets its contract: the lead by squares follows the rule's best.
-use Prim.Native.Nat.{◌+◌, ◌-◌, ◌≤◌}
-use mathlib.Core.Path.{◌≡◌, refl, sym, ap, ◌∙◌}
 use native.Mathlib.Nat.{lt_of_le_of_lt}
 use native.Mathlib.Omega.{arith}
-use borrow.Author.Rules.{rules}
-use Rattle.crumbs.specs.Crumb.{crumbs}
-use Rattle.segments.specs.Segment.{found}
 use Rattle.search.specs.Search.{nearest_within}
-use Rattle.search.proofs.quick.Leading.{Chases, chases-start, chases-on, chases-none, chases-one, counted}
+use Rattle.search.proofs.quick.Leading.{chases-start, chases-on, chases-none, chases-one, counted}
 use Rattle.search.proofs.quick.Passing.{chases-passed}
 use Rattle.search.proofs.quick.plainly_within.Goals as goal
 

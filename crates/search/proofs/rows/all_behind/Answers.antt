@@ -1,7 +1,7 @@
 -- `search::rows::all_behind` meets its contract.
-use borrow.Author.Rules.{rules}
 use mathlib.Core.Bool.{false≢true}
 use mathlib.Core.Logic.{inl}
+use Rattle.std.proofs.lemmas.Bool.{not_from_true}
 use Rattle.search.proofs.rows.Fronting.{farther}
 use Rattle.search.proofs.rows.all_behind.Goals as goal
 
@@ -14,5 +14,5 @@ returns-then-not-reaches c = λ e. absurd (false≢true e)
 pub returns : goal.returns
 returns c =
     farther c.anywhere.ensures (c.reaches.ensures _ _ c.crumb-a.ensures c.crumb-b.ensures)
-    c.if-not-reaches.false c.nearest_on-first.ensures
+    (not_from_true _ c.if-not-reaches.false) c.nearest_on-first.ensures
     c.sqrtf.ensures

@@ -1,14 +1,10 @@
 -- `search::rows::front_row` meets its contract: the rows tried so far have one in front.
-use Prim.Native.Nat.{◌+◌, ◌-◌, ◌≤◌}
 use native.Mathlib.Omega.{arith}
-use lib.Ieee.{of_bits}
-use Rattle.crumbs.specs.Crumb.{crumbs}
-use Rattle.search.specs.Rows.{row_length, InFront}
 use Rattle.search.proofs.rows.Fronting.{front-start, front-end}
 use Rattle.search.proofs.rows.front_row.Goals as goal
 
 pub loop-end-init : goal.loop-end-init
-loop-end-init c = (omega arith, omega arith, front-start _ _ _ c.requires.1)
+loop-end-init c = (omega arith, omega arith, front-start _ _ _ c.requires.row_length_bound)
 
 pub row_at-first-requires : goal.row_at-first-requires
 row_at-first-requires c = omega arith

@@ -1,10 +1,7 @@
 -- `search::rows::front_row` meets its contract: the rows tried so far have one in front.
 use Prim.Native.Nat.{◌+◌, ◌-◌, ◌≤◌}
-use native.Mathlib.Omega.{arith}
-use lib.Ieee.{of_bits}
 use Rattle.crumbs.specs.Crumb.{crumbs}
 use Rattle.search.specs.Rows.{row_length, InFront}
-use Rattle.search.proofs.rows.Fronting.{front-start, front-end}
 use Rattle.search.proofs.rows.front_row.Given as goal
 
 abbrev pub invariant-loop-end : goal.invariant-loop-end

@@ -1,10 +1,6 @@
 -- `search::rows::front_segment` meets its contract: what no number looked at is less than.
 use Prim.Native.Nat.{◌-◌, ◌<◌}
-use native.Mathlib.Omega.{arith}
-use borrow.Author.Rules.{rules}
 use Rattle.search.specs.Rows.{row_length, LeastSoFar}
-use Rattle.search.proofs.rows.Filling.{least_start, least-next}
-use Rattle.search.proofs.rows.Fronting.{one-of-row}
 use Rattle.search.proofs.rows.front_segment.Given as goal
 
 abbrev pub invariant-loop-k : goal.invariant-loop-k

@@ -1,8 +1,5 @@
 -- `search::rows::least_of` looks at each number.
-use Prim.Native.Nat.{◌-◌, ◌≤◌}
 use native.Mathlib.Omega.{arith}
-use borrow.Author.Rules.{rules}
-use Rattle.search.specs.Rows.{row_length, LeastSoFar}
 use Rattle.search.proofs.rows.Filling.{least_start, least-next, least-end}
 use Rattle.search.proofs.rows.least_of.Goals as goal
 

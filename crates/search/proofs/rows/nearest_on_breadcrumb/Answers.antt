@@ -1,17 +1,11 @@
 -- `search::rows::nearest_on_breadcrumb` meets its contract: where the segment in front settles it, and where it does not.
-use Prim.Native.Nat.{◌-◌}
 use native.Mathlib.Omega.{arith}
-use borrow.Author.Rules.{rules}
-use borrow.Author.Tests.{leb-true}
-use Rattle.search.specs.Rows.{row_length}
 use Rattle.search.proofs.rows.Fronting.{nearest-in-front}
 use Rattle.search.proofs.rows.nearest_on_breadcrumb.Goals as goal
 
 pub front_row-row-requires : goal.front_row-row-requires
 front_row-row-requires c =
-    let ends = c.args.ends in
-    let row = leb-true row_length (ends.to - ends.from) c.if-ends-ge-ROW.true in
-    (c.requires, omega (arith, c.if-ends.true, row))
+    record { le_from = c.requires; row_length_bound = omega (arith, c.if-ends.true, c.if-ends-ge-ROW.true) }
 
 pub nearest_on-near-requires : goal.nearest_on-near-requires
 nearest_on-near-requires c =

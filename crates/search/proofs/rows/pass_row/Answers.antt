@@ -1,5 +1,4 @@
 -- `search::rows::pass_row` meets its contract.
-use borrow.Author.Rules.{rules}
 use Rattle.search.proofs.rows.Fronting.{leads-now, leads-still}
 use Rattle.search.proofs.rows.pass_row.Goals as goal
 

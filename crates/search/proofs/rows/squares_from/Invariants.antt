@@ -1,10 +1,8 @@
 -- `search::rows::squares_from` works out each square.
 use Prim.Native.Nat.{◌-◌}
-use mathlib.Core.Path.{refl, sym}
-use native.Mathlib.Omega.{arith}
 use Rattle.crumbs.specs.Crumb.{crumbs}
 use Rattle.search.specs.Rows.{row_length}
-use Rattle.search.proofs.rows.Filling.{Worked, worked-next, worked-end}
+use Rattle.search.proofs.rows.Filling.{Worked}
 use Rattle.search.proofs.rows.squares_from.Given as goal
 
 abbrev pub invariant-loop-k : goal.invariant-loop-k

@@ -29,14 +29,14 @@ returns-then-h c =
     let g = c.args in
     let w = g.h.window in
     let k = c.stop_following-stopped in
-    let stops = subst (λ (x : Guided). Follows stop (whole x w) g.crumbs.now (whole k.result w) k.new.1.0)
+    let stops = subst (λ (x : Guided). Follows stop (whole x w) g.crumbs.now (whole k.result w) k.new.crumbs)
     c.without_window-g.ensures (k.ensures w) in
-    subst (λ (r : Homing). Follows (auto_off g.h.auto_follow) g.h g.crumbs.now r k.new.1.0)
+    subst (λ (r : Homing). Follows (auto_off g.h.auto_follow) g.h g.crumbs.now r k.new.crumbs)
     (sym c.with_window.ensures)
     (follows-as (auto_off g.h.auto_follow) (λ C s. and_then (stop C s) λ _ after. done (tt {0}) (with_auto_follow false after)) g.h
-    g.crumbs.now _ k.new.1.0
+    g.crumbs.now _ k.new.crumbs
     (ap (λ (b : Bool). (auto_off b (capacity (length g.crumbs.now)) (state_of g.h g.crumbs.now)).state) c.if-h.true)
-    (auto-set stop false g.h (whole k.result w) _ g.crumbs.now k.new.1.0 stops
+    (auto-set stop false g.h (whole k.result w) _ g.crumbs.now k.new.crumbs stops
     (record { same = λ b. refl; trail = refl })))
 
 pub returns : goal.returns

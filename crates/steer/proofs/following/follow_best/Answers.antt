@@ -16,7 +16,7 @@ use borrow.Author.Rules.{rules}
 use Rattle.steer.proofs.following.follow_best.Goals as goal
 
 pub way_home-requires : goal.way_home-requires
-way_home-requires c = let s = c in (s.requires.0, s.requires.1.0)
+way_home-requires c = record { guided_fit = c.requires.guided_fit; line_value = c.requires.line_value.0 }
 
 pub returns-in_default : goal.returns-in_default
 unfolding follow
@@ -26,22 +26,22 @@ returns-in_default c =
     let w = g.window.now in
     let h = whole g.h w in
     let l = course_of h g.line.now in
-    decides-as (λ C. follow g.best C l g.now-ms) (λ C. way_home C l g.now-ms) h g.crumbs.now
-    (decided_in k.result w) k.new.1.1.0
-    (ap (λ (b : Best). follow b (capacity (length g.crumbs.now)) l g.now-ms (state_of h g.crumbs.now))
+    decides-as (λ C. follow g.best C l g.now_ms) (λ C. way_home C l g.now_ms) h g.crumbs.now
+    (decided_in k.result w) k.new.crumbs
+    (ap (λ (b : Best). follow b (capacity (length g.crumbs.now)) l g.now_ms (state_of h g.crumbs.now))
     c.in_default.is)
     k.ensures
 
 pub engage_at-engaged-requires : goal.engage_at-engaged-requires
-engage_at-engaged-requires c = (c.requires.0 []).course
+engage_at-engaged-requires c = (c.requires.guided_fit []).course
 
 pub brought-requires : goal.brought-requires
 brought-requires c =
     let g = c.args in
     let near = c.in-Found.near in
     λ w. engaged-fits (whole g.h w) (whole c.engage_at-engaged.result w) (course_of (whole g.h w) g.line.now) near.end
-    g.now-ms (c.engage_at-engaged.ensures w) (length g.crumbs.now) (length g.line.now) (c.requires.0 w)
-    (subst (λ (b : Best). InLine g.h.course.line_len b) c.in-Found.is c.requires.1.1)
+    g.now_ms (c.engage_at-engaged.ensures w) (length g.crumbs.now) (length g.line.now) (c.requires.guided_fit w)
+    (subst (λ (b : Best). InLine g.h.course.line_len b) c.in-Found.is c.requires.line_value.1)
 
 pub returns : goal.returns
 returns c =
@@ -51,9 +51,9 @@ returns c =
     let w = g.window.now in
     let h = whole g.h w in
     let l = course_of h g.line.now in
-    decides-as (λ C. follow g.best C l g.now-ms) (λ C. follow (Found near) C l g.now-ms) h g.crumbs.now
-    (decided_in k.result w) k.new.1.0
-    (ap (λ (b : Best). follow b (capacity (length g.crumbs.now)) l g.now-ms (state_of h g.crumbs.now))
+    decides-as (λ C. follow g.best C l g.now_ms) (λ C. follow (Found near) C l g.now_ms) h g.crumbs.now
+    (decided_in k.result w) k.new.crumbs
+    (ap (λ (b : Best). follow b (capacity (length g.crumbs.now)) l g.now_ms (state_of h g.crumbs.now))
     c.in-Found.is)
     (goes-on-course h (whole c.engage_at-engaged.result w) near (decided_in k.result w) g.crumbs.now
-    k.new.1.0 g.line.now g.now-ms (c.engage_at-engaged.ensures w) (k.ensures w))
+    k.new.crumbs g.line.now g.now_ms (c.engage_at-engaged.ensures w) (k.ensures w))

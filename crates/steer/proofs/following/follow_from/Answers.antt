@@ -38,12 +38,12 @@ returns-in-Nothing c =
     let w = g.window.now in
     let h = whole g.h w in
     let l = course_of h g.line.now in
-    decides-as (λ C. follow_from g.h.follow.line C l g.now-ms) (λ C. follow
-    c.near_here-best.result C l g.now-ms) h g.crumbs.now (decided_in k.result w)
-    k.new.1.1.1.0
-    (ap (λ (x : Line). follow_from x C l g.now-ms (state_of h g.crumbs.now))
+    decides-as (λ C. follow_from g.h.follow.line C l g.now_ms) (λ C. follow
+    c.near_here-best.result C l g.now_ms) h g.crumbs.now (decided_in k.result w)
+    k.new.crumbs
+    (ap (λ (x : Line). follow_from x C l g.now_ms (state_of h g.crumbs.now))
     c.in-Nothing.is
-    ∙ sym (ap (λ (b : Best). follow b C l g.now-ms (state_of h g.crumbs.now))
+    ∙ sym (ap (λ (b : Best). follow b C l g.now_ms (state_of h g.crumbs.now))
     (c.near_here-best.ensures w)))
     k.ensures
 
@@ -55,9 +55,9 @@ returns-in-Breadcrumb c =
     let w = g.window.now in
     let h = whole g.h w in
     let l = course_of h g.line.now in
-    decides-as (λ C. follow_from g.h.follow.line C l g.now-ms) (λ C. brought C l g.now-ms) h g.crumbs.now
-    (decided_in k.result w) k.new.1.0
-    (ap (λ (x : Line). follow_from x (capacity (length g.crumbs.now)) l g.now-ms (state_of h g.crumbs.now))
+    decides-as (λ C. follow_from g.h.follow.line C l g.now_ms) (λ C. brought C l g.now_ms) h g.crumbs.now
+    (decided_in k.result w) k.new.crumbs
+    (ap (λ (x : Line). follow_from x (capacity (length g.crumbs.now)) l g.now_ms (state_of h g.crumbs.now))
     c.in-Breadcrumb.is)
     (k.ensures w)
 
@@ -69,8 +69,8 @@ returns-in-Course c =
     let w = g.window.now in
     let h = whole g.h w in
     let l = course_of h g.line.now in
-    decides-as (λ C. follow_from g.h.follow.line C l g.now-ms) (λ C. brought C l g.now-ms) h g.crumbs.now
-    (decided_in k.result w) k.new.1.0
-    (ap (λ (x : Line). follow_from x (capacity (length g.crumbs.now)) l g.now-ms (state_of h g.crumbs.now))
+    decides-as (λ C. follow_from g.h.follow.line C l g.now_ms) (λ C. brought C l g.now_ms) h g.crumbs.now
+    (decided_in k.result w) k.new.crumbs
+    (ap (λ (x : Line). follow_from x (capacity (length g.crumbs.now)) l g.now_ms (state_of h g.crumbs.now))
     c.in-Course.is)
     (k.ensures w)

@@ -23,7 +23,7 @@ unfolding set_auto_follow
 returns c =
     let g = c.args in
     let k = c.auto_off in
-    follows-as (set_auto_follow g.on) (auto_off g.h.auto_follow) g.h g.crumbs.now k.result k.new.1.0
+    follows-as (set_auto_follow g.on) (auto_off g.h.auto_follow) g.h g.crumbs.now k.result k.new.crumbs
     (ap (λ (b : Bool). (set_auto_follow b (capacity (length g.crumbs.now)) (state_of g.h g.crumbs.now)).state)
     c.if-on.false)
     k.ensures

@@ -4,10 +4,9 @@ use borrow.Author.Rules.{rules}
 use Rattle.steer.proofs.following.set_following.Goals as goal
 
 pub set_on-d-requires : goal.set_on-d-requires
-set_on-d-requires c = let apart = c in
-    fit_apart apart.without-window.ensures apart.before.before.before.requires
+set_on-d-requires c = fit_apart c.without_window-g.ensures c.requires
 
 pub returns : goal.returns
 returns c =
     let a = c.args in
-    set-whole a.follow a.now-ms a.line.now c.without_window-g.ensures c.with_window.ensures c.set_on-d.ensures
+    set-whole a.follow a.now_ms a.line.now c.without_window-g.ensures c.with_window.ensures c.set_on-d.ensures

@@ -22,9 +22,9 @@ returns-then-follow c =
     let w = g.window.now in
     let h = whole g.h w in
     let l = course_of h g.line.now in
-    decides-as (λ C. set_following g.follow C l g.now-ms) (λ C. follow_from g.h.follow.line C l g.now-ms) h
-    g.crumbs.now (decided_in k.result w) k.new.1.1.0
-    (ap (λ (b : Bool). set_following b (capacity (length g.crumbs.now)) l g.now-ms (state_of h g.crumbs.now))
+    decides-as (λ C. set_following g.follow C l g.now_ms) (λ C. follow_from g.h.follow.line C l g.now_ms) h
+    g.crumbs.now (decided_in k.result w) k.new.crumbs
+    (ap (λ (b : Bool). set_following b (capacity (length g.crumbs.now)) l g.now_ms (state_of h g.crumbs.now))
     c.if-follow.true)
     k.ensures
 
@@ -35,7 +35,7 @@ pub brought-requires : goal.brought-requires
 brought-requires c =
     let g = c.args in
     let k = c.stop_following-stopped in
-    λ w. stopped-fits (whole g.h w) (whole k.result w) g.crumbs.now k.new.1.0 (k.ensures w) (length g.line.now)
+    λ w. stopped-fits (whole g.h w) (whole k.result w) g.crumbs.now k.new.crumbs (k.ensures w) (length g.line.now)
     (c.requires w).course
 
 pub returns : goal.returns
@@ -46,9 +46,9 @@ returns c =
     let w = g.window.now in
     let h = whole g.h w in
     let l = course_of h g.line.now in
-    decides-as (λ C. set_following g.follow C l g.now-ms) (λ C. set_following false C l g.now-ms) h g.crumbs.now
-    (decided_in k.result w) k.new.1.0
-    (ap (λ (b : Bool). set_following b (capacity (length g.crumbs.now)) l g.now-ms (state_of h g.crumbs.now))
+    decides-as (λ C. set_following g.follow C l g.now_ms) (λ C. set_following false C l g.now_ms) h g.crumbs.now
+    (decided_in k.result w) k.new.crumbs
+    (ap (λ (b : Bool). set_following b (capacity (length g.crumbs.now)) l g.now_ms (state_of h g.crumbs.now))
     c.if-follow.false)
-    (ends h (whole t.result w) (decided_in k.result w) g.crumbs.now t.new.1.0 k.new.1.0 g.line.now g.now-ms
+    (ends h (whole t.result w) (decided_in k.result w) g.crumbs.now t.new.crumbs k.new.crumbs g.line.now g.now_ms
     (t.ensures w) (k.ensures w))

@@ -6,13 +6,13 @@ use borrow.Author.Rules.{rules}
 use Rattle.steer.proofs.way_home.brought.Goals as goal
 
 pub returns-in_default : goal.returns-in_default
-returns-in_default c = λ w. let s = c.before.before.before.before in let g = s.args in
-    brought-nowhere (whole g.h w) g.crumbs.now g.line.now g.now-ms c.in_default.is (s.requires w).trail
+returns-in_default c = λ w. let g = c.args in
+    brought-nowhere (whole g.h w) g.crumbs.now g.line.now g.now_ms c.in_default.is (c.requires w).trail
 
 pub returns : goal.returns
 returns c = λ w.
     let g = c.args in
     let k = c.update-u in
-    brought-at (whole g.h w) g.crumbs.now g.line.now g.now-ms
+    brought-at (whole g.h w) g.crumbs.now g.line.now g.now_ms
     c.in-At.p
-    (told_in k.result w) k.new.1.0 c.in-At.is (k.ensures w)
+    (told_in k.result w) k.new.crumbs c.in-At.is (k.ensures w)

@@ -18,9 +18,9 @@ returns-then-engaged c = λ w.
     let g = c.args in
     let k = c.brought in
     let l = course_of (whole g.h w) g.line.now in
-    decides-as (λ C. engaged_or g.engaged C l g.now-ms) (λ C. brought C l g.now-ms) (whole g.h w) g.crumbs.now
-    (decided_in k.result w) k.new.1.0
-    (ap (λ (b : Bool). engaged_or b (capacity (length g.crumbs.now)) l g.now-ms (state_of (whole g.h w) g.crumbs.now))
+    decides-as (λ C. engaged_or g.engaged C l g.now_ms) (λ C. brought C l g.now_ms) (whole g.h w) g.crumbs.now
+    (decided_in k.result w) k.new.crumbs
+    (ap (λ (b : Bool). engaged_or b (capacity (length g.crumbs.now)) l g.now_ms (state_of (whole g.h w) g.crumbs.now))
     c.if-engaged.true)
     (k.ensures w)
 
@@ -29,7 +29,7 @@ unfolding engaged_or
 returns c = λ w.
     let g = c.args in
     let l = course_of (whole g.h w) g.line.now in
-    decides-as (λ C. engaged_or g.engaged C l g.now-ms) (λ C t. done false t) (whole g.h w) g.crumbs.now _ g.crumbs.now
-    (ap (λ (b : Bool). engaged_or b (capacity (length g.crumbs.now)) l g.now-ms (state_of (whole g.h w) g.crumbs.now))
+    decides-as (λ C. engaged_or g.engaged C l g.now_ms) (λ C t. done false t) (whole g.h w) g.crumbs.now _ g.crumbs.now
+    (ap (λ (b : Bool). engaged_or b (capacity (length g.crumbs.now)) l g.now_ms (state_of (whole g.h w) g.crumbs.now))
     c.if-engaged.false)
     (decides-still false (whole g.h w) g.crumbs.now (c.requires w).trail)

@@ -9,15 +9,15 @@ use borrow.Author.Rules.{rules}
 use Rattle.steer.proofs.way_home.way_home.Goals as goal
 
 pub flush-flushed-requires : goal.flush-flushed-requires
-flush-flushed-requires c = (c.requires.0 []).trail
+flush-flushed-requires c = (c.requires.guided_fit []).trail
 
 pub engage-engaged-requires : goal.engage-engaged-requires
 engage-engaged-requires c =
     let g = c.args in
     let k = c.flush-flushed in
     let w = g.window.now in
-    flushed-fits (whole g.h w) (whole k.result w) g.crumbs.now k.new.1.1.0 k.ensures (length g.line.now)
-    (c.requires.0 w).course
+    flushed-fits (whole g.h w) (whole k.result w) g.crumbs.now k.new.crumbs k.ensures (length g.line.now)
+    (c.requires.guided_fit w).course
 
 pub engaged_or-requires : goal.engaged_or-requires
 engaged_or-requires c =
@@ -27,10 +27,10 @@ engaged_or-requires c =
     let v = g.window.now in
     let h = whole g.h v in
     let f = whole k.result v in
-    let exit = k.new.1.1.0 in
-    let room = (flushed-fits h f g.crumbs.now exit k.ensures (length g.line.now) (c.requires.0 v).course).1 in
-    let idle = idle-flushed h f g.crumbs.now exit k.ensures c.requires.1 in
-    λ w. home_fits (whole k.result w) (decided_in e.result w) (course_of f g.line.now) g.now-ms exit (e.ensures w)
+    let exit = k.new.crumbs in
+    let room = (flushed-fits h f g.crumbs.now exit k.ensures (length g.line.now) (c.requires.guided_fit v).course).1 in
+    let idle = idle-flushed h f g.crumbs.now exit k.ensures c.requires.line_value in
+    λ w. home_fits (whole k.result w) (decided_in e.result w) (course_of f g.line.now) g.now_ms exit (e.ensures w)
     (length g.line.now) k.ensures.fit room idle
 
 pub returns : goal.returns
@@ -41,4 +41,4 @@ returns c =
     let k = c.engaged_or in
     let w = g.window.now in
     goes-home (whole g.h w) (whole f.result w) (decided_in e.result w) (decided_in k.result w) g.crumbs.now
-    f.new.1.1.0 k.new.1.1.0 g.line.now g.now-ms f.ensures (e.ensures w) (k.ensures w)
+    f.new.crumbs k.new.crumbs g.line.now g.now_ms f.ensures (e.ensures w) (k.ensures w)

@@ -7,7 +7,7 @@ use borrow.Author.Rules.{rules}
 use Rattle.stored.proofs.fields.lon_in.Goals as goal
 
 pub returns-in-At : goal.returns-in-At
-returns-in-At c = to_z-of_z w32 _ (record { sfits = c.known_told-1.given.1.0.1 }) ∙ sym (ap lon_in c.in-At.is)
+returns-in-At c = to_z-of_z w32 _ (record { sfits = c.in-At.known_told-1-own.given.1.0.1 }) ∙ sym (ap lon_in c.in-At.is)
 
 pub returns-in-Missing : goal.returns-in-Missing
 returns-in-Missing c = sym (ap lon_in c.in-Missing.is)

@@ -8,7 +8,7 @@ use borrow.Author.Rules.{rules}
 use Rattle.stored.proofs.parts.course_words.Goals as goal
 
 pub returns : goal.returns
-returns c = let len : c.before.before.before.before.args.c.line_len ≤ 18446744073709551615 = omega arith in
+returns c = let len : c.args.c.line_len ≤ 18446744073709551615 = omega arith in
     let fixes : c.args.c.join_fixes ≤ 255 = omega arith in
     let end : c.args.c.join_end ≤ 18446744073709551615 = omega arith in (
       cons refl (cons c.flag.ensures

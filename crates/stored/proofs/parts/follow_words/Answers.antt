@@ -8,7 +8,7 @@ use borrow.Author.Rules.{rules}
 use Rattle.stored.proofs.parts.follow_words.Goals as goal
 
 pub returns : goal.returns
-returns c = let at : c.before.before.before.args.f.segment ≤ 18446744073709551615 = omega arith in
+returns c = let at : c.args.f.segment ≤ 18446744073709551615 = omega arith in
     let ms : c.args.f.reminded_ms ≤ 18446744073709551615 = omega arith in (
       cons c.line_tag.ensures
           (cons refl (cons c.spot_flag.ensures (cons c.flag.ensures (cons refl refl)))),

@@ -10,7 +10,7 @@ use borrow.Author.Rules.{rules}
 use Rattle.stored.proofs.parts.motion_words.Goals as goal
 
 pub returns : goal.returns
-returns c = let ms : c.before.before.args.m.heading_ms ≤ 18446744073709551615 = omega arith in (
+returns c = let ms : c.args.m.heading_ms ≤ 18446744073709551615 = omega arith in (
   cons c.spot_flag.ensures (cons (ap (λ l. get_or l 0 0) c.heading_words-at.ensures.0)
       (cons (ap (λ l. get_or l 1 0) c.heading_words-at.ensures.0) (cons refl refl))),
   (and_in (spot-most c.args.m.from) (and-part heading_mosts (heading_words c.args.m.heading) refl

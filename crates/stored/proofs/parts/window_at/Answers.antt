@@ -12,7 +12,7 @@ pub loop-i-init : goal.loop-i-init
 loop-i-init c = copied-start (part c.args.numbers.now) _ 0 (omega (arith, part-long c.args.numbers.now c.requires))
 
 pub loop-i-preserved : goal.loop-i-preserved
-loop-i-preserved c = let l = c.before.before.loop in let n = c.args.numbers.now in
+loop-i-preserved c = let l = c.loop-i in let n = c.args.numbers.now in
     copied_on nan l.invariant (omega (arith, part-long n c.requires, c.loop-i-test.true)) (omega arith)
     (part_at n l.i c.loop-i-test.true)
 

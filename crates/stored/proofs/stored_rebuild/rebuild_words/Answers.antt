@@ -11,7 +11,7 @@ use Rattle.stored.proofs.stored_rebuild.rebuild_words.Goals as goal
 
 pub returns : goal.returns
 unfolding rebuild_words
-returns c = let recovered : c.before.before.before.before.before.before.args.r.recovered ≤ 4294967295 = omega arith in
+returns c = let recovered : c.args.r.recovered ≤ 4294967295 = omega arith in
     let slot : c.args.r.walk.slot ≤ 18446744073709551615 = omega arith in
     let clock : c.args.r.clock_ms ≤ 18446744073709551615 = omega arith in
     let same : c.utc_in.result ≡ utc_in (pending_in c.args.r.stage) =

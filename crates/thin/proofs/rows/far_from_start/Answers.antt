@@ -29,7 +29,7 @@ loop-n-smaller c = omega arith
 
 pub loop-n-preserved : goal.loop-n-preserved
 loop-n-preserved c =
-    (omega arith, each-then c.loop-n.invariant.1 (c.sixteen_far.ensures (was-true _ c.if-not-sixteen_far.false)))
+    (omega arith, each-then c.loop-n.invariant.1 (c.sixteen_far.ensures c.if-not-sixteen_far.false))
 
 pub returns : goal.returns
 returns c = c.loop-n.invariant

@@ -28,7 +28,7 @@ pub loop-j-preserved : goal.loop-j-preserved
 loop-j-preserved c = (
   omega arith,
   omega arith,
-  each-then c.loop-j.invariant.2 (c.four_near.ensures (was-true _ c.if-not-four_near.false)),
+  each-then c.loop-j.invariant.2 (c.four_near.ensures c.if-not-four_near.false),
 )
 
 pub returns : goal.returns
