@@ -14,7 +14,7 @@ use Rattle.state.specs.declared.Homing.{Homing}
 use Rattle.state.specs.State.{State, state_of}
 use Rattle.state.specs.Rule.{Done}
 use Rattle.calls.specs.Questions.{question1, asks_state}
-use Rattle.calls.specs.Calls.{Call, Ask, Reset, WayBack, Replay, asks_lent, asks}
+use Rattle.calls.specs.Calls.{Call, Ask, Reset, WayBack, Replay, asks_lent, asks, after_call}
 use Rattle.taken.specs.Taken.{InRange, Lent, Own, start, called as own-called}
 use Rattle.taken.proofs.Tests.{both}
 use Rattle.taken.proofs.Asking.{or_else_none}
@@ -55,8 +55,10 @@ long run = history-long (rebuilt-ran run).1
 own-run : {size : ℕ} {s : State} {l : List Crumb} {ks : List Call} → Own size s l → Rebuilding ks → Own size (run size ks s).state l
 unfolding run
 own-run own nothing = own
-own-run own (reset m) = own-run (own-called own Reset tt tt) m
-own-run own (replay x now on m) = own-run (own-called own (Replay x now) tt (on, tt)) m
+own-run {size = size} {s = s} own (reset {cs = cs} m) =
+    own-run {s = (after_call size Reset s).state} {ks = cs} (own-called own Reset tt tt) m
+own-run {size = size} {s = s} own (replay {cs = cs} x now on m) =
+    own-run {s = (after_call size (Replay x now) s).state} {ks = cs} (own-called own (Replay x now) tt (on, tt)) m
 
 record Owned (h : Homing) (b : List Float) (l : List Crumb) : Type 0 where
   own : Own (length b) (state_of h b) l

@@ -9,7 +9,7 @@ use Rattle.fix.proofs.replay.Goals as goal
 
 pub replay_parts-after-requires : goal.replay_parts-after-requires
 replay_parts-after-requires c =
-    let long : length c.args.h.window ≡ 96 = length_unmapped _ c.args.h.window 96 c.well_formed.0.1.1.1.0.1.0.1 in
+    let long : length c.args.h.window ≡ 96 = c.well_formed.0.1.1.1.0.1.0.1 in
     (long, subst (λ (g : Ridden). trail.TrailFit g.trail (length c.args.crumbs.now)) (sym c.taken_apart-g.ensures) c.requires)
 
 pub returns : goal.returns

@@ -2,22 +2,21 @@
 use Prim.Native.Nat.{◌-◌, ◌≤◌}
 use native.Mathlib.Omega.{arith}
 use mathlib.Core.Path.{◌≡◌, sym, ◌∙◌, subst}
-use mathlib.Core.Logic.{inl, inr}
 use lib.ListN.{length, length-map}
 use Rattle.fix.specs.Ridden.{ridden}
 use Rattle.ride_log.specs.Entry.{used}
 use Rattle.rebuild.specs.Rebuild.{is_later}
 use Rattle.rebuild.proofs.Visiting.{Begins, begins-so, begins-anew, heard, Going, going_start, going_on, going-out}
-use borrow.Author.Rules.{rules, length_unmapped}
 use Rattle.rebuild.proofs.visit_samples.Goals as goal
+use Rattle.rebuild.proofs.visit_samples.Goals.{then-x, else-x}
 
 pub loop-i-init : goal.loop-i-init
 loop-i-init c =
-    let four : length c.args.t4.samples ≡ 4 =
-    sym (length-map c.args.t4.samples _) ∙ c.well_formed.1.1.1.0.1.1.1.1.1.0.1.0.1 in
-    let few : c.args.t4.count ≤ 4 = c.requires.count_bound in
-    let long : length c.args.h.window ≡ 96 = length_unmapped _ c.args.h.window 96 c.well_formed.1.0.1.1.1.0.1.0.1 in
-    (going_start c.taken_apart-parts.ensures c.requires.trail_fit (subst (λ n. c.args.t4.count ≤ n) (sym four) few), long)
+    let four : length c.args.e.samples ≡ 4 =
+    c.well_formed.1.1.1.0.1.1.1.1.1.0.1.0.1 in
+    let few : c.args.e.count ≤ 4 = c.requires.count_bound in
+    let long : length c.args.h.window ≡ 96 = c.well_formed.1.0.1.1.1.0.1.0.1 in
+    (going_start c.taken_apart-parts.ensures c.requires.trail_fit (subst (λ n. c.args.e.count ≤ n) (sym four) few), long)
 
 pub bounds-e-i : goal.bounds-e-i
 bounds-e-i c = omega (arith, c.loop-i-test.true, c.requires.count_bound)
@@ -27,9 +26,10 @@ replay_heard-parts-requires c =
     let l = c.loop-i in
     let b : Begins c.hear-x.result l.parts l.homing c.if-x.parts c.if-x.homing =
     elim c.if-x.branch [
-      | inl t ↦ begins-anew t.0.taken t.1.ensures t.2.ensures t.3.ensures
-          (length_unmapped _ t.2.result.window 96 t.2.ok.1.1.1.0.1.0.1) t.4 t.5
-      | inr t ↦ begins-so t.0.left l.invariant.1 t.1 t.2
+      | then-x w ↦
+        begins-anew w.if-x.true w.put_together-whole.ensures w.reset-homing.ensures w.taken_apart-parts-then-x.ensures
+        w.reset-homing.type_inv.1.1.1.0.1.0.1 w.homing-is w.parts-is
+      | else-x w ↦ begins-so w.if-x.false l.invariant.1 w.homing-is w.parts-is
     ] in
     (b.long, b.settles.fit _ l.invariant.0.made.fit)
 
@@ -46,9 +46,10 @@ loop-i-preserved c =
     let l = c.loop-i in
     let b : Begins c.hear-x.result l.parts l.homing c.if-x.parts c.if-x.homing =
     elim c.if-x.branch [
-      | inl t ↦ begins-anew t.0.taken t.1.ensures t.2.ensures t.3.ensures
-          (length_unmapped _ t.2.result.window 96 t.2.ok.1.1.1.0.1.0.1) t.4 t.5
-      | inr t ↦ begins-so t.0.left l.invariant.1 t.1 t.2
+      | then-x w ↦
+        begins-anew w.if-x.true w.put_together-whole.ensures w.reset-homing.ensures w.taken_apart-parts-then-x.ensures
+        w.reset-homing.type_inv.1.1.1.0.1.0.1 w.homing-is w.parts-is
+      | else-x w ↦ begins-so w.if-x.false l.invariant.1 w.homing-is w.parts-is
     ] in (
       going_on l.invariant.0 c.loop-i-test.true _
           (heard c.hear-x.ensures l.invariant.0.made.fit b (c.replay_heard-parts.ensures.makes c.if-x.homing)),

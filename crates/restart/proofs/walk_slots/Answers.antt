@@ -13,8 +13,8 @@ pub record_at-index-requires : goal.record_at-index-requires
 record_at-index-requires c = c.requires.file_value
 
 pub loop-slot-init : goal.loop-slot-init
-loop-slot-init c = let pre = c.requires in
-    going_start c.stop_at-stop.ensures pre.0 pre.1 c.record_at-index.ensures
+loop-slot-init c =
+    going_start c.stop_at-stop.ensures c.requires.trail_fit c.requires.file_value c.record_at-index.ensures
 
 pub with_slot-done-requires : goal.with_slot-done-requires
 with_slot-done-requires c = tt
@@ -31,11 +31,8 @@ entry_at-entry-requires c = tt
 
 pub look-v-requires : goal.look-v-requires
 look-v-requires c =
-    let g = c.loop-slot.invariant in (
-      g.made.fit,
-      going-count g c.loop-slot-test.true c.if-index-eq0.false c.entry_at-entry.ensures
-          c.requires.file_value,
-    )
+    let g = c.loop-slot.invariant in record { trail_fit = g.made.fit; count_bound = going-count g c.loop-slot-test.true c.if-index-eq0.false c.entry_at-entry.ensures
+          c.requires.file_value }
 
 pub next_of-index-requires : goal.next_of-index-requires
 next_of-index-requires c = tt

@@ -27,7 +27,7 @@ returns-then-op-eq-OBSERVE c =
     let s = c.args in
     by_number s.clock s.line.now (fixes s.lats.now s.lons.now)
     c.if-op-eq-OBSERVE.true
-    (at_place c.IsPlace-in.ensures c.observe-r.ensures.called)
+    (at_place c.place_in.ensures c.observe-r.ensures.called)
 
 pub returns-then-op-eq-REPLAY : goal.returns-then-op-eq-REPLAY
 unfolding call_of numbered

@@ -1,4 +1,5 @@
 -- `ride::perform` meets its contract.
+use Rattle.std.proofs.lemmas.Bool.{not_from_false, not_from_true}
 use Prim.Native.Nat.{◌-◌}
 use mathlib.Core.Path.{refl}
 use native.Mathlib.Omega.{arith}
@@ -40,12 +41,12 @@ shape_of-line-then-not-readable c = c.loop-k.invariant.room
 pub returns-then-not-readable : goal.returns-then-not-readable
 returns-then-not-readable c =
     breaks-off c.loop-k.invariant c.loop-k-test.true
-    c.readable.ensures c.if-not-readable.true
+    c.readable.ensures (not_from_false _ c.if-not-readable.true)
 
 pub overflow_add-end : goal.overflow_add-end
 overflow_add-end c =
     let t = (there c.loop-k.invariant c.loop-k-test.true
-    c.readable.ensures c.if-not-readable.false).line in omega (
+    c.readable.ensures (not_from_true _ c.if-not-readable.false)).line in omega (
       arith,
       c.well_formed.1.1.1.1.1.1.1.0.0,
     )
@@ -53,18 +54,18 @@ overflow_add-end c =
 pub overflow_add-last : goal.overflow_add-last
 overflow_add-last c =
     let t = there c.loop-k.invariant
-    c.loop-k-test.true c.readable.ensures c.if-not-readable.false in
+    c.loop-k-test.true c.readable.ensures (not_from_true _ c.if-not-readable.false) in
     omega arith
 
 pub slice_bounds-step-end : goal.slice_bounds-step-end
 slice_bounds-step-end c =
-    let t = there c.loop-k.invariant c.loop-k-test.true c.readable.ensures c.if-not-readable.false in
+    let t = there c.loop-k.invariant c.loop-k-test.true c.readable.ensures (not_from_true _ c.if-not-readable.false) in
     let r = c.loop-k.invariant.room in
     omega arith
 
 pub slice_bounds-step-end-in-loop-k : goal.slice_bounds-step-end-in-loop-k
 slice_bounds-step-end-in-loop-k c =
-    let t = there c.loop-k.invariant c.loop-k-test.true c.readable.ensures c.if-not-readable.false in
+    let t = there c.loop-k.invariant c.loop-k-test.true c.readable.ensures (not_from_true _ c.if-not-readable.false) in
     let r = c.loop-k.invariant.room in
     front-counted _ _ (omega arith)
 
@@ -72,21 +73,21 @@ pub offset_bounds-lines-at : goal.offset_bounds-lines-at
 offset_bounds-lines-at c =
     let t = (there c.loop-k.invariant
     c.loop-k-test.true
-    c.readable.ensures c.if-not-readable.false).line in omega (
+    c.readable.ensures (not_from_true _ c.if-not-readable.false)).line in omega (
       arith,
       c.well_formed.1.1.1.1.1.1.1.0.1,
     )
 
 pub slice_bounds-step-count : goal.slice_bounds-step-count
 slice_bounds-step-count c =
-    let t = there c.loop-k.invariant c.loop-k-test.true c.readable.ensures c.if-not-readable.false in
+    let t = there c.loop-k.invariant c.loop-k-test.true c.readable.ensures (not_from_true _ c.if-not-readable.false) in
     omega arith
 
 pub offset_bounds-lats-first : goal.offset_bounds-lats-first
 offset_bounds-lats-first c =
     let t = (there c.loop-k.invariant
     c.loop-k-test.true
-    c.readable.ensures c.if-not-readable.false).lats in omega (
+    c.readable.ensures (not_from_true _ c.if-not-readable.false)).lats in omega (
       arith,
       c.well_formed.1.1.1.1.1.1.1.1.0.1,
     )
@@ -95,14 +96,14 @@ pub slice_bounds-step-count-in-loop-k : goal.slice_bounds-step-count-in-loop-k
 slice_bounds-step-count-in-loop-k c =
     let t = there c.loop-k.invariant
     c.loop-k-test.true
-    c.readable.ensures c.if-not-readable.false in
+    c.readable.ensures (not_from_true _ c.if-not-readable.false) in
     omega arith
 
 pub offset_bounds-lons-first : goal.offset_bounds-lons-first
 offset_bounds-lons-first c =
     let t = (there c.loop-k.invariant
     c.loop-k-test.true
-    c.readable.ensures c.if-not-readable.false).lons in omega (
+    c.readable.ensures (not_from_true _ c.if-not-readable.false)).lons in omega (
       arith,
       c.well_formed.1.1.1.1.1.1.1.1.1.0.1,
     )
@@ -111,7 +112,7 @@ pub slice_bounds-step-count-in-loop-k-2 : goal.slice_bounds-step-count-in-loop-k
 slice_bounds-step-count-in-loop-k-2 c =
     let t = there c.loop-k.invariant
     c.loop-k-test.true
-    c.readable.ensures c.if-not-readable.false in
+    c.readable.ensures (not_from_true _ c.if-not-readable.false) in
     omega arith
 
 pub bounds-ops-k : goal.bounds-ops-k
@@ -137,7 +138,7 @@ step-h-requires c =
     let t = there c.loop-k.invariant
     c.loop-k-test.true
     c.readable.ensures
-    c.if-not-readable.false in
+    (not_from_true _ c.if-not-readable.false) in
     let r = c.loop-k.invariant.room in
     as_long _ _ _ _ (omega arith) t.line
 
@@ -162,7 +163,7 @@ loop-k-preserved c =
     let line = c.loop-k.line in
     goes_on c.loop-k.invariant c.loop-k-test.true
     c.readable.ensures
-    c.if-not-readable.false
+    (not_from_true _ c.if-not-readable.false)
     (length_front line c.step-h.new.line (get_or
     c.args.sizes.now k 0)
     c.step-h.auto.line) c.step-h.ensures

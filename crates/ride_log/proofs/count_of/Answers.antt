@@ -5,4 +5,4 @@ use Rattle.ride_log.proofs.count_of.Goals as goal
 
 pub returns : goal.returns
 unfolding count_of
-returns c = rw (← c.start_of_lem.ensures) c.byte_at.ensures
+returns c = rw (← c.start_of.ensures) c.byte_at.ensures

@@ -33,7 +33,8 @@ pub walked : {f : List ℕ} {r : ℕ} {l : List ℕ} (n : ℕ) → Ends f r l �
 unfolding records_from
 walked zero e h = absurd (omega arith)
 walked (suc n) over h = refl
-walked (suc n) (on {r = r} e) h = ap (λ l. suc r ∷ l) (walked n e (le_of_suc-le-suc h))
+walked {f = f} (suc n) (on {r = r} {l = l} e) h =
+    ap (λ m. suc r ∷ m) (walked {f = f} {r = next_of f (suc r)} {l = l} n e (le_of_suc-le-suc h))
 
 -- how a walker goes on, with the next alone in hand
 pub ends-over : {f : List ℕ} {r : ℕ} {l : List ℕ} → Ends f r l → r ≡ 0 → l ≡ []

@@ -8,4 +8,4 @@ use Rattle.ride_log.proofs.i32_at.Goals as goal
 
 pub returns : goal.returns
 unfolding i32_at
-returns c = to_z-of_z w32 _ (record { sfits = c.signed.type-inv }) ∙ c.signed.ensures ∙ ap signed c.u32_at.ensures
+returns c = to_z-of_z w32 _ (record { sfits = c.signed.type_inv }) ∙ c.signed.ensures ∙ ap signed c.u32_at.ensures

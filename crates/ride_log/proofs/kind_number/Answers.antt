@@ -5,4 +5,4 @@ use Rattle.ride_log.proofs.kind_number.Goals as goal
 
 pub returns : goal.returns
 unfolding kind_number
-returns c = rw (← c.start_of_lem.ensures) c.byte_at.ensures
+returns c = rw (← c.start_of.ensures) c.byte_at.ensures

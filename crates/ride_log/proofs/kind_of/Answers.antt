@@ -29,4 +29,5 @@ unfolding kind_of
 returns-in-6 c = sym (ap kind_of c.in-6.is)
 
 pub returns-in_default : goal.returns-in_default
-returns-in_default c = let r = c.in_default.rest in last-kind _ r.0.0.0.0.0.1 r.0.0.0.0.1 r.0.0.0.1 r.0.0.1 r.0.1 r.1
+returns-in_default c =
+    let r = c.in_default.in_default-own.rest in last-kind _ r.0.0.0.0.0.1 r.0.0.0.0.1 r.0.0.0.1 r.0.0.1 r.0.1 r.1

@@ -5,4 +5,4 @@ use Rattle.ride_log.proofs.ride_of.Goals as goal
 
 pub returns : goal.returns
 unfolding ride_of
-returns c = rw (← c.start_of_lem.ensures) c.u32_at.ensures
+returns c = rw (← c.start_of.ensures) c.u32_at.ensures

@@ -5,5 +5,5 @@ use Rattle.stored.proofs.store.Goals as goal
 
 pub returns : goal.returns
 returns c =
-    let words = c.store_words_lem.ensures in
+    let words = c.store_words.ensures in
     stores words.1 words.0 c.store_numbers.ensures

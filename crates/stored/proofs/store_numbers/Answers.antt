@@ -13,6 +13,6 @@ put_numbers-requires c =
 
 pub returns : goal.returns
 returns c =
-    let long : length c.args.h.window ≡ 96 = sym (slice-aggregate-put-numbers c) in
+    let long : length c.args.h.window ≡ 96 = search rules in
     numbers-front c.args.h c.args.numbers.now c.requires long c.put_numbers.ensures c.head_of-head.result
     c.head_of-head.ensures c.put_numbers-2.ensures

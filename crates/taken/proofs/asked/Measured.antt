@@ -29,7 +29,7 @@ use Rattle.segments.specs.declared.Best.TheVariants.{Nothing, Found}
 use Rattle.search.specs.declared.Join.{Join}
 use Rattle.search.specs.declared.Join.TheVariants.{Segment, NoSegment}
 use Rattle.matching.specs.Distances.{drop_m}
-use Rattle.crumbs.specs.Along.{along_to, along_behind, recorded_m, realong_behind, realong}
+use Rattle.crumbs.specs.Along.{crumb_of, along_to, along_behind, recorded_m, realong_behind, realong}
 use Rattle.trail.specs.Trail.{Track, fresh, thin, put, wait}
 use Rattle.trail.specs.Trail as trail
 use Rattle.journal.proofs.Walking.{Steps, keeps, flushes, adds}
@@ -85,7 +85,7 @@ rounded-choice (strike c) h = rounded-choice c h.1
 rounded-behind : (a : Crumb) (l : List Crumb) → Rounded (realong_behind a l)
 unfolding realong_behind along_to
 rounded-behind a [] = tt
-rounded-behind a (b ∷ l) = (add-fits binary32 a.along _, rounded-behind _ l)
+rounded-behind a (b ∷ l) = (add-fits binary32 a.along _, rounded-behind (crumb_of (point b) (along_to a (point b))) l)
 
 rounded-realong : (l : List Crumb) → Rounded l → Rounded (realong l)
 unfolding realong

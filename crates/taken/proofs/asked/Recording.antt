@@ -79,7 +79,7 @@ pass-choice (strike c) h = pass-choice c h.1
 pass-behind : (a : Crumb) (l : List Crumb) → Passes a → AllPass l → AllPass (realong_behind a l)
 unfolding realong_behind
 pass-behind a [] A h = tt
-pass-behind a (b ∷ l) A h = let c = next a (point b) A h.0.place in (c, pass-behind _ l c h.1)
+pass-behind a (b ∷ l) A h = let c = next a (point b) A h.0.place in (c, pass-behind (crumb_of (point b) (along_to a (point b))) l c h.1)
 
 pass-realong : (l : List Crumb) → AllPass l → AllPass (realong l)
 unfolding realong

@@ -14,4 +14,4 @@ pub returns-in-3 : goal.returns-in-3
 returns-in-3 c = sym (ap mode_of_tag c.in-3.is)
 
 pub returns-in_default : goal.returns-in_default
-returns-in_default c = let r = c.in_default.rest in mode-rest _ r.0.0.1 r.0.1 r.1
+returns-in_default c = let r = c.in_default.in_default-own.rest in mode-rest _ r.0.0.1 r.0.1 r.1

@@ -15,10 +15,7 @@ retraced-requires c =
     let g = c.args in
     let h = whole g.h g.window.now in
     let r = retraced_as h c.retracing-b.result in
-    let a = asks-retracing h g.crumbs.now g.p c.retracing-b.result c.retracing-b.ensures in (
-      (c.requires.window_len.0, retrace-fit h g.crumbs.now g.p r a _ c.requires.window_len.1.fit),
-      (retrace-few h g.crumbs.now g.p r a c.if-b.true c.requires.window_len.1.back, c.requires.line_value),
-    )
+    let a = asks-retracing h g.crumbs.now g.p c.retracing-b.result c.retracing-b.ensures in record { window_len = (c.requires.window_len.0, retrace-fit h g.crumbs.now g.p r a _ c.requires.window_len.1.fit); retrace_len_bound = (retrace-few h g.crumbs.now g.p r a c.if-b.true c.requires.window_len.1.back, c.requires.line_value) }
 
 pub returns-then-b : goal.returns-then-b
 returns-then-b c =
@@ -35,10 +32,7 @@ add_update-requires c =
     let g = c.args in
     let h = whole g.h g.window.now in
     let r = retraced_as h c.retracing-b.result in
-    let a = asks-retracing h g.crumbs.now g.p c.retracing-b.result c.retracing-b.ensures in (
-      (c.requires.window_len.0, retrace-fit h g.crumbs.now g.p r a _ c.requires.window_len.1.fit),
-      idle-grows r.homing c.requires.line_value,
-    )
+    let a = asks-retracing h g.crumbs.now g.p c.retracing-b.result c.retracing-b.ensures in record { window_len = (c.requires.window_len.0, retrace-fit h g.crumbs.now g.p r a _ c.requires.window_len.1.fit); grows = idle-grows r.homing c.requires.line_value }
 
 pub returns-then-h : goal.returns-then-h
 returns-then-h c =

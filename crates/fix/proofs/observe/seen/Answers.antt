@@ -12,7 +12,7 @@ use Rattle.fix.proofs.observe.seen.Goals as goal
 pub seen_on-u-requires : goal.seen_on-u-requires
 seen_on-u-requires c =
     let h = c.args.h in
-    let long : length h.window ≡ 96 = length_unmapped _ h.window 96 c.well_formed.0.1.1.1.0.1.0.1 in (
+    let long : length h.window ≡ 96 = c.well_formed.0.1.1.1.0.1.0.1 in (
       long,
       subst (λ (g : Guided). Ready (whole g h.window) (length c.args.crumbs.now) (length c.args.line.now))
           (sym c.without_window-g.ensures) c.requires,

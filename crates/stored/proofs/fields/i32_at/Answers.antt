@@ -9,4 +9,4 @@ use Rattle.stored.proofs.fields.i32_at.Goals as goal
 
 pub returns : goal.returns
 unfolding signed_at
-returns c = to_z-of_z w32 _ (record { sfits = c.signed.type-inv }) ∙ c.signed.ensures ∙ ap signed c.u32_at.ensures
+returns c = to_z-of_z w32 _ (record { sfits = c.signed.type_inv }) ∙ c.signed.ensures ∙ ap signed c.u32_at.ensures

@@ -4,4 +4,4 @@ use borrow.Author.Rules.{rules}
 use Rattle.stored.proofs.fields.pass_of.Goals as goal
 
 pub returns-in_default : goal.returns-in_default
-returns-in_default c = let r = c.in_default.rest in last-stage _ r.0.1 r.1
+returns-in_default c = let r = c.in_default.in_default-own.rest in last-stage _ r.0.1 r.1

@@ -9,7 +9,7 @@ use borrow.Author.Rules.{rules}
 use Rattle.stored.proofs.parts.heading_words.Goals as goal
 
 pub returns : goal.returns
-returns c = let at : heading_in c.args.h ≤ 65535 = omega (arith, c.heading_in.type-inv, c.heading_in.ensures) in (
+returns c = let at : heading_in c.args.h ≤ 65535 = omega (arith, c.heading_in.type_inv, c.heading_in.ensures) in (
   cons c.heading_flag.ensures (cons c.heading_in.ensures refl),
   (and_in (heading-most c.args.h) (and_in at none_left)).ok,
 )

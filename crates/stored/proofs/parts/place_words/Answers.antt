@@ -11,5 +11,5 @@ pub returns : goal.returns
 returns c = place-words-there c.args.p c.place_flag.ensures
     c.unsigned.ensures c.lat_in.ensures (record {
       sfits =
-          c.lat_in.type-inv;
-    }) c.unsigned-2.ensures c.lon_in.ensures (record { sfits = c.lon_in.type-inv })
+          c.lat_in.type_inv;
+    }) c.unsigned-2.ensures c.lon_in.ensures (record { sfits = c.lon_in.type_inv })

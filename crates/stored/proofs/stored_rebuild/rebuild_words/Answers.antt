@@ -17,7 +17,7 @@ returns c = let recovered : c.args.r.recovered ≤ 4294967295 = omega arith in
     let same : c.utc_in.result ≡ utc_in (pending_in c.args.r.stage) =
     c.utc_in.ensures ∙ ap utc_in c.pending_in-last.ensures in
     let time : utc_in (pending_in c.args.r.stage) ≤ 18446744073709551615 =
-    omega (arith, same, c.utc_in.type-inv) in (
+    omega (arith, same, c.utc_in.type_inv) in (
       cons refl (cons refl (cons refl (cons c.pending_flag.ensures (cons (c.utc_flag.ensures
           ∙ ap utc_flag c.pending_in-last.ensures) (cons (same) (cons refl refl)))))),
       (and_in (rebuild-mark-most) (and_in recovered
