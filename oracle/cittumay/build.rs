@@ -1,4 +1,4 @@
-//! Links the proved code: libdoor.a in the folder `DOOR_DIR`, else where `rt staticlib door`
+//! Links the proved code: libdoor.a in the folder `DOOR_DIR`, else where `tools/library door`
 //! writes it.
 use std::env;
 use std::path::PathBuf;
@@ -11,7 +11,7 @@ fn main() {
     let library = folder.join("libdoor.a");
     println!("cargo::rerun-if-changed={}", library.display());
     if !library.exists() {
-        panic!("no {}: run `rt staticlib door` at the project's root", library.display());
+        panic!("no {}: run `tools/library door` at the project's root", library.display());
     }
     println!("cargo::rustc-link-search=native={}", folder.display());
     println!("cargo::rustc-link-lib=static=door");

@@ -1,5 +1,5 @@
 //! Links the proved code: libdoor.a and libnumbers_door.a in the folder `DOOR_DIR`, else where
-//! `rt staticlib` writes them.
+//! `tools/library` writes them.
 use std::env;
 use std::path::PathBuf;
 
@@ -13,7 +13,7 @@ fn main() {
         let library = folder.join(format!("lib{name}.a"));
         println!("cargo::rerun-if-changed={}", library.display());
         if !library.exists() {
-            panic!("no {}: run `rt staticlib {name}` at the project's root", library.display());
+            panic!("no {}: run `tools/library {name}` at the project's root", library.display());
         }
         println!("cargo::rustc-link-lib=static={name}");
     }

@@ -30,8 +30,7 @@ const ANGLE_MOST: u32 = 0x_fFFF;
 
 // ---- of the state alone
 
-#[unsafe(no_mangle)]
-pub extern "C" fn cittumay_len(words: &[u64], numbers: &[f32], len: &mut usize) -> u8
+pub fn cittumay_len(words: &[u64], numbers: &[f32], len: &mut usize) -> u8
     ensures { Answers (stored words.now numbers.now) no_state AnswersLen says_count itself result len.old
         len.new }
 {
@@ -49,8 +48,7 @@ pub extern "C" fn cittumay_len(words: &[u64], numbers: &[f32], len: &mut usize) 
     }
 }
 
-#[unsafe(no_mangle)]
-pub extern "C" fn cittumay_following(words: &[u64], numbers: &[f32], yes: &mut u8) -> u8
+pub fn cittumay_following(words: &[u64], numbers: &[f32], yes: &mut u8) -> u8
     ensures { Answers (stored words.now numbers.now) no_state AnswersFollowing says_verdict flagged result
         yes.old yes.new }
 {
@@ -62,8 +60,7 @@ pub extern "C" fn cittumay_following(words: &[u64], numbers: &[f32], yes: &mut u
     numbering::put_verdict(answer, yes)
 }
 
-#[unsafe(no_mangle)]
-pub extern "C" fn cittumay_following_course(words: &[u64], numbers: &[f32], yes: &mut u8) -> u8
+pub fn cittumay_following_course(words: &[u64], numbers: &[f32], yes: &mut u8) -> u8
     ensures { Answers (stored words.now numbers.now) no_state AnswersFollowingCourse says_verdict flagged result
         yes.old yes.new }
 {
@@ -121,8 +118,7 @@ fn put_ahead(
 // `known` becomes 1 where the course is followed: `count` points of it are ahead, end first, and behind
 // them, where `matched` becomes 1, the point where the rider is. Where `known` or `matched` becomes 0, what
 // it speaks of stays as it was.
-#[unsafe(no_mangle)]
-pub extern "C" fn cittumay_course_ahead(
+pub fn cittumay_course_ahead(
     words: &[u64],
     numbers: &[f32],
     known: &mut u8,
@@ -144,8 +140,7 @@ pub extern "C" fn cittumay_course_ahead(
 }
 
 // The same of the breadcrumb.
-#[unsafe(no_mangle)]
-pub extern "C" fn cittumay_route_home(
+pub fn cittumay_route_home(
     words: &[u64],
     numbers: &[f32],
     known: &mut u8,
@@ -179,13 +174,7 @@ fn put_heading(way: Heading, known: &mut u8, heading: &mut u16)
 }
 
 // `heading` stays as it was where `known` becomes 0.
-#[unsafe(no_mangle)]
-pub extern "C" fn cittumay_heading(
-    words: &[u64],
-    numbers: &[f32],
-    known: &mut u8,
-    heading: &mut u16,
-) -> u8
+pub fn cittumay_heading(words: &[u64], numbers: &[f32], known: &mut u8, heading: &mut u16) -> u8
     ensures { Answers (stored words.now numbers.now) no_state AnswersHeading says_riding riding result
         (heading_values known.old heading.old) (heading_values known.new heading.new) }
 {
@@ -255,13 +244,7 @@ fn put_guide(g: Guide, words: &mut [u32])
 // `guide` has room for ten words, else the call is refused with 10: mode, following, course, course_near,
 // direct_m, track_m, off_m, bearing, whether a heading is known, and the heading, 0 where it is not. They
 // stay as they were where `shown` becomes 0.
-#[unsafe(no_mangle)]
-pub extern "C" fn cittumay_guide(
-    words: &[u64],
-    numbers: &[f32],
-    shown: &mut u8,
-    guide: &mut [u32],
-) -> u8
+pub fn cittumay_guide(words: &[u64], numbers: &[f32], shown: &mut u8, guide: &mut [u32]) -> u8
     ensures { Answers
         (with_room guide.old (stored words.now numbers.now)) no_state AnswersGuide says_showing showing result
         (guide_values shown.old guide.old) (guide_values shown.new guide.new) }
@@ -292,8 +275,7 @@ pub extern "C" fn cittumay_guide(
 
 // Where the slices hold no state, question 1 comes first. `direct` and `track` stay as they were where
 // `known` becomes 0.
-#[unsafe(no_mangle)]
-pub extern "C" fn cittumay_way_back(
+pub fn cittumay_way_back(
     words: &[u64],
     numbers: &[f32],
     crumbs: &[f32],
@@ -334,13 +316,7 @@ fn no_part(number: u8, len: &mut usize) -> u8
 }
 
 // The kept crumbs are the first `len` of the buffer, none on a refusal.
-#[unsafe(no_mangle)]
-pub extern "C" fn cittumay_crumbs(
-    words: &[u64],
-    numbers: &[f32],
-    crumbs: &[f32],
-    len: &mut usize,
-) -> u8
+pub fn cittumay_crumbs(words: &[u64], numbers: &[f32], crumbs: &[f32], len: &mut usize) -> u8
     ensures { Parts (stored words.now numbers.now) (no_state_with (length crumbs.now))
         (λ h. ReturnsCrumbs h crumbs.now) crumbs.now result len.new }
 {
@@ -355,13 +331,7 @@ pub extern "C" fn cittumay_crumbs(
 }
 
 // The course, end first, is the first `len` crumbs of the line; none until it is placed, and none on a refusal.
-#[unsafe(no_mangle)]
-pub extern "C" fn cittumay_course(
-    words: &[u64],
-    numbers: &[f32],
-    line: &[f32],
-    len: &mut usize,
-) -> u8
+pub fn cittumay_course(words: &[u64], numbers: &[f32], line: &[f32], len: &mut usize) -> u8
     ensures { Parts (stored words.now numbers.now) no_state (λ h. ReturnsCourse h line.now)
         line.now result len.new }
 {
@@ -428,8 +398,7 @@ fn guide_at(words: &[u32]) -> Guide
 }
 
 // `guide` is a guide's words as `guide` writes them; words that are no guide are refused with 10.
-#[unsafe(no_mangle)]
-pub extern "C" fn cittumay_arrow(guide: &[u32], arrow: &mut u16) -> u8
+pub fn cittumay_arrow(guide: &[u32], arrow: &mut u16) -> u8
     ensures { Answers (guide_of guide.now) no_state AnswersArrow says_angle itself result arrow.old
         arrow.new }
 {

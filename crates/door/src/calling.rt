@@ -75,8 +75,7 @@ fn keep_changed(c: Changed, words: &mut [u64], numbers: &mut [f32]) -> u8
 // ---- the guide made anew
 
 // A new guide, with a breadcrumb in `crumbs`.
-#[unsafe(no_mangle)]
-pub extern "C" fn cittumay_new(words: &mut [u64], numbers: &mut [f32], crumbs: &[f32]) -> u8
+pub fn cittumay_new(words: &mut [u64], numbers: &mut [f32], crumbs: &[f32]) -> u8
     ensures { New crumbs.now words.old numbers.old result words.new numbers.new }
 {
     let made = homing::new(crumbs);
@@ -87,8 +86,7 @@ pub extern "C" fn cittumay_new(words: &mut [u64], numbers: &mut [f32], crumbs: &
 }
 
 // Forget the breadcrumb: a new ride starts where its first fix is.
-#[unsafe(no_mangle)]
-pub extern "C" fn cittumay_reset(words: &mut [u64], numbers: &mut [f32]) -> u8
+pub fn cittumay_reset(words: &mut [u64], numbers: &mut [f32]) -> u8
     ensures { Reset words.old numbers.old result words.new numbers.new }
 {
     let read = stored::load(words, numbers);
@@ -100,8 +98,7 @@ pub extern "C" fn cittumay_reset(words: &mut [u64], numbers: &mut [f32]) -> u8
 }
 
 // Live fixes follow the replayed ones.
-#[unsafe(no_mangle)]
-pub extern "C" fn cittumay_end_replay(words: &mut [u64], numbers: &mut [f32]) -> u8
+pub fn cittumay_end_replay(words: &mut [u64], numbers: &mut [f32]) -> u8
     ensures { EndReplay words.old numbers.old result words.new numbers.new }
 {
     let read = stored::load(words, numbers);
@@ -115,8 +112,7 @@ pub extern "C" fn cittumay_end_replay(words: &mut [u64], numbers: &mut [f32]) ->
 // ---- the course
 
 // The course to follow, start first, as latitudes and longitudes side by side.
-#[unsafe(no_mangle)]
-pub extern "C" fn cittumay_set_course(
+pub fn cittumay_set_course(
     words: &mut [u64],
     numbers: &mut [f32],
     line: &mut [f32],
@@ -159,8 +155,7 @@ fn observe_place(
 }
 
 // The ride's position. What it changed is written to `event`.
-#[unsafe(no_mangle)]
-pub extern "C" fn cittumay_observe(
+pub fn cittumay_observe(
     words: &mut [u64],
     numbers: &mut [f32],
     crumbs: &mut [f32],
@@ -185,8 +180,7 @@ pub extern "C" fn cittumay_observe(
 }
 
 // No position is known.
-#[unsafe(no_mangle)]
-pub extern "C" fn cittumay_observe_missing(
+pub fn cittumay_observe_missing(
     words: &mut [u64],
     numbers: &mut [f32],
     crumbs: &mut [f32],
@@ -201,8 +195,7 @@ pub extern "C" fn cittumay_observe_missing(
 }
 
 // A fix from before a restart, `at_ms` into the replay.
-#[unsafe(no_mangle)]
-pub extern "C" fn cittumay_replay(
+pub fn cittumay_replay(
     words: &mut [u64],
     numbers: &mut [f32],
     crumbs: &mut [f32],
@@ -224,8 +217,7 @@ pub extern "C" fn cittumay_replay(
 // ---- what the rider chooses
 
 // Whether riding back over the breadcrumb, or along the course, starts following it.
-#[unsafe(no_mangle)]
-pub extern "C" fn cittumay_set_auto_follow(
+pub fn cittumay_set_auto_follow(
     words: &mut [u64],
     numbers: &mut [f32],
     crumbs: &mut [f32],
@@ -244,8 +236,7 @@ pub extern "C" fn cittumay_set_auto_follow(
 
 // Follow the course while it is near, else the breadcrumb back; or stop following. `done` becomes 0 where no
 // way back was found, else 1.
-#[unsafe(no_mangle)]
-pub extern "C" fn cittumay_set_following(
+pub fn cittumay_set_following(
     words: &mut [u64],
     numbers: &mut [f32],
     crumbs: &mut [f32],

@@ -9,15 +9,14 @@ ghost use Rattle.door.specs.Rebuild.{LeavesRebuild, RebuildNew, RebuildCaughtUp,
 
 use crate::numbering;
 use crate::numbering::NO_STATE;
-use ride_log::Utc;
 use rebuild::Rebuild;
+use ride_log::Utc;
 use state::Homing;
 
 // ---- the rebuild alone
 
 // Read ride `recovered` and the ride after it back from a log whose slots below `upper` are written.
-#[unsafe(no_mangle)]
-pub extern "C" fn cittumay_rebuild_new(rebuild: &mut [u64], recovered: u32, upper: usize) -> u8
+pub fn cittumay_rebuild_new(rebuild: &mut [u64], recovered: u32, upper: usize) -> u8
     ensures { RebuildNew recovered rebuild.old result rebuild.new }
 {
     if rebuild.len() < stored::REBUILD_WORDS {
@@ -29,8 +28,7 @@ pub extern "C" fn cittumay_rebuild_new(rebuild: &mut [u64], recovered: u32, uppe
 }
 
 // Every slot below `upper` is read.
-#[unsafe(no_mangle)]
-pub extern "C" fn cittumay_rebuild_caught_up(rebuild: &[u64], upper: usize, yes: &mut u8) -> u8
+pub fn cittumay_rebuild_caught_up(rebuild: &[u64], upper: usize, yes: &mut u8) -> u8
     ensures { RebuildCaughtUp upper rebuild.now result yes.old yes.new }
 {
     let begun = stored::load_rebuild(rebuild);
@@ -68,8 +66,7 @@ fn keep_both(
 
 // Read up to `budget` more slots below `upper` of the file into the breadcrumb. `done` becomes 1 once every
 // slot is read and the breadcrumb settled, when live fixes take over (`calling::end_replay`).
-#[unsafe(no_mangle)]
-pub extern "C" fn cittumay_rebuild_step(
+pub fn cittumay_rebuild_step(
     rebuild: &mut [u64],
     words: &mut [u64],
     numbers: &mut [f32],
@@ -112,8 +109,7 @@ fn utc_of(known: u8, utc: u64) -> Utc
 
 // Settle the breadcrumb on a live fix at `utc`, if that is known, instead of the later ride's first one in
 // the log.
-#[unsafe(no_mangle)]
-pub extern "C" fn cittumay_rebuild_settle(
+pub fn cittumay_rebuild_settle(
     rebuild: &mut [u64],
     words: &mut [u64],
     numbers: &mut [f32],

@@ -7,8 +7,7 @@ use thin::Thinned;
 // Thins the first `len` crumbs in place, and answers how many are left: `tolerance` becomes that of the
 // last pass, and `passes` how many were made. A refusal answers 0, writes its number to `refused`, and
 // changes nothing else.
-#[unsafe(no_mangle)]
-pub extern "C" fn cittumay_thin(
+pub fn cittumay_thin(
     crumbs: &mut [f32],
     len: usize,
     tolerance: &mut f32,

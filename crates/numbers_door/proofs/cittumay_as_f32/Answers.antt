@@ -1,6 +1,5 @@
 -- `numbers_door::cittumay_as_f32` meets its contract.
 use mathlib.Core.Path.{ap, ◌∙◌}
-use borrow.Author.Rules.{rules}
 use mir.Syntax.{w64}
 use mir.ValLaws.{to_z-of_z}
 use Rattle.binary32.specs.Inner.{as_f32}

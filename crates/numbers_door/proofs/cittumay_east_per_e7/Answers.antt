@@ -1,6 +1,5 @@
 -- `numbers_door::cittumay_east_per_e7` meets its contract.
 use mathlib.Core.Path.{ap, ◌∙◌}
-use borrow.Author.Rules.{rules}
 use mir.Syntax.{w32}
 use mir.ValLaws.{to_z-of_z}
 use Rattle.plane.specs.Fix.{east_per_e7}

@@ -1,12 +1,10 @@
 -- `numbers_door::cittumay_frame` meets its contract.
 use mathlib.Core.Path.{◌≡◌, ap, ◌∙◌}
-use borrow.Author.Rules.{rules}
 use lib.IntN.{ℤ}
 use lib.Ieee.{Float}
 use mir.Syntax.{w32}
 use mir.Val.{SFits, to_z, of_z}
 use mir.ValLaws.{to_z-of_z}
-use Rattle.plane.specs.declared.Point.{Point}
 use Rattle.plane.specs.Fix.{frame}
 use Rattle.numbers_door.proofs.cittumay_frame.Goals as goal
 

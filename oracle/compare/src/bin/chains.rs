@@ -12,7 +12,7 @@ use std::fmt;
 use std::path::{Path, PathBuf};
 use std::process::ExitCode;
 
-const PROGRAM: &str = concat!(env!("CARGO_MANIFEST_DIR"), "/../../target/bin/retell");
+const PROGRAM: &str = concat!(env!("CARGO_MANIFEST_DIR"), "/../../crates/retell/out/retell");
 
 const USAGE: &str = "\
 usage: chains [--files N] [--full] [--seed N] [--program PATH] [--show N] [--self-test]
@@ -20,7 +20,7 @@ Compares the proved program `retell` with the Rust on random chain files, byte f
   --files N        on so many files (2000)
   --full           on 100,000
   --seed N         other files (1)
-  --program PATH   another program (target/bin/retell of the project)
+  --program PATH   another program (crates/retell/out/retell of the project)
   --show N         only writes file N
   --self-test      mistakes in the place of the program; each has to be found
 ";
