@@ -3,7 +3,6 @@ use mathlib.Core.Path.{sym, ◌∙◌}
 use native.Mathlib.Omega.{arith}
 use Rattle.course.proofs.Fixes.{length-fixes}
 use Rattle.ride.proofs.Points.{no_place, first-place}
-use borrow.Author.Rules.{rules}
 use Rattle.ride.proofs.place_in.Goals as goal
 
 pub returns-then-count-eq0 : goal.returns-then-count-eq0

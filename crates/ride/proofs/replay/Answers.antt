@@ -4,7 +4,6 @@ use native.Mathlib.Omega.{arith}
 use Rattle.course.proofs.Fixes.{length-fixes}
 use Rattle.ride.proofs.Points.{no-fix, first-fix}
 use Rattle.ride.proofs.Stepping.{at-fix}
-use borrow.Author.Rules.{rules}
 use Rattle.ride.proofs.replay.Goals as goal
 
 pub returns-then-count-eq0 : goal.returns-then-count-eq0
