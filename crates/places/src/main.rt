@@ -5,6 +5,7 @@
 #![tactic(auto)]
 
 use plane::Point;
+use std::io;
 
 #[derive(Clone, Copy)]
 struct Ride {
@@ -18,18 +19,16 @@ fn wide(x: u32) -> u64 {
     x as u64
 }
 
-fn print_point(p: Point) {
-    io::print_hex(1, wide(binary32::pattern(p.east)), 8);
-    io::write_all(1, b" ");
-    io::print_hex(1, wide(binary32::pattern(p.north)), 8);
+fn print_point(rt: &impl Print, p: Point) -> io::Result<()> {
+    let east = wide(binary32::pattern(p.east));
+    let north = wide(binary32::pattern(p.north));
+    print!(rt; "{east:08x} {north:08x}")
 }
 
-fn print_way(before: Point, here: Point) {
-    io::write_all(1, b" bearing ");
-    io::print_decimal(1, plane::bearing(before, here) as u64);
-    io::write_all(1, b" metres ");
-    io::print_decimal(1, wide(plane::metres(plane::distance(before, here))));
-    io::write_all(1, b"\n");
+fn print_way(rt: &impl Print, before: Point, here: Point) -> io::Result<()> {
+    let bearing = plane::bearing(before, here);
+    let metres = wide(plane::metres(plane::distance(before, here)));
+    println!(rt; " bearing {bearing} metres {metres}")
 }
 
 fn start(lat: i32, lon: i32) -> Ride {
@@ -45,25 +44,26 @@ fn start(lat: i32, lon: i32) -> Ride {
     }
 }
 
-fn fix(r: Ride, lat: i32, lon: i32) -> Ride {
+fn fix(rt: &impl Print, r: Ride, lat: i32, lon: i32) -> io::Result<Ride> {
     let here = plane::frame(r.lat0, r.lon0, r.east_per_e7, lat, lon);
-    print_point(here);
-    print_way(r.before, here);
-    Ride { before: here, ..r }
+    print_point(rt, here)?;
+    print_way(rt, r.before, here)?;
+    Ok(Ride { before: here, ..r })
 }
 
-fn main() {
+fn main(rt: HostRuntime) -> io::Result<()> {
     let mut r = start(594370000, 1799998000);
-    r = fix(r, 594370000, 1799998000);
-    r = fix(r, 594370900, 1799998000);
-    r = fix(r, 594372000, 1799999900);
-    r = fix(r, 594371100, -1799999100);
-    r = fix(r, 594365000, -1799990000);
-    r = fix(r, 594370000, 1799998000);
-    r = fix(r, 899999990, 1799998000);
-    r = fix(r, 900000000, 0);
-    r = fix(r, 0, -1);
-    r = fix(r, -10, 1);
-    r = fix(r, -594370000, -2000);
-    fix(r, 594370000, -1800000000);
+    r = fix(&rt, r, 594370000, 1799998000)?;
+    r = fix(&rt, r, 594370900, 1799998000)?;
+    r = fix(&rt, r, 594372000, 1799999900)?;
+    r = fix(&rt, r, 594371100, -1799999100)?;
+    r = fix(&rt, r, 594365000, -1799990000)?;
+    r = fix(&rt, r, 594370000, 1799998000)?;
+    r = fix(&rt, r, 899999990, 1799998000)?;
+    r = fix(&rt, r, 900000000, 0)?;
+    r = fix(&rt, r, 0, -1)?;
+    r = fix(&rt, r, -10, 1)?;
+    r = fix(&rt, r, -594370000, -2000)?;
+    fix(&rt, r, 594370000, -1800000000)?;
+    Ok(())
 }

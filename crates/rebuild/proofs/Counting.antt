@@ -13,7 +13,7 @@ use Rattle.state.specs.declared.Place.TheVariants as place
 use Rattle.state.specs.State.{State}
 use Rattle.course.specs.Fix.{Fix}
 use Rattle.calls.specs.Questions.{question1}
-use Rattle.calls.specs.Calls.{Call, point_of, Reset, Replay}
+use Rattle.calls.specs.Calls.{Call, point_of, Reset, Replay, after_call}
 use Rattle.taken.specs.Taken.{FixOnGlobe, FixesOnGlobe, Own, called}
 use Rattle.taken.proofs.Refusals.{NoneRefused}
 use Rattle.taken.proofs.Taken.{taken}

@@ -3,9 +3,9 @@
 ghost use Rattle.std.specs.Prelude.{◌≤◌};
 
 use door::answering;
-use ride_log::Utc;
 use rebuild::Stage;
 use records::ANSWERS;
+use ride_log::Utc;
 
 // The questions' numbers among the calls; any from the last on is `course`'s.
 const LEN: u64 = 14;

@@ -17,6 +17,8 @@ mod performing;
 use course::POINTS;
 use performing::{MOST_CRUMBS, MOST_LINE, State};
 use records::{ANSWERS, BLOCK, HEADER, RECORD, comparing};
+use std::io;
+use std::io::Read;
 
 // ---- the format
 
@@ -54,19 +56,21 @@ fn fits(record: &[u8; RECORD], is_end: bool) -> bool {
 
 // Whether crumbs and course are those that stand behind the record.
 fn parts_agree(
+    rt: &impl Print,
+    input: &mut impl Read,
     number: u64,
     is_end: bool,
     told: &[u64; ANSWERS],
     crumbs: &[f32],
     line: &[f32],
     block: &mut [u8; BLOCK],
-) -> bool {
+) -> io::Result<bool> {
     let held = crumbs::front(crumbs, told[records::CRUMBS] as usize);
-    if !comparing::numbers_agree(number, is_end, b"crumbs, number ", held, block) {
-        return false;
+    if !comparing::numbers_agree(rt, input, number, is_end, "crumbs, number ", held, block)? {
+        return Ok(false);
     }
     let course = crumbs::front(line, told[records::COURSE] as usize);
-    comparing::numbers_agree(number, is_end, b"course, number ", course, block)
+    comparing::numbers_agree(rt, input, number, is_end, "course, number ", course, block)
 }
 
 // The state behind a call, and whether it agrees with what is stored.
@@ -78,6 +82,8 @@ struct Replayed {
 
 // Asks a question, and compares it.
 fn ask(
+    rt: &impl Print,
+    input: &mut impl Read,
     number: u64,
     is_end: bool,
     record: &[u8; RECORD],
@@ -85,21 +91,22 @@ fn ask(
     crumbs: &[f32],
     line: &[f32],
     block: &mut [u8; BLOCK],
-) -> bool {
+) -> io::Result<bool> {
     let mut told = [0u64; ANSWERS];
     let mut thinned = [0.0; MOST_CRUMBS];
     performing::ask(record, s, crumbs, line, &mut thinned, &mut told);
-    if !comparing::agrees(number, is_end, record, &told) {
-        return false;
+    if !comparing::agrees(rt, number, is_end, record, &told)? {
+        return Ok(false);
     }
     if records::field(record, records::CALL) == performing::THIN {
-        return parts_agree(number, is_end, &told, &thinned, line, block);
+        return parts_agree(rt, input, number, is_end, &told, &thinned, line, block);
     }
-    parts_agree(number, is_end, &told, crumbs, line, block)
+    parts_agree(rt, input, number, is_end, &told, crumbs, line, block)
 }
 
 // Performs a call that is given the front of the block, and compares it.
 fn perform(
+    rt: &impl Print,
     number: u64,
     record: &[u8; RECORD],
     block: &[u8; BLOCK],
@@ -107,103 +114,116 @@ fn perform(
     s: State,
     crumbs: &mut [f32],
     line: &mut [f32],
-) -> Replayed {
+) -> io::Result<Replayed> {
     let mut told = [0u64; ANSWERS];
     let state = performing::perform(record, block, own, s, crumbs, line, &mut told);
-    let agrees = comparing::agrees(number, false, record, &told);
-    Replayed { state, agrees }
+    let agrees = comparing::agrees(rt, number, false, record, &told)?;
+    Ok(Replayed { state, agrees })
 }
 
 // Reads a record, and to the front of the block what its call is given. False: they are not there, which is printed.
 fn read_call(
+    rt: &impl Print,
+    input: &mut impl Read,
     number: u64,
     is_end: bool,
     record: &mut [u8; RECORD],
     block: &mut [u8; BLOCK],
-) -> bool {
-    if !records::read_record(record) {
-        comparing::print_cut_off();
-        return false;
+) -> io::Result<bool> {
+    if !records::read_record(input, record)? {
+        comparing::print_cut_off(rt)?;
+        return Ok(false);
     }
     if !fits(record, is_end) {
-        comparing::print_unreadable(number);
-        return false;
+        comparing::print_unreadable(rt, number)?;
+        return Ok(false);
     }
-    if !records::read(block, records::field(record, records::GIVEN) as usize) {
-        comparing::print_cut_off();
-        return false;
+    if !records::read(
+        input,
+        block,
+        records::field(record, records::GIVEN) as usize,
+    )? {
+        comparing::print_cut_off(rt)?;
+        return Ok(false);
     }
-    true
+    Ok(true)
 }
 
 // Replays call `number`, from 0, or the end of so many calls. Where it differs or is not there, that is printed.
 fn replay(
+    rt: &impl Print,
+    input: &mut impl Read,
     number: u64,
     is_end: bool,
     own: usize,
     s: State,
     crumbs: &mut [f32; MOST_CRUMBS],
     line: &mut [f32; MOST_LINE],
-) -> Replayed {
+) -> io::Result<Replayed> {
     let mut record = [0u8; RECORD];
     let mut block = [0u8; BLOCK];
-    if !read_call(number, is_end, &mut record, &mut block) {
-        return Replayed {
+    if !read_call(rt, input, number, is_end, &mut record, &mut block)? {
+        return Ok(Replayed {
             state: s,
             agrees: false,
-        };
+        });
     }
     if records::field(&record, records::CALL) > performing::CAUGHT_UP {
-        let agrees = ask(number, is_end, &record, s, crumbs, line, &mut block);
-        return Replayed { state: s, agrees };
+        let agrees = ask(
+            rt, input, number, is_end, &record, s, crumbs, line, &mut block,
+        )?;
+        return Ok(Replayed { state: s, agrees });
     }
-    perform(number, &record, &block, own, s, crumbs, line)
+    perform(rt, number, &record, &block, own, s, crumbs, line)
 }
 
 // ---- the ride
 
 // All calls agree.
-fn finish(calls: u64) {
-    if !records::ended() {
-        comparing::print(b"error: more follows the end\n");
-        return;
+fn finish(rt: &impl Print, input: &mut impl Read, calls: u64) -> io::Result<()> {
+    if !records::ended(input)? {
+        return comparing::print(rt, "error: more follows the end\n");
     }
-    comparing::print_agree(calls);
-    comparing::print(b"\n");
+    comparing::print_agree(rt, calls)?;
+    comparing::print(rt, "\n")
 }
 
 // Replays so many calls and the end behind them.
-fn replay_ride(calls: u64, own: usize) {
+fn replay_ride(rt: &impl Print, input: &mut impl Read, calls: u64, own: usize) -> io::Result<()> {
     let mut crumbs = [0.0; MOST_CRUMBS];
     let mut line = [0.0; MOST_LINE];
     let mut state = performing::none();
     for number in 0..calls {
-        let replayed = replay(number, false, own, state, &mut crumbs, &mut line);
+        let replayed = replay(rt, input, number, false, own, state, &mut crumbs, &mut line)?;
         if !replayed.agrees {
-            return;
+            return Ok(());
         }
         state = replayed.state;
     }
-    let end = replay(calls, true, own, state, &mut crumbs, &mut line);
+    let end = replay(rt, input, calls, true, own, state, &mut crumbs, &mut line)?;
     if end.agrees {
-        finish(calls);
+        finish(rt, input, calls)?;
     }
+    Ok(())
 }
 
-fn main() {
+fn main(rt: HostRuntime) -> io::Result<()> {
+    let mut input = rt.reader();
     let mut header = [0u8; HEADER];
-    if !records::read_header(&mut header) {
-        comparing::print(b"error: there is no header\n");
-        return;
+    if !records::read_header(&mut input, &mut header)? {
+        return comparing::print(&rt, "error: there is no header\n");
     }
     if records::header(&header, 0) != records::MARK {
-        comparing::print(b"error: this is no stored ride\n");
-        return;
+        return comparing::print(&rt, "error: this is no stored ride\n");
     }
     let own = records::header(&header, records::OWN) as usize;
     if own > MOST_CRUMBS {
-        comparing::print(b"error: no guide has so large a buffer\n");
-        return;
+        return comparing::print(&rt, "error: no guide has so large a buffer\n");
     }
-    replay_ride(records::header(&header, records::CALLS), own);
+    replay_ride(
+        &rt,
+        &mut input,
+        records::header(&header, records::CALLS),
+        own,
+    )
 }

@@ -3,52 +3,55 @@
 ghost use Rattle.std.specs.Prelude.{◌*◌, ◌≤◌, length};
 
 use crate::{ANSWERS, BLOCK, RECORD, STORED};
-use libc::STDOUT_FILENO;
+use std::io;
+use std::io::Read;
 
 // ---- printing
 
-pub fn print(text: &[u8]) {
-    io::write_all(STDOUT_FILENO, text);
+pub fn print(rt: &impl Print, text: &str) -> io::Result<()> {
+    rt.print(text)
 }
 
-fn print_number(n: u64) {
-    io::print_decimal(STDOUT_FILENO, n);
+fn print_number(rt: &impl Print, n: u64) -> io::Result<()> {
+    rt.print(n)
 }
 
-pub fn print_agree(calls: u64) {
-    print_number(calls);
-    print(b" calls agree");
+pub fn print_agree(rt: &impl Print, calls: u64) -> io::Result<()> {
+    print_number(rt, calls)?;
+    print(rt, " calls agree")
 }
 
-pub fn print_cut_off() {
-    print(b"error: the input ends within a call\n");
+pub fn print_cut_off(rt: &impl Print) -> io::Result<()> {
+    print(rt, "error: the input ends within a call\n")
 }
 
 // A call, which is numbered from 0, whose record is not of the format.
-pub fn print_unreadable(number: u64) {
-    print(b"error: behind ");
-    print_number(number);
-    print(b" calls stands no record\n");
+pub fn print_unreadable(rt: &impl Print, number: u64) -> io::Result<()> {
+    print(rt, "error: behind ")?;
+    print_number(rt, number)?;
+    print(rt, " calls stands no record\n")
 }
 
 // Prints line `k` of a text in which every line is ended.
-fn print_line(text: &[u8], k: usize) {
+fn print_line(rt: &impl Print, text: &[u8], k: usize) -> io::Result<()> {
     let mut left = k;
     for i in 0..text.len() {
         if text[i] == b'\n' {
             if left == 0 {
-                return;
+                return Ok(());
             }
             left -= 1;
         } else if left == 0 {
-            print(&[text[i]]);
+            rt.write_all(&[text[i]])?;
         }
     }
+    Ok(())
 }
 
 // Prints an answer's name.
-fn print_field(k: usize) {
+fn print_field(rt: &impl Print, k: usize) -> io::Result<()> {
     print_line(
+        rt,
         b"\
           refusal\nanswer\nrefusal behind it\nguide shown\nmode\nguide's following\nguide's course\ncourse_near\n\
           direct_m\ntrack_m\noff_m\nbearing\nwhether the guide has a heading\nguide's heading\narrow\nfollowing\n\
@@ -57,7 +60,7 @@ fn print_field(k: usize) {
           heading known\nheading\nway_back known\nway_back direct\nway_back track\nlen\nslot\nclock\npending\n\
           pending time known\npending time\ntolerance\npasses\ncount of crumbs\ncount of the course\n",
         k,
-    );
+    )
 }
 
 // The number behind this one.
@@ -69,23 +72,22 @@ fn next(number: u64) -> u64 {
 }
 
 // Call `number`, from 0, or the end of so many calls, differs from what is stored.
-fn print_unlike(number: u64, is_end: bool) {
-    print_agree(number);
+fn print_unlike(rt: &impl Print, number: u64, is_end: bool) -> io::Result<()> {
+    print_agree(rt, number)?;
     if is_end {
-        print(b", the end does not: ");
-        return;
+        return print(rt, ", the end does not: ");
     }
-    print(b", call ");
-    print_number(next(number));
-    print(b" does not: ");
+    print(rt, ", call ")?;
+    print_number(rt, next(number))?;
+    print(rt, " does not: ")
 }
 
-fn print_values(told: u64, stored: u64) {
-    print(b" is ");
-    print_number(told);
-    print(b", stored ");
-    print_number(stored);
-    print(b"\n");
+fn print_values(rt: &impl Print, told: u64, stored: u64) -> io::Result<()> {
+    print(rt, " is ")?;
+    print_number(rt, told)?;
+    print(rt, ", stored ")?;
+    print_number(rt, stored)?;
+    print(rt, "\n")
 }
 
 // ---- comparing
@@ -103,15 +105,21 @@ fn unlike(record: &[u8; RECORD], told: &[u64; ANSWERS]) -> usize
 }
 
 // Whether the answers told are those stored. Where one is not, it is printed.
-pub fn agrees(number: u64, is_end: bool, record: &[u8; RECORD], told: &[u64; ANSWERS]) -> bool {
+pub fn agrees(
+    rt: &impl Print,
+    number: u64,
+    is_end: bool,
+    record: &[u8; RECORD],
+    told: &[u64; ANSWERS],
+) -> io::Result<bool> {
     let k = unlike(record, told);
     if k == ANSWERS {
-        return true;
+        return Ok(true);
     }
-    print_unlike(number, is_end);
-    print_field(k);
-    print_values(told[k], crate::field(record, STORED + k));
-    false
+    print_unlike(rt, number, is_end)?;
+    print_field(rt, k)?;
+    print_values(rt, told[k], crate::field(record, STORED + k))?;
+    Ok(false)
 }
 
 // The first number that is not the one whose pattern stands in the block, or how many there are.
@@ -131,31 +139,34 @@ fn unlike_number(block: &[u8; BLOCK], numbers: &[f32]) -> usize
 
 // Whether the numbers are those that come next in the input, as patterns. Where one is not, it is printed.
 pub fn numbers_agree(
+    rt: &impl Print,
+    input: &mut impl Read,
     number: u64,
     is_end: bool,
-    name: &[u8],
+    name: &str,
     numbers: &[f32],
     block: &mut [u8; BLOCK],
-) -> bool {
+) -> io::Result<bool> {
     let n = numbers.len();
     if n > BLOCK / 4 {
-        print_cut_off();
-        return false;
+        print_cut_off(rt)?;
+        return Ok(false);
     }
-    if !crate::read(block, 4 * n) {
-        print_cut_off();
-        return false;
+    if !crate::read(input, block, 4 * n)? {
+        print_cut_off(rt)?;
+        return Ok(false);
     }
     let k = unlike_number(block, numbers);
     if k == n {
-        return true;
+        return Ok(true);
     }
-    print_unlike(number, is_end);
-    print(name);
-    print_number(k as u64);
+    print_unlike(rt, number, is_end)?;
+    print(rt, name)?;
+    print_number(rt, k as u64)?;
     print_values(
+        rt,
         binary32::pattern(numbers[k]) as u64,
         crate::pattern_at(block, k) as u64,
-    );
-    false
+    )?;
+    Ok(false)
 }

@@ -6,7 +6,8 @@ pub mod comparing;
 
 ghost use Rattle.std.specs.Prelude.{◌+◌, ◌*◌, ◌<◌, ◌≤◌, length};
 
-use libc::STDIN_FILENO;
+use std::io;
+use std::io::{ErrorKind, Read};
 
 // ---- the header: numbers of eight bytes
 
@@ -185,24 +186,37 @@ pub fn float(pattern: u32) -> f32 {
     f32::from_bits(pattern)
 }
 
-// Reads so many bytes to the front of the block. False: the input ends before, or there is no room.
-pub fn read(block: &mut [u8], n: usize) -> bool {
-    if n > block.len() {
-        return false;
+// Fills the buffer. False: the input ends before.
+fn read_full(input: &mut impl Read, bytes: &mut [u8]) -> io::Result<bool> {
+    match input.read_exact(bytes) {
+        Ok(()) => Ok(true),
+        Err(e) => {
+            if e.kind() == ErrorKind::UnexpectedEof {
+                return Ok(false);
+            }
+            Err(e)
+        }
     }
-    io::read_full(STDIN_FILENO, &mut block[..n]) == n
 }
 
-pub fn read_record(record: &mut [u8; RECORD]) -> bool {
-    io::read_full(STDIN_FILENO, record) == RECORD
+// Reads so many bytes to the front of the block. False: the input ends before, or there is no room.
+pub fn read(input: &mut impl Read, block: &mut [u8], n: usize) -> io::Result<bool> {
+    if n > block.len() {
+        return Ok(false);
+    }
+    read_full(input, &mut block[..n])
 }
 
-pub fn read_header(bytes: &mut [u8; HEADER]) -> bool {
-    io::read_full(STDIN_FILENO, bytes) == HEADER
+pub fn read_record(input: &mut impl Read, record: &mut [u8; RECORD]) -> io::Result<bool> {
+    read_full(input, record)
+}
+
+pub fn read_header(input: &mut impl Read, bytes: &mut [u8; HEADER]) -> io::Result<bool> {
+    read_full(input, bytes)
 }
 
 // Whether the input ends here.
-pub fn ended() -> bool {
+pub fn ended(input: &mut impl Read) -> io::Result<bool> {
     let mut byte = [0u8; 1];
-    io::read_full(STDIN_FILENO, &mut byte) == 0
+    Ok(!read_full(input, &mut byte)?)
 }

@@ -2,10 +2,9 @@
 // or the question that refuses the file. The file comes on standard input.
 #![tactic(auto)]
 
-ghost use Rattle.std.specs.Prelude.{◌+◌, ◌≤◌, length};
-ghost use Rattle.io.specs.Counts.{IsPrefixLen};
+ghost use Rattle.std.specs.Prelude.{◌≡◌, ◌+◌, ◌≤◌, length, take};
 
-use libc::{STDERR_FILENO, STDIN_FILENO, STDOUT_FILENO};
+use std::io::Read;
 
 // One byte more than 682 records have. No more is read: a file of so many bytes is refused for its length,
 // whatever follows.
@@ -22,25 +21,30 @@ struct Got {
 }
 
 // Reads once, behind the bytes that are kept: 0 bytes at the end of the input, and where reading failed.
-fn read_behind(file: &mut [u8], kept: usize) -> Got
+fn read_behind(input: &mut impl Read, file: &mut [u8], kept: usize) -> Got
     requires { kept ≤ length file.old }
     ensures { kept + result.bytes ≤ length file.old }
 {
-    let part = &mut file[kept..];
-    let got = libc::read(STDIN_FILENO, part);
-    Got {
-        bytes: io::count(got, part),
-        failed: got < 0,
+    match input.read(&mut file[kept..]) {
+        Ok(bytes) => Got {
+            bytes,
+            failed: false,
+        },
+        Err(_) => Got {
+            bytes: 0,
+            failed: true,
+        },
     }
 }
 
 // Reads the input to its end, or until the file is full.
-fn read_input(file: &mut [u8]) -> Got
-    ensures { IsPrefixLen result.bytes file.new }
+fn read_input(input: &mut impl Read, file: &mut [u8]) -> Got
+    ensures within { result.bytes ≤ length file.new }
+    ensures front { result.bytes ≡ length (take result.bytes file.new) }
 {
     let mut kept = 0;
     while kept < file.len() {
-        let got = read_behind(file, kept);
+        let got = read_behind(input, file, kept);
         if got.bytes == 0 {
             return Got {
                 bytes: kept,
@@ -55,18 +59,22 @@ fn read_input(file: &mut [u8]) -> Got
     }
 }
 
-fn main() {
+// Tells on standard error what failed. Where that fails too, nothing is left to tell it to.
+fn complain(rt: &impl Eprint, what: &str) {
+    let _ = rt.eprint(what);
+}
+
+fn main(rt: HostRuntime) {
     let mut file = [0u8; KEPT];
-    let input = read_input(&mut file);
+    let input = read_input(&mut rt.reader(), &mut file);
     if input.failed {
-        io::write_all(STDERR_FILENO, b"error: standard input cannot be read\n");
+        complain(&rt, "error: standard input cannot be read\n");
         return;
     }
     let kept = input.bytes;
     let mut text = [0u8; TEXT];
     let len = retelling::retell(&file[..kept], &mut text);
-    let is_written = io::write_all(STDOUT_FILENO, &text[..len]);
-    if !is_written {
-        io::write_all(STDERR_FILENO, b"error: standard output cannot be written\n");
+    if rt.write_all(&text[..len]).is_err() {
+        complain(&rt, "error: standard output cannot be written\n");
     }
 }

@@ -12,7 +12,8 @@ ghost use Rattle.std.specs.Prelude.{◌≡◌, ◌+◌, ◌*◌, ◌<◌, ◌≤
 ghost use Rattle.crumbs.specs.Crumb.{stride, capacity};
 
 use crumbs::Crumb;
-use libc::{STDIN_FILENO, STDOUT_FILENO};
+use std::io;
+use std::io::{ErrorKind, Read};
 use thin::Thinned;
 
 // The largest capacity, and the numbers and the bytes of text that so many crumbs take.
@@ -99,12 +100,18 @@ fn holds(buf: &[f32], text: &[u8], len: usize) -> bool
 }
 
 // Read so many words to the front of the text. False: the input ends before.
-fn read(text: &mut [u8], words: usize) -> bool
+fn read(input: &mut impl Read, text: &mut [u8], words: usize) -> io::Result<bool>
     requires { 9 * words ≤ length text.old }
 {
-    let part = &mut text[..9 * words];
-    let wanted = part.len();
-    io::read_full(STDIN_FILENO, part) == wanted
+    match input.read_exact(&mut text[..9 * words]) {
+        Ok(()) => Ok(true),
+        Err(e) => {
+            if e.kind() == ErrorKind::UnexpectedEof {
+                return Ok(false);
+            }
+            Err(e)
+        }
+    }
 }
 
 #[derive(Clone, Copy)]
@@ -115,36 +122,49 @@ enum Case {
 }
 
 // Whether an answer, with the buffer that it left, is the Rust's, which comes next.
-fn compare(text: &mut [u8], buf: &[f32], len: usize, tolerance: f32, passes: usize) -> Case
+fn compare(
+    input: &mut impl Read,
+    text: &mut [u8],
+    buf: &[f32],
+    len: usize,
+    tolerance: f32,
+    passes: usize,
+) -> io::Result<Case>
     requires { (length text.old ≡ 110592) × (len ≤ 4096) × (len ≤ capacity (length buf.now)) }
 {
-    if !read(text, 3) {
-        return Case::Differs;
+    if !read(input, text, 3)? {
+        return Ok(Case::Differs);
     }
     if word(text, 0) as usize != len {
-        return Case::Differs;
+        return Ok(Case::Differs);
     }
     if word(text, 1) != binary32::pattern(tolerance) {
-        return Case::Differs;
+        return Ok(Case::Differs);
     }
     if word(text, 2) as usize != passes {
-        return Case::Differs;
+        return Ok(Case::Differs);
     }
-    if !read(text, 3 * len) {
-        return Case::Differs;
+    if !read(input, text, 3 * len)? {
+        return Ok(Case::Differs);
     }
     if holds(buf, text, len) {
-        return Case::Agrees;
+        return Ok(Case::Agrees);
     }
-    Case::Differs
+    Ok(Case::Differs)
 }
 
 // Thin the line that comes next, and compare the answer.
-fn thinned(text: &mut [u8], buf: &mut [f32], len: usize, tolerance: f32) -> Case
+fn thinned(
+    input: &mut impl Read,
+    text: &mut [u8],
+    buf: &mut [f32],
+    len: usize,
+    tolerance: f32,
+) -> io::Result<Case>
     requires { (length text.old ≡ 110592) × (len ≤ 4096) × (len ≤ capacity (length buf.old)) }
 {
-    if !read(text, 3 * len) {
-        return Case::Differs;
+    if !read(input, text, 3 * len)? {
+        return Ok(Case::Differs);
     }
     fill(buf, text, len);
     match thin::thin(buf, len, tolerance) {
@@ -152,28 +172,29 @@ fn thinned(text: &mut [u8], buf: &mut [f32], len: usize, tolerance: f32) -> Case
             len: left,
             tolerance: last,
             passes,
-        } => compare(text, buf, left, last, passes),
-        Thinned::Refused(_) => Case::Differs,
+        } => compare(input, text, buf, left, last, passes),
+        Thinned::Refused(_) => Ok(Case::Differs),
     }
 }
 
 // The next case.
-fn replay(text: &mut [u8], numbers: &mut [f32]) -> Case
+fn replay(input: &mut impl Read, text: &mut [u8], numbers: &mut [f32]) -> io::Result<Case>
     requires { (length text.old ≡ 110592) × (4096 ≤ capacity (length numbers.old)) }
 {
-    if !read(text, 3) {
-        return Case::End;
+    if !read(input, text, 3)? {
+        return Ok(Case::End);
     }
     let capacity = word(text, 0) as usize;
     let len = word(text, 1) as usize;
     let tolerance = number(word(text, 2));
     if capacity > MOST {
-        return Case::Differs;
+        return Ok(Case::Differs);
     }
     if len > capacity {
-        return Case::Differs;
+        return Ok(Case::Differs);
     }
     thinned(
+        input,
         text,
         &mut numbers[..crumbs::STRIDE * capacity],
         len,
@@ -193,32 +214,25 @@ fn empty_numbers() -> [f32; NUMBERS]
     [0.0; NUMBERS]
 }
 
-fn print_agreed(cases: u64) {
-    io::print_decimal(STDOUT_FILENO, cases);
-    io::write_all(STDOUT_FILENO, b" cases agree\n");
+fn print_agreed(rt: &impl Print, cases: u64) -> io::Result<()> {
+    println!(rt; "{cases} cases agree")
 }
 
-fn print_differs(case: u64) {
-    io::write_all(STDOUT_FILENO, b"case ");
-    io::print_decimal(STDOUT_FILENO, case);
-    io::write_all(STDOUT_FILENO, b" differs\n");
+fn print_differs(rt: &impl Print, case: u64) -> io::Result<()> {
+    println!(rt; "case {case} differs")
 }
 
 // Replays at most a million cases.
-fn main() {
+fn main(rt: HostRuntime) -> io::Result<()> {
+    let mut input = rt.reader();
     let mut text = empty_text();
     let mut numbers = empty_numbers();
     for agreed in 0..1_000_000u64 {
-        match replay(&mut text, &mut numbers) {
+        match replay(&mut input, &mut text, &mut numbers)? {
             Case::Agrees => {}
-            Case::Differs => {
-                print_differs(agreed + 1);
-                return;
-            }
-            Case::End => {
-                print_agreed(agreed);
-                return;
-            }
+            Case::Differs => return print_differs(&rt, agreed + 1),
+            Case::End => return print_agreed(&rt, agreed),
         }
     }
+    Ok(())
 }

@@ -1,9 +1,5 @@
 -- `rebuild::visit` meets its contract.
 use mathlib.Core.Path.{◌≡◌, refl, sym, subst}
-use mathlib.Core.List.{[], ◌∷◌}
-use types.Run.{OneOf, miss}
-use denote.Enum.Declared.{tag_of}
-use Rattle.ride_log.specs.contracts.Kind.{the_type}
 use Rattle.ride_log.specs.declared.Kind.{Kind}
 use Rattle.ride_log.specs.declared.Kind.TheVariants as kind
 use Rattle.ride_log.specs.declared.Entry.{Entry}
@@ -15,9 +11,9 @@ use Rattle.rebuild.proofs.Making.{visited, makes-quiet}
 use borrow.Author.Rules.{rules}
 use Rattle.rebuild.proofs.visit.Goals as goal
 
-not-samples : (k : Kind) (e : Entry) (r : Rebuild) → OneOf (0 ∷ 2 ∷ 3 ∷ 4 ∷ 5 ∷ 6 ∷ []) (tag_of the_type k) → visit_kind k e r ≡ quiet r
+not-samples : (k : Kind) (e : Entry) (r : Rebuild) → (k ≡ kind.Samples → ⊥) → visit_kind k e r ≡ quiet r
 unfolding visit_kind
-not-samples kind.Samples e r o = absurd (miss (0 ∷ 2 ∷ 3 ∷ 4 ∷ 5 ∷ 6 ∷ []) 1 tt o)
+not-samples kind.Samples e r o = absurd (o refl)
 not-samples kind.Start e r o = refl
 not-samples kind.Pause e r o = refl
 not-samples kind.Resume e r o = refl
@@ -30,7 +26,7 @@ unfolding visit
 returns-in_default c =
     let g = c.args in
     subst (λ (m : Made). Makes m g.h g.crumbs.now (visited g.r g.h) g.crumbs.now)
-    (sym (not-samples g.e.kind g.e g.r c.in_default.keys2))
+    (sym (not-samples g.e.kind g.e g.r c.in_default.not-Samples))
     (makes-quiet g.r g.h g.crumbs.now c.requires.trail_fit)
 
 pub returns : goal.returns

@@ -13,7 +13,7 @@ use Rattle.rebuild.proofs.visit_samples.Goals.{then-x, else-x}
 pub loop-i-init : goal.loop-i-init
 loop-i-init c =
     let four : length c.args.e.samples ≡ 4 =
-    sym (length-map c.args.e.samples _) ∙ c.well_formed.1.1.1.0.1.1.1.1.1.0.1.0.1 in
+    c.well_formed.1.1.1.0.1.1.1.1.1.0.1.0.1 in
     let few : c.args.e.count ≤ 4 = c.requires.count_bound in
     let long : length c.args.h.window ≡ 96 = c.well_formed.1.0.1.1.1.0.1.0.1 in
     (going_start c.taken_apart-parts.ensures c.requires.trail_fit (subst (λ n. c.args.e.count ≤ n) (sym four) few), long)
