@@ -3,6 +3,7 @@ use mathlib.Core.Path.{sym, ◌∙◌}
 use native.Mathlib.Omega.{arith}
 use Rattle.course.proofs.Fixes.{length-fixes}
 use Rattle.ride.proofs.Points.{no_place, first-place}
+use borrow.Author.Rules.{rules}
 use Rattle.ride.proofs.place_in.Goals as goal
 
 pub returns-then-count-eq0 : goal.returns-then-count-eq0
@@ -19,4 +20,4 @@ pub returns : goal.returns
 returns c =
     let s = c.args in
     first-place s.lats.now s.lons.now (λ none. c.if-count-eq0.false (c.count.ensures ∙ none))
-    c.result-1.given c.result-2-1.given
+    (search rules) (search rules)

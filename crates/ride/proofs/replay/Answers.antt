@@ -4,6 +4,7 @@ use native.Mathlib.Omega.{arith}
 use Rattle.course.proofs.Fixes.{length-fixes}
 use Rattle.ride.proofs.Points.{no-fix, first-fix}
 use Rattle.ride.proofs.Stepping.{at-fix}
+use borrow.Author.Rules.{rules}
 use Rattle.ride.proofs.replay.Goals as goal
 
 pub returns-then-count-eq0 : goal.returns-then-count-eq0
@@ -26,5 +27,5 @@ returns c =
     at-fix
     (first-fix s.lats.now s.lons.now (λ none. c.if-count-eq0.false
     (c.count.ensures ∙ none))
-    c.replay-arg-3-1.given c.replay-arg-4-1.given)
+    (search rules) (search rules))
     c.replay-r-2.ensures.called
