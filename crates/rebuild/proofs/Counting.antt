@@ -43,12 +43,14 @@ pub data Rebuilding : List Call → Type 0 where
 module _ (size : ℕ) (room : question1 size ≡ true) where
   pub none-refused : {s : State} {l : List Crumb} {cs : List Call} → Own size s l → Rebuilding cs → NoneRefused size s cs
   none-refused own nothing = tt
-  none-refused {s = s} {l = l} own (reset {cs = cs} m) =
-      (taken size room _ _ own Reset tt tt,
-        none-refused {s = (after_call size Reset s).state} {cs = cs} (called own Reset tt tt) m)
-  none-refused {s = s} {l = l} own (replay {cs = cs} x now on m) =
-      (taken size room _ _ own (Replay x now) tt (on, tt),
-        none-refused {s = (after_call size (Replay x now) s).state} {cs = cs} (called own (Replay x now) tt (on, tt)) m)
+  none-refused {s = s} {l = l} own (reset {cs = cs} m) = (
+    taken size room _ _ own Reset tt tt,
+    none-refused {s = (after_call size Reset s).state} {cs = cs} (called own Reset tt tt) m,
+  )
+  none-refused {s = s} {l = l} own (replay {cs = cs} x now on m) = (
+    taken size room _ _ own (Replay x now) tt (on, tt),
+    none-refused {s = (after_call size (Replay x now) s).state} {cs = cs} (called own (Replay x now) tt (on, tt)) m,
+  )
 
 -- ---- a rebuild makes no others
 both : {xs ys : List Call} → Rebuilding xs → Rebuilding ys → Rebuilding (xs ++ ys)

@@ -15,8 +15,8 @@ ghost use Rattle.restart.specs.Promises.{asks_step, Steps, SettlesBreadcrumb};
 
 use answers::Verdict;
 use homing::Reply;
-use ride_log::{Entry, Utc, file_questions};
 use rebuild::{Rebuild, Stage, Visited, Walk};
+use ride_log::{Entry, Utc, file_questions};
 use state::Homing;
 
 #[derive(Clone, Copy)]

@@ -9,7 +9,8 @@ use Rattle.ride.specs.Script.{CallEntry, call_entries}
 
 -- the entry at place k
 abbrev pub entry_at : List ℕ → List ℕ → List ℕ → List ℕ → ℕ → CallEntry
-entry_at ops clocks sizes counts k = record { op = get_or ops k 0; clock = get_or clocks k 0; size = get_or sizes k 0; count = get_or counts k 0 }
+entry_at ops clocks sizes counts k =
+    record { op = get_or ops k 0; clock = get_or clocks k 0; size = get_or sizes k 0; count = get_or counts k 0 }
 
 pub length-entries : (ops clocks sizes counts : List ℕ)
     → length (call_entries ops clocks sizes counts) ≡ min (min (length ops) (length clocks)) (min (length sizes) (length counts))

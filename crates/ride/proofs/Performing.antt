@@ -59,7 +59,8 @@ pub record Performing (s : Script) (h₀ : Homing) (entry : List Float) (n m k a
   pub given : first ≤ m
   pub long : length crumbs ≡ length entry
   pub room : length line ≡ s.room
-  pub to-come : (run (length entry) (from s k at first) (state_of h crumbs)).state ≡ (run (length entry) (whole s) (state_of h₀ entry)).state
+  pub to-come : (run (length entry) (from s k at first) (state_of h crumbs)).state
+      ≡ (run (length entry) (whole s) (state_of h₀ entry)).state
 
 pub starts : {n m : ℕ} (s : Script) (h : Homing) (crumbs line : List Float) → n ≡ length (entries_of s) → m ≡ length (points_of s)
     → length line ≡ s.room → Performing s h crumbs n m 0 0 0 crumbs line h

@@ -1,7 +1,7 @@
 -- Tests that are true and false. Assumes nothing.
 use Prim.Native.Nat.{ℕ}
 use mathlib.Core.Path.{◌≡◌}
-use mathlib.Core.Bool.{Bool, true, false, and-eq-true_iff}
+use mathlib.Core.Bool.{Bool, true, false}
 use native.Mathlib.Omega.{arith}
 
 pub never : {b : Bool} → b ≡ true → b ≡ false → ⊥

@@ -1,5 +1,5 @@
 -- That `ride` speaks of every list of calls of machine size: each is what some slices say. `proofs/Covers.antt` proves it.
-use Rattle.std.specs.Prelude.{ℕ, ◌*◌, ◌^◌, ◌<◌, ◌≡◌, List, [], ◌∷◌, ◌++◌, T, ℤ, length, Float}
+use Rattle.std.specs.Prelude.{ℕ, ◌*◌, ◌^◌, ◌<◌, ◌≡◌, List, [], ◌∷◌, ◌++◌, T, length, Float}
 use Rattle.std.specs.Int.{w8, w32, w64}
 use Rattle.std.proofs.Common.{Fits, SFits}
 use Rattle.std.specs.Float.{binary32}

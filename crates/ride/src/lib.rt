@@ -248,7 +248,9 @@ fn perform(
     lats: &[i32],
     lons: &[i32],
 ) -> Homing
-    ensures { Performs (written_calls (length line.old) ops.now clocks.now sizes.now counts.now lines.now lats.now lons.now) h0 crumbs.old result crumbs.new }
+    ensures { Performs (written_calls (length line.old) ops.now clocks.now sizes.now
+        counts.now lines.now lats.now lons.now) h0 crumbs.old result
+        crumbs.new }
 {
     let room = line.len();
     let numbers = lines.len();

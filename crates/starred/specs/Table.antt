@@ -4,7 +4,6 @@ use Rattle.std.specs.Float.{binary32}
 use Rattle.std.specs.Float.Ieee.{of_bits, neg, eq}
 use Rattle.binary32.specs.Arithmetic.{constant}
 use Rattle.binary32.specs.Limits.{plus_zero, one}
-use Rattle.plane.specs.declared.Point.{Point}
 use Rattle.plane.specs.declared.Heading.TheVariants.{Known}
 use Rattle.plane.specs.Plane.{bearing, metres}
 use Rattle.plane.specs.Fix.{east_per_e7, frame}

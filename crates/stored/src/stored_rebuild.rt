@@ -7,8 +7,8 @@ ghost use Rattle.stored.specs.Rebuilt.{pending_in, utc_flag, utc_in, rebuild_wor
 ghost use Rattle.stored.specs.Inner.{LoadsRebuild};
 
 use crate::{fields, layout};
-use ride_log::Utc;
 use rebuild::{Rebuild, Stage, Walk};
+use ride_log::Utc;
 
 pub const REBUILD_WORDS: usize = 7;
 

@@ -25,14 +25,21 @@ overflow_sub-j c = (let l = c.loop-n in
     j_pos l.n l.j c.args.m c.requires.0 (omega arith) l.invariant.3)
 
 pub loop-n-smaller : goal.loop-n-smaller
-loop-n-smaller c = omega (arith, (let l = c.loop-n in
-    j_pos l.n l.j c.args.m c.requires.0 (omega arith) l.invariant.3))
+loop-n-smaller c = omega (
+  arith,
+  (let l = c.loop-n in
+      j_pos l.n l.j c.args.m c.requires.0 (omega arith) l.invariant.3),
+)
 
 pub loop-n-preserved : goal.loop-n-preserved
 loop-n-preserved c =
-    let l = c.loop-n in
-    (omega arith, omega arith, omega arith, quarter l.n l.j (let l = c.loop-n in
-    j_pos l.n l.j c.args.m c.requires.0 (omega arith) l.invariant.3) ∙ l.invariant.3)
+    let l = c.loop-n in (
+      omega arith,
+      omega arith,
+      omega arith,
+      quarter l.n l.j (let l = c.loop-n in
+          j_pos l.n l.j c.args.m c.requires.0 (omega arith) l.invariant.3) ∙ l.invariant.3,
+    )
 
 pub int_to_float-n : goal.int_to_float-n
 int_to_float-n c = whole-exact c.loop-n.n (omega arith)

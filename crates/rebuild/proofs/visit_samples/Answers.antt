@@ -27,8 +27,8 @@ replay_heard-parts-requires c =
     let b : Begins c.hear-x.result l.parts l.homing c.if-x.parts c.if-x.homing =
     elim c.if-x.branch [
       | then-x w ↦
-        begins-anew w.if-x.true w.put_together-whole.ensures w.reset-homing.ensures w.taken_apart-parts-then-x.ensures
-        w.reset-homing.type_inv.1.1.1.0.1.0.1 w.homing-is w.parts-is
+          begins-anew w.if-x.true w.put_together-whole.ensures w.reset-homing.ensures w.taken_apart-parts-then-x.ensures
+          w.reset-homing.type_inv.1.1.1.0.1.0.1 w.homing-is w.parts-is
       | else-x w ↦ begins-so w.if-x.false l.invariant.1 w.homing-is w.parts-is
     ] in
     (b.long, b.settles.fit _ l.invariant.0.made.fit)
@@ -47,8 +47,8 @@ loop-i-preserved c =
     let b : Begins c.hear-x.result l.parts l.homing c.if-x.parts c.if-x.homing =
     elim c.if-x.branch [
       | then-x w ↦
-        begins-anew w.if-x.true w.put_together-whole.ensures w.reset-homing.ensures w.taken_apart-parts-then-x.ensures
-        w.reset-homing.type_inv.1.1.1.0.1.0.1 w.homing-is w.parts-is
+          begins-anew w.if-x.true w.put_together-whole.ensures w.reset-homing.ensures w.taken_apart-parts-then-x.ensures
+          w.reset-homing.type_inv.1.1.1.0.1.0.1 w.homing-is w.parts-is
       | else-x w ↦ begins-so w.if-x.false l.invariant.1 w.homing-is w.parts-is
     ] in (
       going_on l.invariant.0 c.loop-i-test.true _

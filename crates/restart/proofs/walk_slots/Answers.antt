@@ -31,8 +31,11 @@ entry_at-entry-requires c = tt
 
 pub look-v-requires : goal.look-v-requires
 look-v-requires c =
-    let g = c.loop-slot.invariant in record { trail_fit = g.made.fit; count_bound = going-count g c.loop-slot-test.true c.if-index-eq0.false c.entry_at-entry.ensures
-          c.requires.file_value }
+    let g = c.loop-slot.invariant in record {
+      trail_fit = g.made.fit;
+      count_bound = going-count g c.loop-slot-test.true c.if-index-eq0.false c.entry_at-entry.ensures
+          c.requires.file_value;
+    }
 
 pub next_of-index-requires : goal.next_of-index-requires
 next_of-index-requires c = tt

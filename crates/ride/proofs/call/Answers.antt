@@ -4,7 +4,6 @@ use Rattle.course.specs.Course.{fixes}
 use Rattle.ride.specs.Script.{call_of, numbered}
 use Rattle.ride.proofs.Answering.{answering, left_alone}
 use Rattle.ride.proofs.Stepping.{not_least, by_number, at_place}
-use borrow.Author.Rules.{rules}
 use Rattle.ride.proofs.call.Goals as goal
 
 pub returns-then-op-eq-AUTO_FOLLOW_OFF : goal.returns-then-op-eq-AUTO_FOLLOW_OFF

@@ -1,7 +1,6 @@
 -- `ride::count` meets its contract.
 use mathlib.Core.Path.{sym}
 use Rattle.ride.proofs.Entries.{length-entries}
-use borrow.Author.Rules.{rules}
 use Rattle.ride.proofs.count.Goals as goal
 
 pub returns : goal.returns

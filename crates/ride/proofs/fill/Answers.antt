@@ -5,9 +5,7 @@ use native.Mathlib.Omega.{arith}
 use lib.ListN.{length-set}
 use lib.Seq.{take-suc, take-suc-set, take_all}
 use borrow.Author.Rules.{rules}
-use Prim.Native.Nat.{◌≤◌, ◌-◌}
-use mathlib.Core.Path.{◌≡◌, sym, ◌∙◌}
-use lib.ListN.{length, take}
+use mathlib.Core.Path.{sym, ◌∙◌}
 use Rattle.ride.proofs.fill.Goals as goal
 
 pub loop-j-preserved : goal.loop-j-preserved

@@ -1,12 +1,10 @@
 -- `ride::perform` meets its contract.
 use Rattle.std.proofs.lemmas.Bool.{not_from_false, not_from_true}
-use Prim.Native.Nat.{◌-◌}
 use mathlib.Core.Path.{refl}
 use native.Mathlib.Omega.{arith}
-use lib.ListN.{length, get_or}
+use lib.ListN.{get_or}
 use lib.Seq.{length_front}
-use Rattle.ride.proofs.Performing.{Performing, starts, written, there, goes_on, breaks-off, ends, front-counted, as_long}
-use borrow.Author.Rules.{rules}
+use Rattle.ride.proofs.Performing.{starts, written, there, goes_on, breaks-off, ends, front-counted, as_long}
 use Rattle.ride.proofs.perform.Goals as goal
 
 pub loop-k-init : goal.loop-k-init
@@ -144,18 +142,23 @@ step-h-requires c =
 
 pub overflow_add-k : goal.overflow_add-k
 overflow_add-k c =
-    let tested =
-    c in
-    let looping = tested.before in
-    let start = looping.before.before.before.before.before.before.before.before.before.before in
-    let w = (written looping.loop.inv tested.loop-test.taken).op in omega (arith, start.good.1.1.1.0.0)
+    let w = (written c.loop-k.invariant c.loop-k-test.true).op in omega arith
 
 pub loop-k-smaller : goal.loop-k-smaller
 loop-k-smaller c =
-    let tested =
-    c in
-    let more = tested.loop-test.taken in
-    omega arith
+    let more = c.loop-k-test.true in omega arith
+
+pub slice_bounds-step-end-in-loop-k-2 : goal.slice_bounds-step-end-in-loop-k-2
+slice_bounds-step-end-in-loop-k-2 c =
+    (there c.loop-k.invariant c.loop-k-test.true c.readable.ensures (not_from_true _ c.if-not-readable.false)).line
+
+pub slice_bounds-step-end-in-loop-k-3 : goal.slice_bounds-step-end-in-loop-k-3
+slice_bounds-step-end-in-loop-k-3 c =
+    (there c.loop-k.invariant c.loop-k-test.true c.readable.ensures (not_from_true _ c.if-not-readable.false)).lats
+
+pub slice_bounds-step-end-in-loop-k-4 : goal.slice_bounds-step-end-in-loop-k-4
+slice_bounds-step-end-in-loop-k-4 c =
+    (there c.loop-k.invariant c.loop-k-test.true c.readable.ensures (not_from_true _ c.if-not-readable.false)).lons
 
 pub loop-k-preserved : goal.loop-k-preserved
 loop-k-preserved c =

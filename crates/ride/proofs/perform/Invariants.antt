@@ -1,11 +1,7 @@
 -- `ride::perform` meets its contract.
 use Prim.Native.Nat.{◌-◌}
-use mathlib.Core.Path.{refl}
-use native.Mathlib.Omega.{arith}
-use lib.ListN.{length, get_or}
-use lib.Seq.{length_front}
-use Rattle.ride.proofs.Performing.{Performing, starts, written, there, goes_on, breaks-off, ends, front-counted, as_long}
-use borrow.Author.Rules.{rules}
+use lib.ListN.{length}
+use Rattle.ride.proofs.Performing.{Performing}
 use Rattle.ride.proofs.perform.Given as goal
 
 abbrev pub invariant-loop-k : goal.invariant-loop-k

@@ -20,4 +20,4 @@ pub returns : goal.returns
 returns c =
     let s = c.args in
     first-place s.lats.now s.lons.now (λ none. c.if-count-eq0.false (c.count.ensures ∙ none))
-    c.result-1.given c.result-2-1.given
+    (search rules) (search rules)

@@ -27,5 +27,5 @@ returns c =
     at-fix
     (first-fix s.lats.now s.lons.now (λ none. c.if-count-eq0.false
     (c.count.ensures ∙ none))
-    c.replay-arg-3-1.given c.replay-arg-4-1.given)
+    (search rules) (search rules))
     c.replay-r-2.ensures.called

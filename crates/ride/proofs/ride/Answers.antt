@@ -1,6 +1,5 @@
 -- `ride::ride` meets its contract.
 use Rattle.ride.proofs.Riding.{rides, stays}
-use borrow.Author.Rules.{rules}
 use Rattle.ride.proofs.ride.Goals as goal
 
 pub returns-in-Taken : goal.returns-in-Taken

@@ -4,7 +4,6 @@ use native.Mathlib.Omega.{arith}
 use Rattle.course.specs.Course.{fixes}
 use Rattle.ride.specs.Script.{call_of, numbered}
 use Rattle.ride.proofs.Stepping.{not_least, by_number, on-copy}
-use borrow.Author.Rules.{rules}
 use Rattle.ride.proofs.step.Goals as goal
 
 pub returns-then-op-eq-RESET : goal.returns-then-op-eq-RESET

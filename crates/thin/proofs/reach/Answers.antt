@@ -73,10 +73,10 @@ pub returns : goal.returns
 returns c =
     elim c.ends-test.branch [
       | then-ends-test+else-end-anchor-le-SPAN w ↦
-        ends-out c.ends.invariant (let far : 256 < c.ends.end - c.args.anchor = w.if-end-anchor-le-SPAN.false in omega arith)
+          ends-out c.ends.invariant (let far : 256 < c.ends.end - c.args.anchor = w.if-end-anchor-le-SPAN.false in omega arith)
       | else-ends-test w ↦ ends-out c.ends.invariant (omega arith)
       | then-ends-test+then-end-anchor-le-SPAN+then-loop-j-test+then-strays w ↦
-        ends-stray c.ends.invariant w.ends-test.true w.if-end-anchor-le-SPAN.true w.loop-j.invariant w.loop-j-test.true
-        refl
-        (leaves _ w.strays.ensures w.point_at-p.ensures c.point_at-a.ensures w.point_at-b.ensures w.if-strays.true)
+          ends-stray c.ends.invariant w.ends-test.true w.if-end-anchor-le-SPAN.true w.loop-j.invariant w.loop-j-test.true
+          refl
+          (leaves _ w.strays.ensures w.point_at-p.ensures c.point_at-a.ensures w.point_at-b.ensures w.if-strays.true)
     ]

@@ -19,7 +19,7 @@ returns-then-strays c =
     (elim c.then-strays.branch [
       | then-strays-via-then-strays w ↦ strayed a.t _ _ a.anchor a.p is w.if-strays.true
       | then-strays-via-else-strays+then-t-eq-WINDOW w ↦
-        filled a.t _ _ a.anchor a.p is (eq-eqb a.t.window_len window_places w.if-t-eq-WINDOW.true)
+          filled a.t _ _ a.anchor a.p is (eq-eqb a.t.window_len window_places w.if-t-eq-WINDOW.true)
     ])
     c.flush-flushed.ensures c.wait.ensures
 

@@ -4,5 +4,8 @@ use borrow.Author.Rules.{rules}
 use Rattle.door.proofs.calling.keep_changed.Goals as goal
 
 pub returns : goal.returns
-returns c = record { value = c.keep.ensures.value
-      ∙ c.number_of_reply.ensures; leaves = c.keep.ensures.leaves }
+returns c = record {
+  value = c.keep.ensures.value
+      ∙ c.number_of_reply.ensures;
+  leaves = c.keep.ensures.leaves;
+}

@@ -8,11 +8,10 @@ pub returns-then-number-ne0 : goal.returns-then-number-ne0
 returns-then-number-ne0 c = (refl, (rebuild-left c.if-number-ne0.true, state-left c.if-number-ne0.true))
 
 pub returns : goal.returns
-returns c =
-    (
-      sym c.if-number-ne0.false,
-      (
-        rebuild-kept c.store_rebuild.ensures,
-        state-kept c.store.ensures,
-      ),
-    )
+returns c = (
+  sym c.if-number-ne0.false,
+  (
+    rebuild-kept c.store_rebuild.ensures,
+    state-kept c.store.ensures,
+  ),
+)

@@ -50,12 +50,15 @@ add_update-requires c =
     let h = whole g.h w in
     let cut = whole back.result w in
     let r = decided_in e.result w in
-    let idle = back-idle h cut (back.ensures w) c.requires.retrace_len_bound.1 in record { window_len = (
+    let idle = back-idle h cut (back.ensures w) c.requires.retrace_len_bound.1 in record {
+      window_len = (
         c.requires.window_len.0,
         unengaged-fit cut g.crumbs.now g.line.now g.now_ms r (e.ensures w) _ c.if-e.false
             (back-fit h cut (back.ensures w) _ _ c.requires.retrace_len_bound.1 c.requires.window_len.1),
-      ); grows = idle-grows r.homing (ap (λ (f : Follow). f.line) (unengaged-follow cut g.crumbs.now g.line.now
-          g.now_ms r (e.ensures w) c.if-e.false) ∙ idle) }
+      );
+      grows = idle-grows r.homing (ap (λ (f : Follow). f.line) (unengaged-follow cut g.crumbs.now g.line.now
+          g.now_ms r (e.ensures w) c.if-e.false) ∙ idle);
+    }
 
 pub returns : goal.returns
 returns c =

@@ -20,11 +20,14 @@ near_here-best-requires c = (c.requires []).course
 
 pub follow_best-requires : goal.follow_best-requires
 follow_best-requires c =
-    let g = c.args in record { guided_fit = c.requires; line_value = (
+    let g = c.args in record {
+      guided_fit = c.requires;
+      line_value = (
         c.in-Nothing.is,
         subst (λ (b : Best). InLine g.h.course.line_len b)
             (sym (c.near_here-best.ensures [])) (near-in g.h.here (whole g.h []) g.line.now),
-      ) }
+      );
+    }
 
 pub returns-in-Nothing : goal.returns-in-Nothing
 unfolding follow_from
