@@ -1,10 +1,10 @@
 -- What `sqrtf`'s tests tell of x: that it is above zero, a zero, or neither; and of its bit pattern where it is above zero. Assumes
 -- nothing.
-use Rattle.std.proofs.Common.{◌≡◌, ℕ, zero, suc, ◌+◌, ◌*◌, ◌/◌, ◌%◌, ◌^◌, ◌<◌, ◌≤◌, Bool, true, false, cond, not, ◌&&◌, ◌||◌, T, eqb, ltb, leb, ◌⊎◌, ℤ, pos, negsuc, sym, refl, ap, ◌∙◌, subst, inl, inr, true≢false, mod-eq_of_lt, zero-lt-suc, eq-zero-or-pos, mul-pos, zero-mul, mul-one, arith, le→leb, eqb→eq, ltb→lt, lt→ltb, leb→le, T_not}
-use mathlib.Core.Bool.{beq, false≢true}
+use Rattle.std.proofs.Common.{◌≡◌, ℕ, zero, suc, ◌+◌, ◌*◌, ◌/◌, ◌%◌, ◌<◌, ◌≤◌, Bool, true, false, cond, not, ◌||◌, T, eqb, ltb, leb, ℤ, pos, sym, refl, ap, ◌∙◌, subst, inl, inr, zero-lt-suc, eq-zero-or-pos, mul-pos, zero-mul, mul-one, arith, eqb→eq, ltb→lt, lt→ltb, leb→le, T_not}
+use mathlib.Core.Bool.{beq}
 use lib.Dec.{nleb→lt}
-use lib.Ieee.{Float, nan, inf, fin, binary32, odd, of_fields, of_bits, to_bits, fits, is_nan, lt, eq, div, up, down, level, below}
-use lib.Ieee.Bits.{is_true, is_false, of_bits-to_bits}
+use lib.Ieee.{Float, nan, inf, fin, binary32, odd, of_fields, of_bits, to_bits, fits, is_nan, lt, eq, div, up, down, level}
+use lib.Ieee.Bits.{of_bits-to_bits}
 use lib.Ieee.Fits.{and_l, up_pos}
 use lib.Ieee.Positive.{above}
 use Rattle.binary32.specs.Root.{root}

@@ -1,16 +1,16 @@
 -- What the tests of `as_u32` and `as_f32` tell of the value, and the steps of `as_f32` to a magnitude. Assumes nothing.
-use Rattle.std.proofs.Common.{◌≡◌, ℕ, zero, suc, ◌+◌, ◌-◌, ◌*◌, ◌/◌, ◌^◌, ◌<◌, ◌≤◌, min, Bool, true, false, cond, not, T, ltb, ℤ, pos, negsuc, ◌-ℤ◌, nat_abs, sym, refl, ap, ◌∙◌, subst, true≢false, le_trans, le_of_eq, lt_of_lt_of_le, lt_of_le_of_lt, lt_irrefl, mul-le-mul_right, zero-lt-suc, div-lt_iff_lt-mul, one-mul, le-div_iff_mul-le, mul-one, add-one, arith, lit≤, ltb→lt, lt→ltb, nltb→le, T_not, w64, Fits, SFits, to_z, of_z}
+use Rattle.std.proofs.Common.{◌≡◌, ℕ, zero, suc, ◌+◌, ◌-◌, ◌*◌, ◌/◌, ◌^◌, ◌<◌, ◌≤◌, min, Bool, true, false, cond, not, T, ltb, ℤ, pos, negsuc, ◌-ℤ◌, nat_abs, sym, refl, ap, ◌∙◌, subst, true≢false, le_trans, le_of_eq, lt_of_lt_of_le, lt_of_le_of_lt, mul-le-mul_right, div-lt_iff_lt-mul, one-mul, le-div_iff_mul-le, mul-one, add-one, arith, lit≤, ltb→lt, lt→ltb, nltb→le, T_not, w64, Fits, SFits, to_z, of_z}
 use mathlib.Core.Bool.{false≢true}
 use lib.IntN.{+ℤ_comm, -ℤ_one}
 use lib.Signed.{le_z, non_neg}
 use lib.Dec.{leb-zero}
-use lib.Ieee.{Float, nan, inf, fin, Format, binary32, prec, emax, low, up, down, below, odd, units, round, neg, lt, eq, ne, is_nan, of_int}
+use lib.Ieee.{Float, nan, inf, fin, Format, binary32, prec, emax, low, up, down, odd, units, round, neg, lt, eq, ne, is_nan, of_int}
 use lib.Ieee.{to_unsigned, to_bits}
 use lib.Ieee.Fits.{down_pos, round_is}
 use lib.Ieee.Compare.{differs_from_itself}
 use mir.ValLaws.{to_z-of_z}
 use Rattle.binary32.specs.Casts.{as_u32}
-use Rattle.binary32.specs.Inner.{within32, as_f32}
+use Rattle.binary32.specs.Inner.{as_f32}
 
 -- ---- as u32
 abbrev pub bound : ℕ → Float

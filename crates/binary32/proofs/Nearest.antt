@@ -1,20 +1,20 @@
 -- `root` is the nearest value of the format (`root-nearest`), and finite where its operand is (`root-finite`), in the units of
 -- `specs/Nearest.antt`. The same is proved of `round` first, at any fraction (`grid-above`, `grid-below`). Assumes nothing.
-use Rattle.std.proofs.Common.{◌≡◌, ℕ, zero, suc, ◌+◌, ◌-◌, ◌*◌, ◌/◌, ◌%◌, ◌^◌, ◌<◌, ◌≤◌, Bool, true, false, not, T, leb, ◌⊎◌, sym, refl, ap, ◌∙◌, subst, inl, inr, le_trans, le_of_eq, le_refl, lt_of_lt_of_le, le_of_suc-le-suc, le-add_right, lt_of_le_of_lt, le_of_lt, lt_irrefl, mul-le-mul_right, mod-lt, mul_assoc, suc-mul, mul_comm, add-mul, add-sub_of_le, eq-zero-or-pos, mul-le-mul, lt_of_mul-lt-mul_right, eq-or-lt_of_le, mul-le-mul_left, mul-lt-mul_of_pos_right, mul-pos, lt_of_not-le, div-add-mod', le-div_iff_mul-le, mul-one, mul_right_comm, not-le_of_lt, div-mul-le_self, le_of_mul-le-mul_right, mul_left_comm, arith, lit<, lit≤, leb→le, pow_pos, pow_mono, pow-add, shl_lt}
+use Rattle.std.proofs.Common.{◌≡◌, ℕ, zero, suc, ◌+◌, ◌-◌, ◌*◌, ◌/◌, ◌%◌, ◌^◌, ◌<◌, ◌≤◌, Bool, true, false, not, T, leb, ◌⊎◌, sym, refl, ap, ◌∙◌, subst, inl, inr, le_trans, le_of_eq, lt_of_lt_of_le, le_of_suc-le-suc, le-add_right, lt_of_le_of_lt, le_of_lt, lt_irrefl, mul-le-mul_right, mod-lt, mul_assoc, suc-mul, mul_comm, add-mul, mul-le-mul, lt_of_mul-lt-mul_right, eq-or-lt_of_le, mul-le-mul_left, mul-lt-mul_of_pos_right, mul-pos, lt_of_not-le, div-add-mod', le-div_iff_mul-le, not-le_of_lt, div-mul-le_self, le_of_mul-le-mul_right, mul_left_comm, arith, lit<, lit≤, leb→le, pow_pos, pow_mono, pow-add, shl_lt}
 use Prim.Native.Nat.{compare, Ordering}
 use native.Mathlib.Nat.{eq_of_mul-eq-mul_right}
 use native.Mathlib.Nat.{pow-succ'}
 use lib.Dec.{nleb→lt}
-use lib.Ieee.{Float, nan, inf, fin, Format, binary32, binary64, prec, emax, low, up, down, size, nearest, round, fits}
+use lib.Ieee.{Float, nan, inf, fin, Format, binary32, binary64, prec, emax, low, size, nearest, round, fits}
 use lib.Ieee.Digits.{size_reaches}
-use lib.Ieee.Fits.{nearest-le, round-fits, two, two-le_pos, down_pos}
+use lib.Ieee.Fits.{nearest-le, round-fits, two, two-le_pos}
 use lib.Ieee.Exact.{HasValue}
-use lib.Ieee.Order.{drop, kept}
+use lib.Ieee.Order.{drop}
 use lib.Ieee.Nearest.{closest, nearest-ge}
 use lib.Ieee.Positive.{num, den, den_pos, positive, positive_of_value, value→cross}
-use lib.Ieee.Scale.{grid, overflow, finite, round_val, round_under}
+use lib.Ieee.Scale.{grid, overflow, round_val, round_under}
 use Rattle.binary32.specs.Root.{halves, root_of, root}
-use Rattle.binary32.specs.Nearest.{NoneNearer, EveryRootNearest, EveryRootFinite}
+use Rattle.binary32.specs.Nearest.{EveryRootNearest, EveryRootFinite}
 use Rattle.binary32.proofs.Sides.{halves-above, halves-below}
 use Rattle.binary32.proofs.Closest.{Cmp, cmp}
 use Rattle.binary32.proofs.Rounded.{root_of-is}

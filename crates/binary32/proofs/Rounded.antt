@@ -1,12 +1,12 @@
 -- Where `root_of` rounds to: in units of the format's smallest value let the exact root of a / c be that of N, times 2 ^ j, with N from hid
 -- * hid up to 4 * hid * hid. Then the result is q * 2 ^ j units, for the q whose midpoints q - 1/2 and q + 1/2 lie on either side of the
 -- root of N. Assumes nothing.
-use Rattle.std.proofs.Common.{◌≡◌, ℕ, zero, suc, ◌+◌, ◌-◌, ◌*◌, ◌/◌, ◌%◌, ◌^◌, ◌<◌, ◌≤◌, Bool, true, false, cond, T, ltb, sym, refl, ap, ◌∙◌, subst, inl, inr, le_trans, le_of_eq, lt_of_lt_of_le, lt_of_le_of_lt, le_of_lt, add_assoc, mul-le-mul_right, zero-lt-suc, mul_assoc, mul_comm, div-lt_iff_lt-mul, add-mul, add_comm, le_antisymm, eq-or-lt_of_le, mul-lt-mul_of_pos_right, mul-pos, one-mul, pow-suc, lt_of_not-le, le-div_iff_mul-le, mul-one, mul-add, not-le_of_lt, mul_left_comm, two-mul, arith, lt→ltb, pow_pos, pow_mono, pow-add}
+use Rattle.std.proofs.Common.{◌≡◌, ℕ, zero, suc, ◌+◌, ◌-◌, ◌*◌, ◌/◌, ◌^◌, ◌<◌, ◌≤◌, false, sym, refl, ap, ◌∙◌, subst, inl, inr, le_trans, le_of_eq, lt_of_lt_of_le, lt_of_le_of_lt, le_of_lt, add_assoc, mul-le-mul_right, zero-lt-suc, mul_assoc, mul_comm, div-lt_iff_lt-mul, add-mul, add_comm, le_antisymm, eq-or-lt_of_le, mul-lt-mul_of_pos_right, mul-pos, one-mul, lt_of_not-le, le-div_iff_mul-le, mul-one, mul-add, not-le_of_lt, mul_left_comm, two-mul, arith, pow_pos, pow_mono, pow-add}
 use native.Mathlib.Nat.{add_left_comm}
 use native.Mathlib.Nat.{pow-succ'}
-use lib.Ieee.{Float, Format, prec, emax, low, hid, size, units, round}
-use lib.Ieee.Digits.{size-lt, size-le, size_reaches}
-use lib.Ieee.Fits.{core, round_is, two, two-le_pos}
+use lib.Ieee.{Format, prec, low, hid, size, units, round}
+use lib.Ieee.Digits.{size-lt, size-le}
+use lib.Ieee.Fits.{core, round_is, two}
 use lib.Ieee.Nearest.{closest}
 use Rattle.binary32.specs.Root.{halves, root_of}
 use Rattle.binary32.specs.Inner.{Nearest}

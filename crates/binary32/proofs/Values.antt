@@ -1,8 +1,8 @@
 -- From the value of x, in smallest values, to the root that `assembled` gives. Assumes nothing.
-use Rattle.std.proofs.Common.{◌≡◌, ℕ, zero, suc, ◌+◌, ◌-◌, ◌*◌, ◌^◌, ◌<◌, ◌≤◌, true, false, T, sym, refl, ap, ◌∙◌, subst, le_trans, le_of_eq, lt_of_lt_of_le, lt_irrefl, mul-le-mul_right, zero-lt-suc, mul_assoc, mul_comm, mul-pos, pow-suc, mul-one, mul_right_comm, mul_left_comm, arith, lit≤, pow_pos, pow-add}
-use lib.Ieee.{Float, nan, inf, fin, binary32}
+use Rattle.std.proofs.Common.{◌≡◌, ℕ, zero, suc, ◌+◌, ◌-◌, ◌*◌, ◌^◌, ◌<◌, false, sym, ap, ◌∙◌, le_trans, le_of_eq, lt_of_lt_of_le, lt_irrefl, mul-le-mul_right, zero-lt-suc, mul_assoc, mul_comm, pow-suc, mul-one, mul_right_comm, arith, lit≤, pow-add}
+use lib.Ieee.{Float, binary32}
 use lib.Ieee.Exact.{HasValue}
-use lib.Ieee.Positive.{num, den, den_pos, positive, positive_of_value, value→cross}
+use lib.Ieee.Positive.{num, den, den_pos, positive_of_value, value→cross}
 use Rattle.binary32.specs.Root.{root_of, root}
 use Rattle.binary32.proofs.Nearest.{root-positive}
 

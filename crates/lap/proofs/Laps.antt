@@ -1,5 +1,5 @@
 -- The lap at a position, by whether the rider has moved. Assumes nothing.
-use mathlib.Core.Path.{◌≡◌, refl, sym, ap, ◌∙◌}
+use mathlib.Core.Path.{◌≡◌, sym, ap, ◌∙◌}
 use mathlib.Core.Bool.{Bool, true, false, ◌||◌}
 use lib.Ieee.{Float}
 use Rattle.plane.specs.declared.Point.{Point}

@@ -1,6 +1,6 @@
 -- Passes of the start. Document 01, "Guide and event": "`StartPass` is stepped where it stands in the state lent to it"; the distances are
 -- homing.rs's.
-use Rattle.std.specs.Prelude.{Bool, true, false, cond, Float}
+use Rattle.std.specs.Prelude.{Bool, false, cond, Float}
 use Rattle.std.specs.Float.Ieee.{lt}
 use Rattle.binary32.specs.Arithmetic.{constant}
 use Rattle.lap.specs.declared.Stage.{Stage}

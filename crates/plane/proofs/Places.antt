@@ -1,6 +1,6 @@
 -- What the rules do to places: distances are at most 2^27 m, and a projected point is a place again. Assumes nothing.
-use Rattle.std.proofs.Common.{◌≡◌, ℕ, ◌*◌, ◌^◌, ◌≤◌, Bool, true, false, cond, T, ℤ, pos, nat_abs, sym, refl, ap, ◌∙◌, subst, lit<, lit≤}
-use lib.Ieee.{Float, fin, binary32, fits, add, sub, mul, div, lt, of_int}
+use Rattle.std.proofs.Common.{◌^◌, ◌≤◌, Bool, true, false, cond, T, ℤ, pos, nat_abs, lit<, lit≤}
+use lib.Ieee.{Float, fin, binary32, add, mul, lt, of_int}
 use lib.Ieee.Fits.{add-fits, mul-fits}
 use Rattle.binary32.specs.Arithmetic.{◌⊕◌, ◌⊖◌, ◌⊗◌, ◌⊘◌}
 use Rattle.binary32.specs.Root.{root}

@@ -1,6 +1,6 @@
 -- The two cases of `share`. Assumes nothing.
-use Rattle.std.proofs.Common.{◌≡◌, Bool, true, false, cond, sym, ap, ◌∙◌}
-use lib.Ieee.{Float, lt, of_bits, binary32}
+use Rattle.std.proofs.Common.{◌≡◌, true, false, sym}
+use lib.Ieee.{Float, lt}
 use Rattle.binary32.specs.Arithmetic.{◌⊕◌, ◌⊖◌, ◌⊗◌, ◌⊘◌}
 use Rattle.binary32.specs.Limits.{plus_zero, clamp}
 use Rattle.plane.specs.declared.Point.{Point}

@@ -1,12 +1,12 @@
 -- Differences of coordinates: how large they are, what the wrap makes of them, and that the machine's steps are defined. Assumes nothing.
-use Rattle.std.proofs.Common.{◌≡◌, ℕ, zero, suc, ◌+◌, ◌-◌, ◌^◌, ◌<◌, ◌≤◌, min, Bool, true, false, cond, not, T, ltb, ℤ, pos, negsuc, ◌+ℤ◌, ◌-ℤ◌, neg_ℤ, nat_abs, sym, refl, ap, ◌∙◌, subst, true≢false, arith, ltb→lt, nltb→le, w32, w64, SFits, to_z, of_z}
+use Rattle.std.proofs.Common.{◌≡◌, ℕ, zero, suc, ◌+◌, ◌-◌, ◌^◌, ◌<◌, ◌≤◌, min, Bool, true, false, cond, not, T, ltb, ℤ, pos, negsuc, ◌+ℤ◌, ◌-ℤ◌, nat_abs, sym, refl, ap, ◌∙◌, subst, arith, ltb→lt, nltb→le, w32, w64, SFits, to_z, of_z}
 use mathlib.Core.Bool.{false≢true}
 use lib.IntN.{sub_ℕ}
 use lib.Signed.{mag, lt_z}
-use lib.Ieee.{Float, binary32, of_int}
+use lib.Ieee.{binary32, of_int}
 use mir.ValLaws.{to_z-of_z}
 use mir.Facts.{sfits_widen}
-use Rattle.binary32.specs.Inner.{within32, as_f32}
+use Rattle.binary32.specs.Inner.{as_f32}
 use Rattle.plane.specs.Fix.{wrapped}
 
 -- ---- sizes

@@ -1,5 +1,5 @@
 -- Document 01's starred lines about the plane. Assumes nothing.
-use Rattle.std.proofs.Common.{◌≡◌, ℕ, ◌%◌, ◌≤◌, ℤ, pos, negsuc, nat_abs, sym, refl, ap, ◌∙◌}
+use Rattle.std.proofs.Common.{◌≡◌, ℕ, ◌%◌, ◌≤◌, ℤ, pos, negsuc, nat_abs, refl, ap, ◌∙◌}
 use lib.Ieee.{Float, binary32, of_bits, neg, add, sub, mul, div, lt, of_int, to_unsigned}
 use Rattle.binary32.specs.Arithmetic.{◌⊗◌, ◌⊘◌, constant}
 use Rattle.binary32.specs.Casts.{as_u32}

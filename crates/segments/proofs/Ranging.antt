@@ -1,6 +1,6 @@
 -- What lies too far off to have a cost, by its square. Assumes nothing.
 use Prim.Native.Nat.{ℕ, ◌-◌}
-use mathlib.Core.Path.{◌≡◌, refl, sym, ap, ◌∙◌, subst}
+use mathlib.Core.Path.{◌≡◌, refl, sym, subst}
 use mathlib.Core.Bool.{Bool, true, false, not, true≢false}
 use mathlib.Core.List.{List}
 use lib.Dec.{T}
@@ -10,16 +10,14 @@ use Rattle.binary32.specs.Arithmetic.{constant}
 use Rattle.binary32.specs.Root.{root}
 use Rattle.plane.specs.declared.Point.{Point}
 use Rattle.plane.specs.declared.Heading.{Heading}
-use Rattle.plane.specs.Plane.{project, distance, off_segment}
+use Rattle.plane.specs.Plane.{off_segment}
 use Rattle.crumbs.specs.declared.Crumb.{Crumb}
 use Rattle.crumbs.specs.Crumb.{point}
-use Rattle.segments.specs.declared.costs.Nearest.{Nearest}
-use Rattle.segments.specs.declared.costs.Cost.{Cost}
-use Rattle.segments.specs.declared.costs.Cost.TheVariants.{Out, Metres}
+use Rattle.segments.specs.declared.costs.Cost.TheVariants.{Out}
 use Rattle.segments.specs.declared.costs.Ranking.{Ranking}
-use Rattle.segments.specs.declared.costs.Ranking.TheVariants.{Plain, On, Ahead}
+use Rattle.segments.specs.declared.costs.Ranking.TheVariants.{On, Ahead}
 use Rattle.segments.specs.CostConstants.{search_m}
-use Rattle.segments.specs.Cost.{plain, on, ahead, cost_of}
+use Rattle.segments.specs.Cost.{on, ahead, cost_of}
 use Rattle.plane.specs.Square.{off_square}
 use Rattle.plane.proofs.squares.Far.{far-off, off-fits, off-not-below, off-is}
 use Rattle.binary32.proofs.roots.Monotone.{clear}

@@ -1,5 +1,5 @@
 -- The guide's arrow. homing.rs: "The arrow's angle: relative to the heading, or north up without one."
-use Rattle.std.specs.Prelude.{ℕ, ◌+◌, ◌-◌, ◌%◌, ◌<◌}
+use Rattle.std.specs.Prelude.{ℕ, ◌+◌, ◌-◌, ◌%◌}
 use Rattle.plane.specs.declared.Heading.{Heading}
 use Rattle.plane.specs.declared.Heading.TheVariants.{Known, Unknown}
 use Rattle.plane.specs.Plane.{turn}

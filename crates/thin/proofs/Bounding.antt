@@ -2,7 +2,7 @@
 use mathlib.Core.Path.{◌≡◌, refl, sym, ap, ◌∙◌, subst}
 use mathlib.Core.Bool.{Bool, true, false, not, false≢true}
 use lib.Dec.{T}
-use lib.Ieee.{Float, nan, inf, fin, binary32, of_bits, div, lt, eq, le, fits}
+use lib.Ieee.{Float, nan, inf, fin, binary32, lt, eq, le, fits}
 use Rattle.binary32.specs.Root.{root}
 use Rattle.plane.specs.declared.Point.{Point}
 use Rattle.plane.specs.Plane.{off_segment}

@@ -13,7 +13,7 @@ use Rattle.crumbs.specs.declared.Crumb.{Crumb}
 use Rattle.crumbs.specs.Crumb.{capacity}
 use Rattle.crumbs.specs.Choice.{Choice, first, last}
 use Rattle.crumbs.proofs.Choices.{choice-all, choice-trans, choice-length}
-use Rattle.thin.specs.Crumb.{pass_by, measuring_pass, halving_pass, doubled, target, Thinning, passes_from, thinning}
+use Rattle.thin.specs.Crumb.{pass_by, measuring_pass, halving_pass, target, Thinning, passes_from, thinning}
 use Rattle.thin.specs.Theorems.{doubled_by, measured, Thins, EveryThinning, EveryHalving}
 use Rattle.thin.proofs.Passes.{Within, reach-within, two_on-within, pass-choice, pass-first, pass-ends, pass-both, pass-few}
 use Rattle.thin.proofs.Passes.{halving-length}

@@ -9,7 +9,7 @@ use native.Mathlib.Decide.{ℕ_discrete}
 use borrow.Author.Tests.{eqb-false}
 use lib.Dec.{T, leb, eqb}
 use lib.ListN.{length, length-append}
-use lib.Ieee.{Float, binary32, of_int, le}
+use lib.Ieee.{Float, binary32, le}
 use lib.Ieee.Bits.{is_true}
 use Rattle.binary32.specs.Arithmetic.{constant}
 use Rattle.binary32.specs.Limits.{plus_zero}

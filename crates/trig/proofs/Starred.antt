@@ -3,9 +3,9 @@
 use mathlib.Core.Path.{◌≡◌, refl, sym, ap, ◌∙◌}
 use mathlib.Core.Bool.{true, false}
 use lib.IntN.{negsuc}
-use lib.Ieee.{Float, fin, neg, add, sub, mul, div, lt, le, eq}
+use lib.Ieee.{fin, neg, add, sub, mul, div, lt, le, eq}
 use Rattle.binary32.specs.Arithmetic.{constant}
-use Rattle.binary32.specs.Limits.{size_of, plus_zero, one}
+use Rattle.binary32.specs.Limits.{plus_zero, one}
 use Rattle.trig.specs.Fix.{pi, half_pi, quarter_pi, half, cos8, cos6, cos4, near_cos, cos}
 use Rattle.trig.specs.Fix.{atan9, atan7, atan5, atan3, tan_eighth_pi, smaller, larger, quotient, base, reduced, series, arc, eastward}
 use Rattle.trig.specs.Fix.{southward, westward, direction, angle}

@@ -2,7 +2,6 @@
 -- once, constants to nearest". Every operation here rounds once: `⊕`, `⊖`, `⊗` and `⊘` are binary32's. A quoted sentence is the document's.
 -- Definitions only.
 use Rattle.std.specs.Prelude.{◌*◌, ◌^◌, true, false, ◌&&◌, Float}
-use Rattle.std.specs.Float.{nan, inf, fin}
 use Rattle.std.specs.Float.Ieee.{neg, lt, le, eq}
 use Rattle.binary32.specs.Arithmetic.{◌⊕◌, ◌⊖◌, ◌⊗◌, ◌⊘◌, constant}
 use Rattle.binary32.specs.Limits.{size_of, plus_zero, one}

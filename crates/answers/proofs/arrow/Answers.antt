@@ -6,7 +6,6 @@ use Rattle.state.specs.Guide.{arrow, arrow_from}
 use Rattle.questions.proofs.Given.{guide-given}
 use Rattle.answers.specs.Answers.{says_angle}
 use Rattle.answers.proofs.Answering.{no, yes}
-use borrow.Author.Rules.{rules}
 use Rattle.answers.proofs.arrow.Goals as goal
 
 pub returns-then-asked-ne0 : goal.returns-then-asked-ne0

@@ -1,6 +1,5 @@
 -- `answers::course` meets its contract.
 use Rattle.answers.proofs.Answering.{course-refused, course-returned}
-use borrow.Author.Rules.{rules}
 use Rattle.answers.proofs.course.Goals as goal
 
 pub returns-then-asked-ne0 : goal.returns-then-asked-ne0

@@ -1,6 +1,5 @@
 -- `answers::crumbs` meets its contract.
 use Rattle.answers.proofs.Answering.{crumbs-refused, crumbs-returned}
-use borrow.Author.Rules.{rules}
 use Rattle.answers.proofs.crumbs.Goals as goal
 
 pub returns-then-asked-ne0 : goal.returns-then-asked-ne0

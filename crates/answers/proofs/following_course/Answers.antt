@@ -3,7 +3,6 @@ use Rattle.calls.specs.Ask.{following_course}
 use Rattle.calls.specs.Calls.{asks_lent, asks}
 use Rattle.answers.specs.Answers.{says_verdict}
 use Rattle.answers.proofs.Answering.{no, yes}
-use borrow.Author.Rules.{rules}
 use Rattle.answers.proofs.following_course.Goals as goal
 
 pub returns-then-asked-ne0 : goal.returns-then-asked-ne0

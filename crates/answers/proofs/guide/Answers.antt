@@ -4,7 +4,6 @@ use Rattle.calls.specs.Ask.{guide}
 use Rattle.calls.specs.Calls.{asks_lent, asks}
 use Rattle.answers.specs.Answers.{says_showing}
 use Rattle.answers.proofs.Answering.{no, yes}
-use borrow.Author.Rules.{rules}
 use Rattle.answers.proofs.guide.Goals as goal
 
 pub returns-then-asked-ne0 : goal.returns-then-asked-ne0

@@ -2,7 +2,6 @@
 use Rattle.calls.specs.Calls.{asks_lent, asks}
 use Rattle.answers.specs.Answers.{says_count}
 use Rattle.answers.proofs.Answering.{no, yes, len-held}
-use borrow.Author.Rules.{rules}
 use Rattle.answers.proofs.len.Goals as goal
 
 pub returns-then-asked-ne0 : goal.returns-then-asked-ne0

@@ -5,7 +5,6 @@ use Rattle.calls.specs.Ask.{ahead_of, route_home_on, route_home}
 use Rattle.calls.specs.Calls.{asks_lent, asks}
 use Rattle.answers.specs.Answers.{says_ahead}
 use Rattle.answers.proofs.Answering.{no, yes}
-use borrow.Author.Rules.{rules}
 use Rattle.answers.proofs.route_home.Goals as goal
 
 pub returns-then-asked-ne0 : goal.returns-then-asked-ne0

@@ -7,7 +7,6 @@ use Rattle.questions.proofs.Given.{crumbs-given}
 use Rattle.trail.specs.View.{track}
 use Rattle.answers.specs.Answers.{says_back}
 use Rattle.answers.proofs.Answering.{no, yes}
-use borrow.Author.Rules.{rules}
 use Rattle.answers.proofs.way_back.Goals as goal
 
 pub returns-then-asked-ne0 : goal.returns-then-asked-ne0

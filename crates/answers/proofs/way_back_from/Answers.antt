@@ -9,7 +9,6 @@ use Rattle.calls.specs.Ask.{way_back_from}
 use Rattle.calls.specs.Promises.{gives}
 use Rattle.answers.specs.Answers.{says_back}
 use Rattle.answers.proofs.Answering.{back-empty, back-held}
-use borrow.Author.Rules.{rules}
 use Rattle.answers.proofs.way_back_from.Goals as goal
 
 pub returns-in_default : goal.returns-in_default

@@ -1,7 +1,7 @@
 -- `binary32::as_f32` meets its contract: the float of the size, negated where the number is negative.
-use Rattle.std.proofs.Common.{◌≡◌, ℕ, ◌+◌, pos, negsuc, ◌-ℤ◌, ap, ◌∙◌, w64, to_z, of_z, rules}
+use Rattle.std.proofs.Common.{ℕ, ◌+◌, pos, ap, ◌∙◌}
 use lib.Ieee.{binary32, neg, of_int}
-use Rattle.binary32.proofs.Casting.{Plain, Below, plain, turned}
+use Rattle.binary32.proofs.Casting.{plain, turned}
 use Rattle.binary32.proofs.as_f32.Goals as goal
 
 pub overflow_cast-d : goal.overflow_cast-d

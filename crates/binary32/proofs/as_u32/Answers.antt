@@ -1,7 +1,7 @@
 -- `binary32::as_u32` meets its contract. Each way through it is a fact of `proofs/Casting.antt`.
-use Rattle.std.proofs.Common.{◌≡◌, ℕ, ◌^◌, ◌<◌, Bool, true, false, not, T, pos, sym, ap, ◌∙◌, subst}
-use lib.Ieee.{Float, fin, lt, of_bits}
-use Rattle.binary32.proofs.Casting.{bound, Cut, cut, not-above, too_large, no_number}
+use Rattle.std.proofs.Common.{◌≡◌, ℕ, ◌^◌, ◌<◌, Bool, true, false, not, T, sym, ◌∙◌, subst}
+use lib.Ieee.{of_bits}
+use Rattle.binary32.proofs.Casting.{cut, not-above, too_large, no_number}
 use Rattle.binary32.proofs.as_u32.Goals as goal
 
 yes : {b : Bool} → b ≡ true → T b

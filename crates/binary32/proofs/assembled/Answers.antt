@@ -1,6 +1,6 @@
 -- `binary32::assembled` meets its contract: what `nearest_root` gives has 24 digits, so that its pattern stands for that many times 2 ^ j
 -- smallest values, which is where the root is rounded to.
-use Rattle.std.proofs.Common.{◌≡◌, ℕ, ◌+◌, ◌*◌, ◌^◌, ◌<◌, ◌≤◌, sym, ap, ◌∙◌, arith, rules}
+use Rattle.std.proofs.Common.{◌+◌, ◌*◌, sym, ◌∙◌, arith}
 use lib.Ieee.{binary32}
 use Rattle.binary32.proofs.Rounded.{rounded}
 use Rattle.binary32.proofs.Ranges.{at_least, at_most}

@@ -1,14 +1,13 @@
 -- A point between two places of at most 2 ^ k in size, a + t * (b - a) with t from 0 to 1, is at most 2 ^ k in size again, each of the
 -- three operations rounding once. For binary32. Rounding b - a can carry a + t * (b - a) past 2 ^ k by half the distance to the next value
 -- at most, and that rounds back to 2 ^ k. Assumes nothing.
-use Rattle.std.proofs.Common.{◌≡◌, ℕ, zero, suc, ◌+◌, ◌-◌, ◌*◌, ◌^◌, ◌<◌, ◌≤◌, Bool, true, false, cond, not, ◌&&◌, T, ltb, ◌⊎◌, ℤ, pos, negsuc, sym, refl, ap, ◌∙◌, subst, inl, inr, le_trans, le_of_eq, le_refl, mul-le-mul_right, mul_assoc, mul_comm, add_comm, mul-pos, zero-mul, mul-one, mul_right_comm, mul_left_comm, arith, ltb→lt, nltb→le, pow_pos, pow-add}
-use native.Mathlib.Nat.{mul-mul-mul_comm}
+use Rattle.std.proofs.Common.{◌≡◌, ℕ, suc, ◌+◌, ◌-◌, ◌*◌, ◌^◌, ◌<◌, ◌≤◌, Bool, true, false, cond, not, ◌&&◌, T, ltb, ◌⊎◌, ℤ, pos, sym, refl, ap, ◌∙◌, subst, inl, inr, le_trans, le_of_eq, add_comm, mul-pos, zero-mul, arith, nltb→le, pow_pos}
 use native.Mathlib.Nat.{pow-succ'}
 use mathlib.Core.Bool.{beq}
-use lib.Ieee.{Float, nan, inf, fin, Format, binary32, low, up, down, unlike, round, fits, neg, sum, add, sub, mul}
-use lib.Ieee.Fits.{up_pos, down_pos, sub-fits}
+use lib.Ieee.{Float, nan, inf, fin, binary32, up, down, unlike, round, fits, neg, sum, add, sub, mul}
+use lib.Ieee.Fits.{down_pos, sub-fits}
 use lib.Ieee.Exact.{HasValue}
-use lib.Ieee.Scale.{grid, overflow, finite, round_under}
+use lib.Ieee.Scale.{grid, finite}
 use Rattle.binary32.specs.Limits.{plus_zero}
 use Rattle.binary32.proofs.magnitude.Size.{Within, Share, pow}
 use Rattle.binary32.proofs.magnitude.Round.{round-value, round-held, grid-le, Held, held, units-held, within-of-values}

@@ -1,15 +1,15 @@
 -- What each operation does to a bound on its operands' sizes. Each law over closed bounds has one test, which computes: `tt` under
 -- `unfolding add` (or `mul`, `div`, `of_int`). Assumes nothing.
-use Rattle.std.proofs.Common.{◌≡◌, ℕ, zero, suc, ◌+◌, ◌-◌, ◌*◌, ◌^◌, ◌<◌, ◌≤◌, Bool, true, false, cond, not, ◌&&◌, T, ltb, leb, ℤ, pos, negsuc, nat_abs, sym, refl, ap, ◌∙◌, subst, le_trans, le_of_eq, le_refl, add-le-add, mul-le-mul_right, zero-lt-suc, mul_assoc, mul_comm, add-mul, mul-le-mul, mul-pos, one-mul, zero-mul, mul-one, mul_left_comm, arith, le→leb, leb→le}
+use Rattle.std.proofs.Common.{◌≡◌, ℕ, suc, ◌+◌, ◌-◌, ◌*◌, ◌<◌, ◌≤◌, Bool, true, false, cond, ◌&&◌, T, ltb, ℤ, pos, negsuc, nat_abs, sym, subst, le_trans, le_of_eq, le_refl, add-le-add, mul-le-mul_right, zero-lt-suc, mul_assoc, mul_comm, add-mul, mul-le-mul, mul-pos, mul_left_comm, arith, leb→le}
 use native.Mathlib.Nat.{mul-mul-mul_comm}
 use mathlib.Core.Bool.{beq}
-use lib.Ieee.{Float, nan, inf, fin, Format, up, down, unlike, round, fits, neg, sum, add, sub, mul, of_int}
+use lib.Ieee.{Float, nan, inf, fin, Format, up, down, unlike, round, neg, sum, add, sub, mul, of_int}
 use lib.Ieee.Fits.{down_pos}
 use lib.Ieee.Scale.{finite}
 use lib.Ieee.Positive.{through}
 use Rattle.binary32.specs.Limits.{size_of}
 use Rattle.binary32.proofs.magnitude.Size.{Within, within}
-use Rattle.binary32.proofs.magnitude.Round.{round-within, round-held}
+use Rattle.binary32.proofs.magnitude.Round.{round-within}
 
 -- a parameter's fit, as a function's proof has it: `passed c.good.0.1` for the first parameter, `passed c.good.1.0.1` for the
 -- second

@@ -1,9 +1,9 @@
 -- More bounds: a quotient, a difference whose second part is known from both sides, one more step along a line, and a tolerance that is
 -- doubled without end. Assumes nothing.
-use Rattle.std.proofs.Common.{◌≡◌, ℕ, zero, suc, ◌+◌, ◌-◌, ◌*◌, ◌^◌, ◌<◌, ◌≤◌, Bool, true, false, cond, not, ◌&&◌, ◌||◌, T, eqb, ltb, leb, ℤ, pos, negsuc, sym, refl, ap, ◌∙◌, subst, le_trans, le_of_eq, le_refl, lt_of_lt_of_le, mul-le-mul_right, zero-lt-suc, mul_assoc, suc-mul, mul_comm, add-mul, mul-le-mul, pos_of_ne-zero, mul-pos, one-mul, zero-mul, mul-one, mul_right_comm, not-le_of_lt, mul_left_comm, arith, eqb→eq, ltb→lt, lt→ltb, pow_pos}
-use native.Mathlib.Nat.{mul-mul-mul_comm, mul-sub}
+use Rattle.std.proofs.Common.{◌≡◌, ℕ, suc, ◌+◌, ◌-◌, ◌*◌, ◌^◌, ◌<◌, ◌≤◌, Bool, true, false, cond, ◌&&◌, T, eqb, ltb, ℤ, pos, sym, ap, ◌∙◌, subst, le_trans, le_of_eq, lt_of_lt_of_le, mul-le-mul_right, zero-lt-suc, mul_assoc, suc-mul, mul_comm, add-mul, mul-le-mul, pos_of_ne-zero, mul-pos, one-mul, zero-mul, mul-one, mul_left_comm, arith, eqb→eq, ltb→lt}
+use native.Mathlib.Nat.{mul-sub}
 use mathlib.Core.Bool.{beq}
-use lib.Ieee.{Float, nan, inf, fin, Format, binary32, prec, low, emax, up, down, unlike, odd, units, round, neg, sum, add, sub, mul, div}
+use lib.Ieee.{Float, nan, inf, fin, Format, prec, low, up, down, unlike, odd, units, round, neg, sum, add, sub, mul, div}
 use lib.Ieee.{le, lt, eq}
 use lib.Ieee.Fits.{up_pos, down_pos, round_is}
 use lib.Ieee.Exact.{odd_sign}

@@ -1,12 +1,12 @@
 -- A root is at most g where its operand is at most g * g, for a whole number g that the format holds, and it is 0 or more. Assumes nothing.
-use Rattle.std.proofs.Common.{◌≡◌, ℕ, zero, suc, ◌+◌, ◌*◌, ◌^◌, ◌<◌, ◌≤◌, Bool, true, false, T, leb, ◌⊎◌, ℤ, pos, negsuc, sym, refl, ap, ◌∙◌, subst, inl, inr, le_trans, le_of_eq, le_refl, le_of_lt, mul-le-mul_right, zero-lt-suc, mul_assoc, mul_comm, eq-or-lt_of_le, mul-pos, one-mul, zero-mul, mul-one, mul_left_comm, arith, leb→le, pow_pos}
-use lib.Ieee.{Float, nan, inf, fin, Format, low, up, down, round, fits}
+use Rattle.std.proofs.Common.{◌≡◌, ℕ, zero, suc, ◌*◌, ◌^◌, ◌≤◌, true, false, T, pos, sym, refl, ap, ◌∙◌, inl, inr, le_trans, le_of_eq, le_of_lt, mul-le-mul_right, zero-lt-suc, mul_assoc, mul_comm, eq-or-lt_of_le, mul-pos, zero-mul, mul-one, mul_left_comm, arith, pow_pos}
+use lib.Ieee.{Float, nan, inf, fin, Format, low, up, down}
 use lib.Ieee.Fits.{down_pos}
 use lib.Ieee.Scale.{finite}
 use Rattle.binary32.specs.Root.{root, root_of, halves}
 use Rattle.binary32.proofs.Sides.{halves-below, halves-exact}
-use Rattle.binary32.proofs.magnitude.Size.{Within, NonNeg, pow}
-use Rattle.binary32.proofs.magnitude.Round.{round-held, Held, held}
+use Rattle.binary32.proofs.magnitude.Size.{Within, NonNeg}
+use Rattle.binary32.proofs.magnitude.Round.{round-held, Held}
 use Rattle.binary32.proofs.magnitude.Signs.{round-nonneg}
 
 halves-le : (n h : ℕ) → n ≤ h * h → halves n ≤ 2 * h

@@ -1,6 +1,6 @@
 -- `round` and the order: a smaller fraction rounds to a value that is no larger in size, whatever the signs, and a value that the format
 -- holds is its own rounding. Assumes nothing.
-use Rattle.std.proofs.Common.{◌≡◌, ℕ, zero, suc, ◌+◌, ◌-◌, ◌*◌, ◌%◌, ◌^◌, ◌<◌, ◌≤◌, Bool, true, false, cond, ◌&&◌, ◌||◌, T, eqb, ltb, leb, ◌⊎◌, ℤ, pos, negsuc, sym, refl, ap, ◌∙◌, subst, inl, inr, true≢false, le_trans, le_of_eq, le_refl, lt_of_lt_of_le, le_of_suc-le-suc, lt_of_le_of_lt, le_of_lt, mul-le-mul_right, zero-lt-suc, mul_assoc, mul_comm, mul-lt-mul_of_pos_right, mul-pos, one-mul, lt_of_not-le, zero-mul, mul-one, mul_right_comm, not-le_of_lt, le-mul_of_pos_right, le_of_mul-le-mul_right, mul_left_comm, arith, eqb→eq, ltb→lt, leb→le, pow_pos, pow_mono, pow-add}
+use Rattle.std.proofs.Common.{◌≡◌, ℕ, zero, suc, ◌+◌, ◌-◌, ◌*◌, ◌%◌, ◌^◌, ◌<◌, ◌≤◌, Bool, true, false, cond, ◌&&◌, ◌||◌, T, eqb, ltb, leb, ◌⊎◌, ℤ, pos, negsuc, sym, refl, ap, ◌∙◌, subst, inl, inr, true≢false, le_trans, le_of_eq, lt_of_lt_of_le, le_of_suc-le-suc, lt_of_le_of_lt, le_of_lt, mul-le-mul_right, zero-lt-suc, mul_assoc, mul_comm, mul-lt-mul_of_pos_right, mul-pos, lt_of_not-le, zero-mul, mul-one, mul_right_comm, not-le_of_lt, le-mul_of_pos_right, le_of_mul-le-mul_right, eqb→eq, ltb→lt, leb→le, pow_pos, pow-add}
 use native.Mathlib.Nat.{eq_of_mul-eq-mul_right}
 use lib.Pow.{pow-lt}
 use lib.Ieee.{Float, nan, inf, fin, Format, prec, emax, low, up, down, odd, units, round, fits, le}
@@ -8,8 +8,7 @@ use lib.Ieee.Digits.{back}
 use lib.Ieee.Fits.{up_pos, down_pos, and_l, and_r, round_is}
 use lib.Ieee.Exact.{HasValue, units_val, round_exact}
 use lib.Ieee.Order.{drop, kept, transfer, round_mono}
-use lib.Ieee.Scale.{grid, overflow, finite, round_val, round_under}
-use lib.Ieee.Positive.{num, den, den_pos}
+use lib.Ieee.Scale.{grid, overflow, finite, round_under}
 use Rattle.binary32.proofs.magnitude.Size.{Within}
 
 -- ---- the rounded value, whatever the sign

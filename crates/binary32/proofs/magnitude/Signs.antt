@@ -1,12 +1,12 @@
 -- Results that are 0 or more: a sum, a product, a square, and a point between two numbers of which neither is negative.
 -- Assumes nothing.
-use Rattle.std.proofs.Common.{◌≡◌, ℕ, zero, suc, ◌+◌, ◌-◌, ◌*◌, ◌^◌, ◌<◌, ◌≤◌, Bool, true, false, cond, not, ◌&&◌, ◌||◌, T, eqb, ltb, leb, ◌⊎◌, ℤ, pos, negsuc, sym, refl, ap, ◌∙◌, subst, inl, inr, le_trans, le_of_eq, le_refl, lt_irrefl, mul-le-mul_right, zero-lt-suc, mul_comm, mul-pos, one-mul, mul-zero, zero-mul, mul-one, arith, ltb→lt, nltb→le, pow_pos}
+use Rattle.std.proofs.Common.{◌≡◌, ℕ, zero, suc, ◌+◌, ◌-◌, ◌*◌, ◌^◌, ◌<◌, ◌≤◌, Bool, true, false, cond, not, ◌&&◌, T, ltb, ◌⊎◌, ℤ, pos, sym, refl, ap, ◌∙◌, subst, inl, inr, le_trans, le_of_eq, zero-lt-suc, mul_comm, mul-pos, zero-mul, arith, ltb→lt, pow_pos}
 use native.Mathlib.Nat.{eq_of_mul-eq-mul_right}
 use mathlib.Core.Bool.{beq}
 use lib.Ieee.{Float, nan, inf, fin, Format, binary32, low, up, down, unlike, round, fits, sum, add, sub, mul}
 use lib.Ieee.Fits.{up_pos, down_pos, and_l, sub-fits}
 use lib.Ieee.Exact.{HasValue}
-use lib.Ieee.Scale.{grid, overflow, finite, round_under, round_same}
+use lib.Ieee.Scale.{grid, finite, round_under}
 use Rattle.binary32.specs.Limits.{plus_zero}
 use Rattle.binary32.proofs.magnitude.Size.{Within, NonNeg, Share, pow}
 use Rattle.binary32.proofs.magnitude.Round.{round-value, round-held, held, value-of-within}

@@ -1,5 +1,5 @@
 -- How large a float may be. Definitions only.
-use Rattle.std.proofs.Common.{◌≡◌, ℕ, ◌*◌, ◌≤◌, Bool, true, false, cond, leb, ℤ, pos, negsuc}
+use Rattle.std.proofs.Common.{◌≡◌, ℕ, ◌*◌, ◌≤◌, Bool, true, false, leb, pos, negsuc}
 use lib.Ieee.{Float, nan, inf, fin, up, down}
 
 -- `Within b x`: b and x are finite, and x is no larger than b in size. Their signs do not count

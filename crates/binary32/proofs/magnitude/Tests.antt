@@ -1,9 +1,7 @@
 -- `Within` and the comparisons that a program makes. Assumes nothing.
-use Rattle.std.proofs.Common.{◌≡◌, ℕ, zero, suc, ◌+◌, ◌*◌, ◌^◌, ◌<◌, ◌≤◌, Bool, true, false, not, ◌&&◌, ◌||◌, T, eqb, ltb, leb, ◌⊎◌, ℤ, pos, negsuc, sym, refl, ap, ◌∙◌, subst, inl, inr, le_trans, le_of_eq, le_refl, le_of_lt, zero-lt-suc, eq-zero-or-pos, eq-or-lt_of_le, mul-pos, one-mul, zero-mul, mul-one, arith, eqb→eq, ltb→lt, lt→ltb, leb→le, nltb→le}
-use mathlib.Core.Bool.{beq}
-use lib.Dec.{eqb_refl}
-use lib.Ieee.{Float, nan, inf, fin, up, down, neg, lt, eq, le, below, level, Format, mul, round, units, odd, prec, low, unlike}
-use lib.Ieee.Fits.{up_pos, down_pos, and_l, and_r, eq→eqb}
+use Rattle.std.proofs.Common.{◌≡◌, ℕ, zero, suc, ◌+◌, ◌*◌, ◌<◌, ◌≤◌, Bool, true, false, not, ◌&&◌, ◌||◌, T, eqb, ltb, ℤ, sym, refl, ap, ◌∙◌, subst, inl, inr, le_trans, le_of_eq, le_of_lt, zero-lt-suc, eq-zero-or-pos, eq-or-lt_of_le, mul-pos, zero-mul, arith, eqb→eq, ltb→lt, lt→ltb, nltb→le}
+use lib.Ieee.{Float, nan, inf, fin, up, down, lt, eq, le, below, level}
+use lib.Ieee.Fits.{up_pos, and_l, eq→eqb}
 use lib.Ieee.Scale.{finite}
 use Rattle.binary32.specs.Limits.{size_of, plus_zero}
 use Rattle.binary32.proofs.magnitude.Size.{Within, NonNeg}

@@ -1,11 +1,11 @@
 -- binary32 in whole units of its smallest value, 2 ^ -149: what a sum of two values is in units, and how far the rounding of a number of
 -- units can move it. Assumes nothing.
-use Rattle.std.proofs.Common.{◌≡◌, ℕ, zero, suc, ◌+◌, ◌-◌, ◌*◌, ◌/◌, ◌%◌, ◌^◌, ◌<◌, ◌≤◌, Bool, true, false, cond, not, ◌&&◌, T, ltb, leb, ◌⊎◌, ℤ, pos, negsuc, sym, refl, ap, ◌∙◌, subst, ap₂, inl, inr, le_trans, le_of_eq, le_refl, lt_of_lt_of_le, lt_of_le_of_lt, le_of_lt, mul-le-mul_right, mul_assoc, mul_comm, add-mul, lt_of_mul-lt-mul_right, eq-or-lt_of_le, mul-lt-mul_of_pos_right, mul-pos, one-mul, div-add-mod', mul-one, mul_right_comm, le_of_mul-le-mul_right, mul-div_cancel, mul_left_comm, arith, lit<, lit≤, eqb→eq, ltb→lt, lt→ltb, leb→le, pow_pos, pow_mono, pow-add}
+use Rattle.std.proofs.Common.{◌≡◌, ℕ, suc, ◌+◌, ◌-◌, ◌*◌, ◌/◌, ◌%◌, ◌^◌, ◌<◌, ◌≤◌, Bool, true, false, cond, not, ◌&&◌, T, ltb, sym, refl, ap, ◌∙◌, subst, ap₂, inl, inr, le_trans, le_of_eq, lt_of_lt_of_le, lt_of_le_of_lt, le_of_lt, mul-le-mul_right, mul_assoc, mul_comm, add-mul, lt_of_mul-lt-mul_right, eq-or-lt_of_le, mul-lt-mul_of_pos_right, mul-pos, one-mul, div-add-mod', mul_right_comm, mul-div_cancel, arith, lit≤, eqb→eq, ltb→lt, lt→ltb, pow_pos, pow_mono, pow-add}
 use Prim.Native.Nat.{compare, Ordering}
 use native.Mathlib.Nat.{pow-succ', mul-sub}
 use mathlib.Core.Bool.{beq}
 use lib.Dec.{is_le, compare_is_eq, nleb→lt}
-use lib.Ieee.{Float, nan, inf, fin, Format, binary32, prec, low, up, down, size, span, climb, nearest, round, sum, add}
+use lib.Ieee.{Float, nan, inf, fin, Format, binary32, up, down, size, nearest, round, sum, add}
 use lib.Ieee.Digits.{size-le}
 use lib.Ieee.Fits.{down_pos, nearest-le}
 use lib.Ieee.Nearest.{closest, closest_same}

@@ -1,6 +1,5 @@
 -- `binary32::nearest_root` meets its contract: the guess is returned only where it is the nearest whole number.
-use Rattle.std.proofs.Common.{◌≡◌, ℕ, ◌*◌, ◌%◌, ◌^◌, ◌<◌, ◌≤◌, T, sym, subst, lt_of_le_of_lt, mul-le-mul, arith, lit<, rules}
-use lib.Ieee.{Float, nan, inf, fin, is_nan, eq}
+use Rattle.std.proofs.Common.{ℕ, ◌*◌, ◌%◌, ◌^◌, ◌<◌, ◌≤◌, T, sym, subst, lt_of_le_of_lt, mul-le-mul, arith, lit<}
 use Rattle.binary32.proofs.Casting.{a-number}
 use Rattle.binary32.proofs.nearest_root.Goals as goal
 

@@ -1,5 +1,5 @@
 -- `binary32::normalized` is defined: the pattern is below the infinity's, so no NaN's.
-use Rattle.std.proofs.Common.{ℕ, ◌+◌, ◌*◌, ◌%◌, ◌<◌, Bool, not, T, ltb, sym, subst, arith, ltb→lt, rules}
+use Rattle.std.proofs.Common.{ℕ, ◌+◌, ◌*◌, ◌%◌, ◌<◌, Bool, not, T, ltb, sym, subst, arith, ltb→lt}
 use lib.Dec.{not_T}
 use lib.Ieee.{binary64, nan_bits}
 use lib.Ieee.Bits.{nan_bits_above}

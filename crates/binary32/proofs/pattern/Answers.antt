@@ -1,5 +1,5 @@
 -- `binary32::pattern` meets its contract.
-use Rattle.std.proofs.Common.{◌≡◌, Bool, not, T, sym, refl, subst}
+use Rattle.std.proofs.Common.{Bool, not, T, sym, refl, subst}
 use Rattle.binary32.proofs.Casting.{a-number, nan_pattern}
 use Rattle.binary32.proofs.pattern.Goals as goal
 

@@ -1,4 +1,4 @@
-use Rattle.std.proofs.Common.{◌+◌, ◌*◌, ◌≤◌, arith, rules}
+use Rattle.std.proofs.Common.{◌+◌, ◌*◌, ◌≤◌, arith}
 use Rattle.binary32.proofs.Sides.{square-next}
 use Rattle.binary32.proofs.Ranges.{root-pos}
 use Rattle.binary32.proofs.searched.Goals as goal

@@ -1,8 +1,7 @@
 -- `binary32::sqrtf` meets its contract. Each way through it is a fact of `proofs/Cases.antt`.
-use Rattle.std.proofs.Common.{◌≡◌, ℕ, T, sym, ap, ◌∙◌, subst}
-use lib.Ieee.{Float, binary32, fits, of_bits}
+use Rattle.std.proofs.Common.{T, sym, ap, ◌∙◌, subst}
+use lib.Ieee.{binary32, fits}
 use lib.Ieee.Bits.{of_bits-to_bits}
-use lib.Ieee.Positive.{above}
 use Rattle.binary32.specs.Root.{root}
 use Rattle.binary32.proofs.Cases.{none, above_zero, above_no_nan, zero-root, no-root, top-root, bits_pos}
 use Rattle.binary32.proofs.sqrtf.Goals as goal

@@ -1,6 +1,6 @@
 -- `binary32::subnormal` meets its contract. The invariant: n * 4 ^ j stays m * 2 ^ 149, and n is a multiple of 2 ^ 25 below 2 ^ 48. The
 -- measure is j.
-use Rattle.std.proofs.Common.{◌≡◌, ℕ, ◌+◌, ◌-◌, ◌*◌, ◌%◌, ◌^◌, ◌<◌, ◌≤◌, T, pos, sym, ap, ◌∙◌, mul_assoc, mul-one, arith, le→leb}
+use Rattle.std.proofs.Common.{ℕ, ◌*◌, ◌^◌, ◌≤◌, T, pos, sym, ap, ◌∙◌, mul_assoc, mul-one, arith, le→leb}
 use lib.Ieee.{binary32, binary64, of_bits, in_float}
 use Rattle.binary32.proofs.Patterns.{low_value}
 use Rattle.binary32.proofs.Values.{root-at, quarter, j_pos}

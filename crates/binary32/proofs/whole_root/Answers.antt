@@ -1,6 +1,6 @@
 -- `binary32::whole_root` meets its contract. The invariant: the root lies from lo up to hi, and hi is at most 2 ^ 24. The measure is the
 -- width of that range.
-use Rattle.std.proofs.Common.{◌≡◌, ℕ, ◌+◌, ◌-◌, ◌*◌, ◌/◌, ◌^◌, ◌<◌, ◌≤◌, subst, mul-le-mul, arith}
+use Rattle.std.proofs.Common.{◌≡◌, ℕ, ◌+◌, ◌*◌, ◌/◌, ◌^◌, ◌<◌, ◌≤◌, subst, mul-le-mul, arith}
 use Rattle.binary32.proofs.whole_root.Goals as goal
 
 small : (m : ℕ) → m ≤ 2 ^ 24 → m * m ≤ 2 ^ 48

@@ -1,6 +1,6 @@
 -- `binary32::whole_root` meets its contract. The invariant: the root lies from lo up to hi, and hi is at most 2 ^ 24. The measure is the
 -- width of that range.
-use Rattle.std.proofs.Common.{◌≡◌, ℕ, ◌+◌, ◌-◌, ◌*◌, ◌/◌, ◌^◌, ◌<◌, ◌≤◌, subst, mul-le-mul, arith}
+use Rattle.std.proofs.Common.{◌-◌, ◌*◌, ◌^◌, ◌<◌, ◌≤◌}
 use Rattle.binary32.proofs.whole_root.Given as goal
 
 abbrev pub invariant-loop-lo : goal.invariant-loop-lo

@@ -1,5 +1,4 @@
 -- `course::located` meets its contract: only the first fix changes the frame.
-use borrow.Author.Rules.{rules}
 use Rattle.course.proofs.Fixes.{located-at, located-missing}
 use Rattle.course.proofs.located.Goals as goal
 

@@ -1,7 +1,6 @@
 -- `course::no_origin` meets its contract.
 use mathlib.Core.Path.{sym, ap}
 use Rattle.course.specs.Course.{no_origin}
-use borrow.Author.Rules.{rules}
 use Rattle.course.proofs.no_origin.Goals as goal
 
 pub returns-in-At : goal.returns-in-At

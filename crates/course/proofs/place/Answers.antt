@@ -1,7 +1,6 @@
 -- `course::place` meets its contract: all points, or none.
 use mathlib.Core.Path.{sym, ◌∙◌}
 use native.Mathlib.Omega.{arith}
-use borrow.Author.Rules.{rules}
 use Rattle.course.specs.Course.{fixes}
 use Rattle.course.proofs.Placing.{places-few, places-unplaced, places-all}
 use Rattle.course.proofs.place.Goals as goal

@@ -4,7 +4,7 @@ use borrow.Author.Rules.{rules}
 use lib.IntN.{pos}
 use lib.ListN.{get_or}
 use Rattle.course.proofs.Fixes.{framed-handed}
-use Rattle.course.proofs.Placing.{Placing, placing-start, placing-on, placing-end}
+use Rattle.course.proofs.Placing.{placing-start, placing-on, placing-end}
 use Rattle.course.proofs.place_all.Goals as goal
 
 pub loop-k-init : goal.loop-k-init

@@ -1,10 +1,6 @@
 -- `course::place_all` places every point, the last first.
 use Prim.Native.Nat.{◌-◌}
-use borrow.Author.Rules.{rules}
-use lib.IntN.{pos}
-use lib.ListN.{get_or}
-use Rattle.course.proofs.Fixes.{framed-handed}
-use Rattle.course.proofs.Placing.{Placing, placing-start, placing-on, placing-end}
+use Rattle.course.proofs.Placing.{Placing}
 use Rattle.course.proofs.place_all.Given as goal
 
 abbrev pub invariant-loop-k : goal.invariant-loop-k

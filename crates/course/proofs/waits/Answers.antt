@@ -1,7 +1,6 @@
 -- `course::waits` meets its contract.
 use mathlib.Core.Path.{sym, ◌∙◌}
 use native.Mathlib.Omega.{arith}
-use borrow.Author.Rules.{rules}
 use Rattle.course.specs.Course.{fixes}
 use Rattle.course.proofs.Placing.{waits-few, waits-more}
 use Rattle.course.proofs.waits.Goals as goal

@@ -4,7 +4,6 @@ use native.Mathlib.Omega.{arith}
 use lib.Seq.{length-take-le}
 use Rattle.crumbs.specs.Crumb.{in_front}
 use Rattle.crumbs.proofs.Crumbs.{front-whole, front-empty}
-use borrow.Author.Rules.{rules}
 use Rattle.crumbs.proofs.front.Goals as goal
 
 pub returns-then-capacity-len : goal.returns-then-capacity-len

@@ -1,7 +1,6 @@
 -- `crumbs::line_at` reads the crumb's numbers.
 use mathlib.Core.Path.{refl}
 use Rattle.crumbs.specs.Crumb.{crumb_at}
-use borrow.Author.Rules.{rules}
 use Rattle.crumbs.proofs.line_at.Goals as goal
 
 pub returns : goal.returns

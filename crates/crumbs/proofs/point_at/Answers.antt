@@ -1,7 +1,6 @@
 -- `crumbs::point_at` gives the place of the crumb that it reads.
 use mathlib.Core.Path.{ap, ◌∙◌}
 use Rattle.crumbs.specs.Crumb.{point}
-use borrow.Author.Rules.{rules}
 use Rattle.crumbs.proofs.point_at.Goals as goal
 
 pub returns : goal.returns

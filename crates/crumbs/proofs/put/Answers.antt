@@ -3,7 +3,6 @@ use mathlib.Core.Path.{refl}
 use native.Mathlib.Omega.{arith}
 use lib.ListN.{length-set}
 use Rattle.crumbs.specs.Inner.{put_at}
-use borrow.Author.Rules.{rules}
 use Rattle.crumbs.proofs.put.Goals as goal
 
 pub bounds-buf-at-2 : goal.bounds-buf-at-2

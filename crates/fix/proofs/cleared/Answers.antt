@@ -1,5 +1,5 @@
 -- `fix::cleared` meets its contract.
-use mathlib.Core.Path.{◌≡◌, refl}
+use mathlib.Core.Path.{refl}
 use Rattle.calls.specs.Fix.{unfixed, cleared}
 use Rattle.fix.proofs.cleared.Goals as goal
 

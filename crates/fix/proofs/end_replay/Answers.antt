@@ -1,5 +1,5 @@
 -- `fix::end_replay` meets its contract.
-use mathlib.Core.Path.{◌≡◌, refl}
+use mathlib.Core.Path.{refl}
 use Rattle.calls.specs.Fix.{unheaded, end_replay}
 use Rattle.fix.proofs.end_replay.Goals as goal
 

@@ -1,8 +1,5 @@
 -- `fix::is_at` meets its contract.
-use mathlib.Core.Path.{◌≡◌, sym, ap}
-use Rattle.plane.specs.declared.Spot.{Spot}
 use Rattle.calls.specs.Fix.{is_at}
-use borrow.Author.Rules.{rules}
 use Rattle.fix.proofs.is_at.Goals as goal
 
 pub returns-in-At : goal.returns-in-At

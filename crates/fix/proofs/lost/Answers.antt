@@ -1,11 +1,10 @@
 -- `fix::lost` meets its contract.
-use mathlib.Core.Path.{◌≡◌, refl, sym, ap, ◌∙◌}
+use mathlib.Core.Path.{sym, ap, ◌∙◌}
 use Prim.Native.Nat.{ℕ}
 use mathlib.Core.Bool.{Bool, ◌&&◌}
 use lib.Dec.{ltb}
 use Rattle.motion.specs.Heading.{elapsed}
 use Rattle.calls.specs.Fix.{fix_lost_ms}
-use borrow.Author.Rules.{rules}
 use Rattle.fix.proofs.lost.Goals as goal
 
 pub returns-then-is_at : goal.returns-then-is_at

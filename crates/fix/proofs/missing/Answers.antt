@@ -1,7 +1,6 @@
 -- `fix::missing` meets its contract.
-use mathlib.Core.Path.{◌≡◌, sym, ◌∙◌}
+use mathlib.Core.Path.{sym, ◌∙◌}
 use Rattle.fix.proofs.Arriving.{misses, waits}
-use borrow.Author.Rules.{rules}
 use Rattle.fix.proofs.missing.Goals as goal
 
 pub returns-then-lost : goal.returns-then-lost

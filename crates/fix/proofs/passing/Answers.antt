@@ -2,7 +2,6 @@
 use mathlib.Core.Path.{ap}
 use Rattle.lap.specs.declared.Lap.{Lap}
 use Rattle.fix.specs.Pass.{passing}
-use borrow.Author.Rules.{rules}
 use Rattle.fix.proofs.passing.Goals as goal
 
 abbrev passed_over : Lap → Lap → Lap

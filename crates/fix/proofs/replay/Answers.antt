@@ -4,7 +4,6 @@ use lib.ListN.{length}
 use Rattle.trail.specs.View as trail
 use Rattle.fix.specs.declared.Ridden.{Ridden}
 use Rattle.fix.proofs.Arriving.{handed-fix, replays-whole}
-use borrow.Author.Rules.{rules, length_unmapped}
 use Rattle.fix.proofs.replay.Goals as goal
 
 pub replay_parts-after-requires : goal.replay_parts-after-requires

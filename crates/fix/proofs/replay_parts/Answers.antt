@@ -3,7 +3,6 @@ use mathlib.Core.Path.{ap, ◌∙◌}
 use Rattle.course.specs.Fix.{Fix, located, framed}
 use Rattle.fix.specs.Ridden.{ridden}
 use Rattle.fix.proofs.Arriving.{handed-fix, replays-parts}
-use borrow.Author.Rules.{rules}
 use Rattle.fix.proofs.replay_parts.Goals as goal
 
 pub returns : goal.returns

@@ -3,7 +3,6 @@ use Rattle.trail.specs.Trail as trail
 use Rattle.state.specs.Guided.{whole}
 use Rattle.follow.specs.Record.{add_in}
 use Rattle.follow.proofs.Recording.{taken-over}
-use borrow.Author.Rules.{rules}
 use Rattle.follow.proofs.add.Goals as goal
 
 pub returns : goal.returns

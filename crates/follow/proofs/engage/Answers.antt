@@ -1,8 +1,7 @@
 -- `follow::engage` meets its contract.
-use mathlib.Core.Path.{◌≡◌, sym, ap, ◌∙◌}
+use mathlib.Core.Path.{sym, ◌∙◌}
 use Prim.Native.Nat.{◌≤◌}
 use native.Mathlib.Omega.{arith}
-use borrow.Author.Rules.{rules}
 use Rattle.state.specs.Guided.{whole}
 use Rattle.follow.specs.View.{course_of}
 use Rattle.follow.proofs.Engaging.{leads-some, engaged, refused}

@@ -1,7 +1,6 @@
 -- `follow::engage_at` meets its contract.
-use mathlib.Core.Path.{◌≡◌, refl, sym, ap, ◌∙◌}
+use mathlib.Core.Path.{refl}
 use Rattle.follow.specs.Engage.{engage_at}
-use borrow.Author.Rules.{rules}
 use Rattle.follow.proofs.engage_at.Goals as goal
 
 pub returns : goal.returns

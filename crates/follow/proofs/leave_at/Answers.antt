@@ -1,13 +1,11 @@
 -- `follow::leave_at` meets its contract.
-use mathlib.Core.Path.{◌≡◌, refl, sym, ap, ◌∙◌, subst}
-use Prim.Native.Nat.{ℕ}
+use mathlib.Core.Path.{sym, subst}
 use Rattle.plane.specs.declared.Spot.{Spot}
 use Rattle.trail.specs.View.{track}
 use Rattle.state.specs.Guided.{whole}
 use Rattle.follow.specs.Engage.{leave_at}
 use Rattle.follow.specs.View.{Follows}
 use Rattle.follow.proofs.Recording.{left_at, cut-state, left-nowhere}
-use borrow.Author.Rules.{rules}
 use Rattle.follow.proofs.leave_at.Goals as goal
 
 pub returns-in_default : goal.returns-in_default

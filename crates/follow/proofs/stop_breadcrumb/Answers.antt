@@ -1,12 +1,11 @@
 -- `follow::stop_breadcrumb` meets its contract.
-use mathlib.Core.Path.{◌≡◌, refl, sym, ap, ◌∙◌, subst}
+use mathlib.Core.Path.{refl, ap}
 use Rattle.trail.specs.View.{track, places}
 use Rattle.state.specs.declared.Follow.{Follow}
 use Rattle.state.specs.State.{state_of, with_track, with_follow}
 use Rattle.state.specs.Guided.{whole}
 use Rattle.follow.specs.Engage.{forgotten}
 use Rattle.follow.proofs.Recording.{stops_at}
-use borrow.Author.Rules.{rules}
 use Rattle.follow.proofs.stop_breadcrumb.Goals as goal
 
 pub returns : goal.returns

@@ -1,7 +1,6 @@
 -- `follow::stop_course` meets its contract.
-use mathlib.Core.Path.{◌≡◌, refl, sym, ap, ◌∙◌}
+use mathlib.Core.Path.{refl}
 use Rattle.follow.specs.Engage.{stop_course}
-use borrow.Author.Rules.{rules}
 use Rattle.follow.proofs.stop_course.Goals as goal
 
 pub returns : goal.returns

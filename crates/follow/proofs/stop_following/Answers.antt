@@ -1,11 +1,10 @@
 -- `follow::stop_following` meets its contract.
-use mathlib.Core.Path.{◌≡◌, refl, sym, ap, ◌∙◌, subst}
+use mathlib.Core.Path.{refl}
 use Rattle.state.specs.declared.Line.TheVariants as line
 use Rattle.state.specs.Rule.{done}
 use Rattle.state.specs.Guided.{whole}
 use Rattle.follow.specs.Engage.{stop_nothing, stop_course, stop_breadcrumb, stop_on}
 use Rattle.follow.proofs.Recording.{unmoved, stops-on}
-use borrow.Author.Rules.{rules}
 use Rattle.follow.proofs.stop_following.Goals as goal
 
 pub stop_breadcrumb-requires : goal.stop_breadcrumb-requires

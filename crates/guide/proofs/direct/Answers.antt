@@ -3,7 +3,6 @@ use mathlib.Core.Path.{◌∙◌}
 use lib.Ieee.{of_bits}
 use Rattle.crumbs.specs.Crumb.{crumbs}
 use Rattle.guide.proofs.Showing.{straight}
-use borrow.Author.Rules.{rules}
 use Rattle.guide.proofs.direct.Goals as goal
 
 pub returns : goal.returns

@@ -2,7 +2,6 @@
 use mathlib.Core.Path.{refl}
 use Rattle.crumbs.specs.Crumb.{crumbs}
 use Rattle.guide.proofs.Showing.{shows}
-use borrow.Author.Rules.{rules}
 use Rattle.guide.proofs.finished.Goals as goal
 
 pub returns : goal.returns

@@ -1,6 +1,5 @@
 -- `guide::guide_at` meets its contract.
 use Rattle.guide.specs.Guide.{guide_at}
-use borrow.Author.Rules.{rules}
 use Rattle.guide.proofs.guide_at.Goals as goal
 
 pub returns : goal.returns

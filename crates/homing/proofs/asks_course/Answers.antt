@@ -1,11 +1,10 @@
 -- `homing::asks_course` meets its contract.
-use mathlib.Core.Path.{◌≡◌, refl, sym, ap, ◌∙◌, subst}
+use mathlib.Core.Path.{ap, ◌∙◌}
 use Prim.Native.Nat.{ℕ}
 use Rattle.state.specs.State.{state_of}
 use Rattle.calls.specs.Questions.{asks_line}
 use Rattle.calls.specs.Calls.{asks}
 use Rattle.homing.proofs.Calling.{or-this, or-next}
-use borrow.Author.Rules.{rules}
 use Rattle.homing.proofs.asks_course.Goals as goal
 
 pub returns-then-number-ne0 : goal.returns-then-number-ne0

@@ -1,11 +1,10 @@
 -- `homing::asks_replay` meets its contract.
-use mathlib.Core.Path.{◌≡◌, refl, sym, ap, ◌∙◌, subst}
+use mathlib.Core.Path.{ap, ◌∙◌}
 use Rattle.course.specs.Fix.{Fix}
 use Rattle.calls.specs.Questions.{asks_fix}
 use Rattle.calls.specs.Calls.{asks}
 use Rattle.fix.proofs.Arriving.{handed-fix}
 use Rattle.homing.proofs.Calling.{or-this, or-next}
-use borrow.Author.Rules.{rules}
 use Rattle.homing.proofs.asks_replay.Goals as goal
 
 pub returns-then-number-ne0 : goal.returns-then-number-ne0

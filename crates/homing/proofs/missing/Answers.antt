@@ -1,15 +1,12 @@
 -- `homing::missing` meets its contract.
-use mathlib.Core.Path.{◌≡◌, refl, sym, ap, ◌∙◌, subst}
-use lib.ListN.{length}
+use mathlib.Core.Path.{refl, sym, ◌∙◌}
 use Rattle.state.specs.declared.Place.TheVariants as place
-use Rattle.state.specs.State.{state_of}
 use Rattle.calls.specs.Fix.{missing, observe}
 use Rattle.calls.specs.Calls as call
 use Rattle.calls.specs.Calls.{asks, asks_place, performs}
 use Rattle.answers.proofs.Answering.{no, yes}
 use Rattle.homing.specs.Answers.{says_sight}
 use Rattle.homing.proofs.Calling.{or_nothing, refuses, takes}
-use borrow.Author.Rules.{rules}
 use Rattle.homing.proofs.missing.Goals as goal
 
 pub returns-then-number-ne0 : goal.returns-then-number-ne0

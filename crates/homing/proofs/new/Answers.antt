@@ -1,13 +1,11 @@
 -- `homing::new` meets its contract.
-use mathlib.Core.Path.{◌≡◌, refl, sym, ap, ◌∙◌, subst}
+use mathlib.Core.Path.{sym, ap, ◌∙◌, subst}
 use mathlib.Core.Bool.{Bool, true, false}
-use lib.ListN.{length}
 use Rattle.calls.specs.Questions.{question1, unless}
 use Rattle.calls.specs.Promises.{answer}
 use Rattle.homing.specs.declared.Changed.{Changed}
 use Rattle.homing.specs.Answers.{says_reply}
 use Rattle.homing.specs.Promises.{MakesNew}
-use borrow.Author.Rules.{rules}
 use Rattle.homing.proofs.new.Goals as goal
 
 pub returns-then-question1 : goal.returns-then-question1

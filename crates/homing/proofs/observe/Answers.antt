@@ -1,9 +1,8 @@
 -- `homing::observe` meets its contract.
-use mathlib.Core.Path.{◌≡◌, refl, sym, ap, ◌∙◌, subst}
+use mathlib.Core.Path.{sym, ◌∙◌, subst}
 use Rattle.state.specs.declared.Place.{Place}
 use Rattle.homing.specs.Promises.{Observes}
 use Rattle.homing.proofs.Calling.{same_at}
-use borrow.Author.Rules.{rules}
 use Rattle.homing.proofs.observe.Goals as goal
 
 pub returns-in_default : goal.returns-in_default

@@ -1,5 +1,5 @@
 -- `homing::replay` meets its contract.
-use mathlib.Core.Path.{◌≡◌, refl, sym, ap, ◌∙◌, subst}
+use mathlib.Core.Path.{refl, sym, ap, ◌∙◌, subst}
 use lib.ListN.{length}
 use Rattle.crumbs.specs.Crumb.{capacity}
 use Rattle.state.specs.State.{state_of}
@@ -14,7 +14,6 @@ use Rattle.homing.specs.Answers.{says_reply}
 use Rattle.homing.specs.Promises.{Replays}
 use Rattle.fix.proofs.Arriving.{handed-fix}
 use Rattle.homing.proofs.Calling.{refuses, takes-rule}
-use borrow.Author.Rules.{rules}
 use Rattle.homing.proofs.replay.Goals as goal
 
 pub returns-then-number-ne0 : goal.returns-then-number-ne0

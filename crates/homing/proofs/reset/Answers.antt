@@ -1,5 +1,5 @@
 -- `homing::reset` meets its contract.
-use mathlib.Core.Path.{◌≡◌, refl, sym, ap, ◌∙◌, subst}
+use mathlib.Core.Path.{refl, sym, ◌∙◌, subst}
 use Rattle.calls.specs.Calls as call
 use Rattle.calls.specs.Calls.{asks, performs}
 use Rattle.answers.proofs.Answering.{no, yes}
@@ -7,7 +7,6 @@ use Rattle.homing.specs.declared.Changed.{Changed}
 use Rattle.homing.specs.Answers.{says_reply}
 use Rattle.homing.specs.Promises.{DoesReset}
 use Rattle.homing.proofs.Calling.{refuses, takes}
-use borrow.Author.Rules.{rules}
 use Rattle.homing.proofs.reset.Goals as goal
 
 pub returns-then-number-ne0 : goal.returns-then-number-ne0

@@ -1,6 +1,5 @@
 -- `homing::seen` meets its contract.
-use mathlib.Core.Path.{◌≡◌, refl, sym, ap, ◌∙◌, subst}
-use Prim.Native.Nat.{ℕ}
+use mathlib.Core.Path.{sym, ap, ◌∙◌}
 use lib.ListN.{length}
 use Rattle.crumbs.specs.Crumb.{capacity}
 use Rattle.state.specs.declared.Place.{Place}
@@ -14,7 +13,6 @@ use Rattle.answers.proofs.Answering.{no, yes}
 use Rattle.homing.specs.Answers.{says_sight}
 use Rattle.fix.proofs.Arriving.{handed-fix}
 use Rattle.homing.proofs.Calling.{refuses, takes-rule, same_at, ready}
-use borrow.Author.Rules.{rules}
 use Rattle.questions.proofs.Given.{neither}
 use Rattle.homing.proofs.seen.Goals as goal
 

@@ -1,5 +1,5 @@
 -- `homing::set_auto_follow` meets its contract.
-use mathlib.Core.Path.{◌≡◌, refl, sym, ap, ◌∙◌, subst}
+use mathlib.Core.Path.{refl, sym, ◌∙◌, subst}
 use native.Mathlib.Omega.{arith}
 use Rattle.calls.specs.Follow.{set_auto_follow}
 use Rattle.calls.specs.Calls as call
@@ -10,7 +10,6 @@ use Rattle.homing.specs.declared.Changed.{Changed}
 use Rattle.homing.specs.Answers.{says_reply}
 use Rattle.homing.specs.Promises.{SetsAuto}
 use Rattle.homing.proofs.Calling.{refuses, takes-rule}
-use borrow.Author.Rules.{rules}
 use Rattle.homing.proofs.set_auto_follow.Goals as goal
 
 pub returns-then-number-ne0 : goal.returns-then-number-ne0

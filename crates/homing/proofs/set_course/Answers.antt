@@ -1,5 +1,5 @@
 -- `homing::set_course` meets its contract.
-use mathlib.Core.Path.{◌≡◌, refl, sym, ap, ◌∙◌, subst}
+use mathlib.Core.Path.{refl, sym, ◌∙◌, subst}
 use mathlib.Core.List.{[]}
 use Rattle.course.specs.Course.{fixes}
 use Rattle.calls.specs.Calls as call
@@ -10,7 +10,6 @@ use Rattle.homing.specs.declared.Changed.{Changed}
 use Rattle.homing.specs.Answers.{says_reply}
 use Rattle.homing.specs.Promises.{SetsCourse}
 use Rattle.homing.proofs.Calling.{refuses, takes, places-line}
-use borrow.Author.Rules.{rules}
 use Rattle.homing.proofs.set_course.Goals as goal
 
 pub returns-then-number-ne0 : goal.returns-then-number-ne0

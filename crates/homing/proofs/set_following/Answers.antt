@@ -1,5 +1,5 @@
 -- `homing::set_following` meets its contract.
-use mathlib.Core.Path.{◌≡◌, refl, sym, ap, ◌∙◌, subst}
+use mathlib.Core.Path.{refl, sym, ◌∙◌}
 use Rattle.state.specs.State.{state_of}
 use Rattle.calls.specs.Follow.{set_following}
 use Rattle.calls.specs.Calls as call
@@ -8,7 +8,6 @@ use Rattle.questions.proofs.Given.{both-given}
 use Rattle.answers.specs.Answers.{says_verdict}
 use Rattle.answers.proofs.Answering.{no, yes}
 use Rattle.homing.proofs.Calling.{refuses, takes-rule}
-use borrow.Author.Rules.{rules}
 use Rattle.homing.proofs.set_following.Goals as goal
 
 pub returns-then-number-ne0 : goal.returns-then-number-ne0

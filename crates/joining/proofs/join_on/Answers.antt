@@ -1,10 +1,5 @@
 -- `joining::join_on` meets its contract.
-use mathlib.Core.Path.{◌≡◌, refl, sym, ap, ◌∙◌}
-use Prim.Native.Nat.{ℕ}
-use lib.Dec.{leb}
-use Rattle.search.specs.declared.Join.{Join}
 use Rattle.joining.specs.Join.{join_on, joined_to}
-use borrow.Author.Rules.{rules}
 use Rattle.joining.proofs.join_on.Goals as goal
 
 pub returns-in-Segment : goal.returns-in-Segment

@@ -1,7 +1,6 @@
 -- `joining::join_with` meets its contract.
-use mathlib.Core.Path.{◌≡◌, ◌∙◌}
+use mathlib.Core.Path.{◌∙◌}
 use Rattle.joining.proofs.Joins.{unknown, found, none}
-use borrow.Author.Rules.{rules}
 use Rattle.joining.proofs.join_with.Goals as goal
 
 pub returns-in_default : goal.returns-in_default

@@ -6,7 +6,6 @@ use Rattle.search.specs.declared.Join.{Join}
 use Rattle.state.specs.State.{State, with_course, with_auto_follow}
 use Rattle.joining.specs.Join.{join_on, join_with, joining}
 use Rattle.joining.specs.View.{Joins}
-use borrow.Author.Rules.{rules}
 use Rattle.joining.proofs.joining.Goals as goal
 
 pub returns : goal.returns

@@ -11,9 +11,8 @@ use Rattle.joining.specs.Retrace.{rides_back}
 use Rattle.trail.specs.View.{track}
 use Rattle.state.specs.State.{State, with_track}
 use Rattle.state.specs.Rule.{Done}
-use Rattle.joining.specs.Join.{with_retrace, retracing}
+use Rattle.joining.specs.Join.{with_retrace}
 use Rattle.joining.proofs.Counting.{rode-back, rode-on}
-use borrow.Author.Rules.{rules}
 use Rattle.joining.proofs.retracing.Goals as goal
 
 rides : (t : Trail) (b : List Float) (p : Point) {x y : Heading} {yes : Bool} → x ≡ y

@@ -1,6 +1,5 @@
 -- `lap::moving` meets its contract.
 use mathlib.Core.Path.{sym, ap}
-use borrow.Author.Rules.{rules}
 use Rattle.lap.specs.Lap.{moving_at}
 use Rattle.lap.proofs.moving.Goals as goal
 

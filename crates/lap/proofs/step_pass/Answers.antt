@@ -1,5 +1,4 @@
 -- `lap::step_pass` meets its contract.
-use borrow.Author.Rules.{rules}
 use Rattle.lap.proofs.Laps.{unmoved, completed, went_on}
 use Rattle.lap.proofs.step_pass.Goals as goal
 

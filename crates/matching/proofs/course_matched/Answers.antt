@@ -1,6 +1,5 @@
 -- `matching::course_matched` meets its contract.
 use Rattle.matching.specs.Match.{course_matched}
-use borrow.Author.Rules.{rules}
 use Rattle.matching.proofs.course_matched.Goals as goal
 
 pub returns : goal.returns

@@ -1,6 +1,5 @@
 -- `matching::due` meets its contract.
 use Rattle.matching.specs.Match.{due}
-use borrow.Author.Rules.{rules}
 use Rattle.matching.proofs.due.Goals as goal
 
 pub returns-then-on_course : goal.returns-then-on_course

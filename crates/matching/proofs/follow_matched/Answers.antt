@@ -1,6 +1,5 @@
 -- `matching::follow_matched` meets its contract.
 use Rattle.matching.specs.Match.{follow_matched}
-use borrow.Author.Rules.{rules}
 use Rattle.matching.proofs.follow_matched.Goals as goal
 
 pub returns : goal.returns

@@ -1,6 +1,5 @@
 -- `matching::nearer` meets its contract.
 use Rattle.matching.proofs.Nearing.{nearer-none, nearer-other, nearer-own}
-use borrow.Author.Rules.{rules}
 use Rattle.matching.proofs.nearer.Goals as goal
 
 pub returns-in_default : goal.returns-in_default

@@ -1,6 +1,5 @@
 -- `matching::off_event` meets its contract.
 use Rattle.matching.specs.Match.{off_event}
-use borrow.Author.Rules.{rules}
 use Rattle.matching.proofs.off_event.Goals as goal
 
 pub returns-then-is : goal.returns-then-is

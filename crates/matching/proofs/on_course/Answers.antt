@@ -1,7 +1,6 @@
 -- `matching::on_course` meets its contract.
 use mathlib.Core.Path.{sym, ap}
 use Rattle.matching.specs.Match.{on_course}
-use borrow.Author.Rules.{rules}
 use Rattle.matching.proofs.on_course.Goals as goal
 
 pub returns-in-Course : goal.returns-in-Course

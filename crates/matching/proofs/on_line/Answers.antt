@@ -1,7 +1,6 @@
 -- `matching::on_line` meets its contract.
 use mathlib.Core.Path.{sym, ap}
 use Rattle.matching.specs.Match.{on_line}
-use borrow.Author.Rules.{rules}
 use Rattle.matching.proofs.on_line.Goals as goal
 
 pub returns-in-Nothing : goal.returns-in-Nothing

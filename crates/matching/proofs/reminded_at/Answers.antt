@@ -2,7 +2,6 @@
 use mathlib.Core.Path.{sym, ap}
 use Rattle.state.specs.declared.Event.{Event}
 use Rattle.matching.specs.Match.{reminded_at}
-use borrow.Author.Rules.{rules}
 use Rattle.matching.proofs.reminded_at.Goals as goal
 
 pub returns-in-OffTrack : goal.returns-in-OffTrack

@@ -1,6 +1,5 @@
 -- `matching::search_from` meets its contract.
 use native.Mathlib.Omega.{arith}
-use borrow.Author.Rules.{rules}
 use Rattle.matching.proofs.search_from.Goals as goal
 
 pub returns-then-segment-gt-SEARCH_BACK : goal.returns-then-segment-gt-SEARCH_BACK

@@ -1,7 +1,6 @@
 -- `motion::aged` meets its contract: the test is the rule's.
-use mathlib.Core.Path.{◌≡◌, subst}
+use mathlib.Core.Path.{subst}
 use Prim.Native.Nat.{ℕ, ◌<◌, ◌≤◌}
-use borrow.Author.Rules.{rules}
 use borrow.Author.Tests.{lt-ltb, le-ltb}
 use Rattle.motion.specs.Heading.{elapsed, aged}
 use Rattle.motion.proofs.aged.Goals as goal

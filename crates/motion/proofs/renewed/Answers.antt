@@ -1,5 +1,4 @@
 -- `motion::renewed` meets its contract.
-use borrow.Author.Rules.{rules}
 use Rattle.motion.specs.Heading.{renewed}
 use Rattle.motion.proofs.renewed.Goals as goal
 

@@ -1,6 +1,5 @@
 -- `motion::spot_or` meets its contract.
-use mathlib.Core.Path.{◌≡◌, sym, ap}
-use borrow.Author.Rules.{rules}
+use mathlib.Core.Path.{sym, ap}
 use Rattle.plane.specs.declared.Spot.{Spot}
 use Rattle.motion.specs.Heading.{spot_or}
 use Rattle.motion.proofs.spot_or.Goals as goal

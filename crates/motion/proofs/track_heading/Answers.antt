@@ -1,5 +1,4 @@
 -- `motion::track_heading` meets its contract: the test is the rule's.
-use borrow.Author.Rules.{rules}
 use lib.Ieee.{of_bits}
 use Rattle.binary32.specs.Arithmetic.{constant}
 use Rattle.motion.specs.Heading.{heading_step_m, track_heading}

@@ -1,5 +1,5 @@
 -- `plane::bearing` meets its contract: each step is the rule's.
-use Rattle.std.proofs.Common.{ℕ, ◌%◌, ap, ◌∙◌, rules}
+use Rattle.std.proofs.Common.{ℕ, ◌%◌, ap, ◌∙◌}
 use lib.Ieee.{Float, of_bits}
 use Rattle.binary32.specs.Arithmetic.{◌⊗◌, ◌⊘◌, constant}
 use Rattle.binary32.specs.Casts.{as_u32}

@@ -1,5 +1,5 @@
 -- `plane::difference` meets its contract: a difference of two i32 fits an i64.
-use Rattle.std.proofs.Common.{◌≡◌, ℤ, ◌-ℤ◌, sym, ap, ◌∙◌, subst, w64, SFits, to_z, of_z}
+use Rattle.std.proofs.Common.{ℤ, ◌-ℤ◌, sym, ap, ◌∙◌, subst, w64, SFits, to_z, of_z}
 use mir.ValLaws.{to_z-of_z}
 use Rattle.plane.proofs.Signed.{widened, minus_is, minus-size, small-fits}
 use Rattle.plane.proofs.difference.Goals as goal

@@ -1,5 +1,4 @@
 -- `plane::distance` meets its contract: each operation is the rule's.
-use Rattle.std.proofs.Common.{rules}
 use Rattle.plane.specs.Plane.{distance}
 use Rattle.plane.proofs.distance.Goals as goal
 

@@ -1,5 +1,5 @@
 -- `plane::east_per_e7` meets its contract: each operation is the rule's.
-use Rattle.std.proofs.Common.{◌≡◌, ◌^◌, ℤ, ap, ◌∙◌, w32, rules}
+use Rattle.std.proofs.Common.{◌≡◌, ◌^◌, ℤ, ap, ◌∙◌, w32}
 use lib.Ieee.{Float, binary32, of_bits, of_int}
 use mir.ValLaws.{to_z-of_z}
 use Rattle.binary32.specs.Arithmetic.{◌⊗◌, ◌⊘◌, constant}

@@ -1,5 +1,5 @@
 -- `plane::frame` meets its contract: the differences are small enough to be rounded as they stand.
-use Rattle.std.proofs.Common.{◌≡◌, ℕ, ◌-◌, ◌^◌, ◌≤◌, ℤ, ◌-ℤ◌, nat_abs, ap, ◌∙◌, w32, w64, SFits, to_z, of_z}
+use Rattle.std.proofs.Common.{◌≡◌, ◌-◌, ◌^◌, ◌≤◌, ℤ, ◌-ℤ◌, nat_abs, ap, ◌∙◌, w32, w64, SFits, to_z, of_z}
 use lib.Ieee.{Float, binary32, of_bits, of_int}
 use mir.ValLaws.{to_z-of_z}
 use Rattle.binary32.specs.Arithmetic.{constant}

@@ -1,5 +1,4 @@
 -- `plane::metres` meets its contract.
-use Rattle.std.proofs.Common.{rules}
 use lib.Ieee.{of_bits}
 use Rattle.binary32.specs.Arithmetic.{constant}
 use Rattle.plane.specs.Plane.{metres}

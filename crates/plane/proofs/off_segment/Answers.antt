@@ -1,5 +1,5 @@
 -- `plane::off_segment` meets its contract.
-use Rattle.std.proofs.Common.{ap, ◌∙◌, rules}
+use Rattle.std.proofs.Common.{ap, ◌∙◌}
 use Rattle.plane.specs.declared.Projection.{Projection}
 use Rattle.plane.specs.Plane.{distance, off_segment}
 use Rattle.plane.proofs.off_segment.Goals as goal

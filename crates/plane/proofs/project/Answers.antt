@@ -1,5 +1,5 @@
 -- `plane::project` meets its contract: the test is that of `share`.
-use Rattle.std.proofs.Common.{ap, ◌∙◌, rules}
+use Rattle.std.proofs.Common.{ap, ◌∙◌}
 use lib.Ieee.{of_bits}
 use Rattle.plane.specs.Plane.{at_share, project}
 use Rattle.plane.proofs.Segment.{long, short}

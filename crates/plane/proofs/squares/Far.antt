@@ -1,9 +1,9 @@
 -- A square has the distance as its root, is a value of the format and not below zero. Where it is not less than a bar whose root is above
 -- `most`, the distance is not at most `most`. Assumes nothing.
-use Rattle.std.proofs.Common.{◌≡◌, Bool, true, false, T, sym, refl, ap, ◌∙◌, subst, true≢false}
+use Rattle.std.proofs.Common.{◌≡◌, Bool, true, false, T, sym, refl, ◌∙◌, subst, true≢false}
 use lib.Ieee.{Float, binary32, lt, le, fits}
 use lib.Ieee.Fits.{add-fits}
-use Rattle.binary32.specs.Arithmetic.{◌⊕◌, ◌⊖◌, ◌⊗◌}
+use Rattle.binary32.specs.Arithmetic.{◌⊖◌, ◌⊗◌}
 use Rattle.binary32.specs.Root.{root}
 use Rattle.plane.specs.declared.Point.{Point}
 use Rattle.plane.specs.Plane.{distance, project, off_segment}

@@ -2,7 +2,6 @@
 use mathlib.Core.Path.{sym, ◌∙◌}
 use Rattle.calls.specs.Questions.{line_fits}
 use Rattle.questions.proofs.Asking.{both-no, both-line}
-use borrow.Author.Rules.{rules}
 use Rattle.questions.proofs.asks_both.Goals as goal
 
 pub returns-then-asked-ne0 : goal.returns-then-asked-ne0

@@ -1,8 +1,6 @@
 -- `questions::asks_crumbs` meets its contract: question 1 is put before question 10.
-use borrow.Author.Tests.{not-true, not-false}
 use Rattle.calls.specs.Questions.{asks_crumbs}
 use Rattle.questions.proofs.Counted.{held-counted}
-use borrow.Author.Rules.{rules}
 use Rattle.questions.proofs.asks_crumbs.Goals as goal
 
 pub returns-then-not-question1 : goal.returns-then-not-question1

@@ -1,6 +1,5 @@
 -- `questions::asks_line` meets its contract: question 10 is put before question 4.
 use Rattle.calls.specs.Questions.{asks_line, line_fits}
-use borrow.Author.Rules.{rules}
 use Rattle.questions.proofs.asks_line.Goals as goal
 
 pub returns : goal.returns

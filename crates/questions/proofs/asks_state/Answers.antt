@@ -1,6 +1,5 @@
 -- `questions::asks_state` meets its contract: the tests are the rule's.
 use Rattle.calls.specs.Questions.{asks_state}
-use borrow.Author.Rules.{rules}
 use Rattle.questions.proofs.asks_state.Goals as goal
 
 pub returns-then-state_fits : goal.returns-then-state_fits

@@ -1,5 +1,4 @@
 -- `questions::counts_fit` meets its contract: the tests are the rule's.
-use borrow.Author.Rules.{rules}
 use Rattle.questions.proofs.counts_fit.Goals as goal
 
 pub returns : goal.returns

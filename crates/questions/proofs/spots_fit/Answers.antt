@@ -1,5 +1,4 @@
 -- `questions::spots_fit` meets its contract: the tests are the rule's.
-use borrow.Author.Rules.{rules}
 use Rattle.questions.proofs.spots_fit.Goals as goal
 
 pub returns : goal.returns

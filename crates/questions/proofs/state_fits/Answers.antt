@@ -1,7 +1,5 @@
 -- `questions::state_fits` meets its contract: the counts are tested first, and with them the window's.
 use mathlib.Core.Path.{sym, ◌∙◌}
-use borrow.Author.Rules.{rules}
-use borrow.Author.Tests.{not-true, not-false}
 use Rattle.trail.specs.View.{track}
 use Rattle.calls.specs.Questions.{spots_fit, numbers_fit, state_fits}
 use Rattle.questions.proofs.Counted.{counts-counted, window-counted}

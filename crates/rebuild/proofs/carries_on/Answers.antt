@@ -5,7 +5,6 @@ use lib.Dec.{leb}
 use Rattle.ride_log.specs.declared.Utc.{Utc}
 use Rattle.ride_log.specs.declared.Utc.TheVariants as utc
 use Rattle.rebuild.specs.Rebuild.{continue_ms, carries_on}
-use borrow.Author.Rules.{rules}
 use Rattle.rebuild.proofs.carries_on.Goals as goal
 
 pub returns-in_default : goal.returns-in_default

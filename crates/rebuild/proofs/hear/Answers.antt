@@ -2,7 +2,6 @@
 use mathlib.Core.Path.{sym, ◌∙◌}
 use Rattle.fix.proofs.Arriving.{fix_at}
 use Rattle.rebuild.proofs.Visiting.{unlocated, skipped, not-skipped}
-use borrow.Author.Rules.{rules}
 use Rattle.rebuild.proofs.hear.Goals as goal
 
 pub returns-in_default : goal.returns-in_default

@@ -1,7 +1,6 @@
 -- `rebuild::is_decided` meets its contract.
 use mathlib.Core.Path.{sym, ap}
 use Rattle.rebuild.specs.Rebuild.{is_decided}
-use borrow.Author.Rules.{rules}
 use Rattle.rebuild.proofs.is_decided.Goals as goal
 
 pub returns-in-Pending : goal.returns-in-Pending

@@ -1,7 +1,6 @@
 -- `rebuild::replay_heard` meets its contract.
 use Rattle.fix.proofs.Arriving.{fix_at, handed-fix}
 use Rattle.rebuild.proofs.Visiting.{none-replayed, one-replayed}
-use borrow.Author.Rules.{rules}
 use Rattle.rebuild.proofs.replay_heard.Goals as goal
 
 pub returns-in_default : goal.returns-in_default

@@ -2,7 +2,6 @@
 use mathlib.Core.Path.{refl, sym, ◌∙◌}
 use Rattle.rebuild.specs.Rebuild.{settle}
 use Rattle.rebuild.proofs.Making.{decides-live, carried_on, begun-anew}
-use borrow.Author.Rules.{rules}
 use Rattle.rebuild.proofs.settle.Goals as goal
 
 pub returns-then-starts_anew : goal.returns-then-starts_anew

@@ -2,7 +2,6 @@
 use mathlib.Core.Path.{sym, ap}
 use Rattle.rebuild.specs.declared.Stage.{Stage}
 use Rattle.rebuild.specs.Rebuild.{skips}
-use borrow.Author.Rules.{rules}
 use Rattle.rebuild.proofs.skips.Goals as goal
 
 pub returns-in-Pending : goal.returns-in-Pending

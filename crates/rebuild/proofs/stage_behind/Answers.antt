@@ -4,7 +4,6 @@ use mathlib.Core.Bool.{Bool}
 use Rattle.rebuild.specs.declared.Stage.{Stage}
 use Rattle.rebuild.specs.declared.Stage.TheVariants as stage
 use Rattle.rebuild.specs.Inner.{stage_behind}
-use borrow.Author.Rules.{rules}
 use Rattle.rebuild.proofs.stage_behind.Goals as goal
 
 pub returns-in_default : goal.returns-in_default

@@ -4,7 +4,6 @@ use mathlib.Core.Bool.{Bool, not}
 use Rattle.rebuild.specs.declared.Stage.{Stage}
 use Rattle.rebuild.specs.declared.Stage.TheVariants as stage
 use Rattle.rebuild.specs.Inner.{starts_anew}
-use borrow.Author.Rules.{rules}
 use Rattle.rebuild.proofs.starts_anew.Goals as goal
 
 pub returns-in_default : goal.returns-in_default

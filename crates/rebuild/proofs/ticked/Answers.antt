@@ -4,7 +4,6 @@ use Prim.Native.Nat.{ℕ}
 use Rattle.rebuild.specs.declared.Rebuild.{Rebuild}
 use Rattle.rebuild.specs.Rebuild.{ticked}
 use Rattle.rebuild.proofs.Visiting.{clock-stops, clock-goes-on}
-use borrow.Author.Rules.{rules}
 use Rattle.rebuild.proofs.ticked.Goals as goal
 
 pub returns-then-r : goal.returns-then-r

@@ -8,7 +8,6 @@ use Rattle.rebuild.specs.Made.{Made, quiet}
 use Rattle.rebuild.specs.Rebuild.{visit_kind, visit}
 use Rattle.rebuild.specs.View.{Makes}
 use Rattle.rebuild.proofs.Making.{visited, makes-quiet}
-use borrow.Author.Rules.{rules}
 use Rattle.rebuild.proofs.visit.Goals as goal
 
 not-samples : (k : Kind) (e : Entry) (r : Rebuild) → (k ≡ kind.Samples → ⊥) → visit_kind k e r ≡ quiet r

@@ -1,12 +1,11 @@
 -- `rebuild::visit_samples` meets its contract.
 use Prim.Native.Nat.{◌-◌, ◌≤◌}
 use native.Mathlib.Omega.{arith}
-use mathlib.Core.Path.{◌≡◌, sym, ◌∙◌, subst}
-use lib.ListN.{length, length-map}
-use Rattle.fix.specs.Ridden.{ridden}
+use mathlib.Core.Path.{◌≡◌, sym, subst}
+use lib.ListN.{length}
 use Rattle.ride_log.specs.Entry.{used}
 use Rattle.rebuild.specs.Rebuild.{is_later}
-use Rattle.rebuild.proofs.Visiting.{Begins, begins-so, begins-anew, heard, Going, going_start, going_on, going-out}
+use Rattle.rebuild.proofs.Visiting.{Begins, begins-so, begins-anew, heard, going_start, going_on, going-out}
 use Rattle.rebuild.proofs.visit_samples.Goals as goal
 use Rattle.rebuild.proofs.visit_samples.Goals.{then-x, else-x}
 

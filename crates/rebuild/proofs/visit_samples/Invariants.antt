@@ -1,14 +1,9 @@
 -- `rebuild::visit_samples` meets its contract.
-use Prim.Native.Nat.{◌-◌, ◌≤◌}
-use native.Mathlib.Omega.{arith}
-use mathlib.Core.Path.{◌≡◌, sym, ◌∙◌, subst}
-use mathlib.Core.Logic.{inl, inr}
-use lib.ListN.{length, length-map}
+use Prim.Native.Nat.{◌-◌}
+use mathlib.Core.Path.{◌≡◌}
+use lib.ListN.{length}
 use Rattle.fix.specs.Ridden.{ridden}
-use Rattle.ride_log.specs.Entry.{used}
-use Rattle.rebuild.specs.Rebuild.{is_later}
-use Rattle.rebuild.proofs.Visiting.{Begins, begins-so, begins-anew, heard, Going, going_start, going_on, going-out}
-use borrow.Author.Rules.{rules, length_unmapped}
+use Rattle.rebuild.proofs.Visiting.{Going}
 use Rattle.rebuild.proofs.visit_samples.Given as goal
 
 abbrev pub invariant-loop-i : goal.invariant-loop-i

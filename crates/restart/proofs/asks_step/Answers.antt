@@ -1,6 +1,5 @@
 -- `restart::asks_step` meets its contract: the state and the crumb buffer, then the file.
 use Rattle.restart.specs.Promises.{asks_step}
-use borrow.Author.Rules.{rules}
 use Rattle.homing.proofs.Calling.{or-this, or-next}
 use Rattle.restart.proofs.asks_step.Goals as goal
 

@@ -1,6 +1,5 @@
 -- `restart::finished` meets its contract.
 use Rattle.rebuild.specs.Rebuild.{takes_over}
-use borrow.Author.Rules.{rules}
 use Rattle.restart.proofs.finished.Goals as goal
 
 pub returns : goal.returns

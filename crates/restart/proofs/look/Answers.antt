@@ -1,6 +1,5 @@
 -- `restart::look` meets its contract: an entry of the recovered ride or a later one is visited.
 use Rattle.restart.proofs.Stepping.{not-visited, looked}
-use borrow.Author.Rules.{rules}
 use Rattle.restart.proofs.look.Goals as goal
 
 pub returns-then-e-r : goal.returns-then-e-r

@@ -1,7 +1,7 @@
 -- `restart::record_at` meets its contract: the chain is followed to the slot, or to its end.
 use Prim.Native.Nat.{◌-◌}
 use native.Mathlib.Omega.{arith}
-use Rattle.restart.proofs.Slots.{Seeking, seeking-start, seeking-on, seeking-over, seeking-there}
+use Rattle.restart.proofs.Slots.{seeking-start, seeking-on, seeking-over, seeking-there}
 use Rattle.restart.proofs.record_at.Goals as goal
 
 pub next_of-index-requires : goal.next_of-index-requires

@@ -1,6 +1,5 @@
 -- `restart::settle` meets its contract.
 use Rattle.restart.proofs.Calling.{settle-refused, settle-taken}
-use borrow.Author.Rules.{rules}
 use Rattle.restart.proofs.settle.Goals as goal
 
 pub returns-then-number-ne0 : goal.returns-then-number-ne0

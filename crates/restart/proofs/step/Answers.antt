@@ -2,7 +2,6 @@
 use lib.ListN.{length}
 use Rattle.questions.proofs.Given.{crumbs-given}
 use Rattle.restart.proofs.Calling.{step-refused, step-crumbs, step-file, step-taken}
-use borrow.Author.Rules.{rules}
 use Rattle.restart.proofs.step.Goals as goal
 
 pub returns-then-number-ne0 : goal.returns-then-number-ne0

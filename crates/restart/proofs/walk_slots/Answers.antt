@@ -2,8 +2,7 @@
 --
 use Prim.Native.Nat.{◌-◌}
 use native.Mathlib.Omega.{arith}
-use Rattle.rebuild.proofs.Making.{visited}
-use Rattle.restart.proofs.Stepping.{Going, going_start, going-count, going_on, going-past, going-out}
+use Rattle.restart.proofs.Stepping.{going_start, going-count, going_on, going-past, going-out}
 use Rattle.restart.proofs.walk_slots.Goals as goal
 
 pub stop_at-stop-requires : goal.stop_at-stop-requires

@@ -1,9 +1,8 @@
 -- `restart::walk_slots` meets its contract: each slot with a record is looked at, and those behind the chain's end are passed at once.
 --
 use Prim.Native.Nat.{◌-◌}
-use native.Mathlib.Omega.{arith}
 use Rattle.rebuild.proofs.Making.{visited}
-use Rattle.restart.proofs.Stepping.{Going, going_start, going-count, going_on, going-past, going-out}
+use Rattle.restart.proofs.Stepping.{Going}
 use Rattle.restart.proofs.walk_slots.Given as goal
 
 abbrev pub invariant-loop-slot : goal.invariant-loop-slot

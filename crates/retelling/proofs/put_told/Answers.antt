@@ -1,6 +1,5 @@
 -- `retelling::put_told` meets its contract.
 use Rattle.retelling.proofs.Retelling.{tells-rebuilt, tells-refused}
-use borrow.Author.Rules.{rules}
 use Rattle.retelling.proofs.put_told.Goals as goal
 
 pub returns-in-Is : goal.returns-in-Is

@@ -2,7 +2,6 @@
 use mathlib.Core.Path.{◌∙◌, ap}
 use Rattle.rebuild.specs.Rebuild.{new_rebuild}
 use Rattle.retelling.proofs.Retelling.{rebuilds}
-use borrow.Author.Rules.{rules}
 use Rattle.retelling.proofs.rebuild_chain.Goals as goal
 
 pub returns : goal.returns

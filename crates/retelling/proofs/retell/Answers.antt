@@ -1,6 +1,5 @@
 -- `retelling::retell` meets its contract.
 use Rattle.retelling.proofs.Retelling.{retells}
-use borrow.Author.Rules.{rules}
 use Rattle.retelling.proofs.retell.Goals as goal
 
 pub returns : goal.returns

@@ -2,7 +2,6 @@
 use mathlib.Core.Path.{refl, sym}
 use lib.ListN.{get_or-eq_default}
 use Rattle.ride_log.specs.Entry.{byte_at}
-use borrow.Author.Rules.{rules}
 use Rattle.ride_log.proofs.byte_at.Goals as goal
 
 pub returns-then-at-file : goal.returns-then-at-file

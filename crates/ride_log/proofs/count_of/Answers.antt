@@ -1,6 +1,5 @@
 -- `log::count_of` meets its contract.
 use Rattle.ride_log.specs.Entry.{count_of}
-use borrow.Author.Rules.{rules}
 use Rattle.ride_log.proofs.count_of.Goals as goal
 
 pub returns : goal.returns

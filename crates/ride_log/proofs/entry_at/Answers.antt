@@ -1,6 +1,5 @@
 -- `log::entry_at` meets its contract.
 use Rattle.ride_log.specs.Entry.{entry_at}
-use borrow.Author.Rules.{rules}
 use Rattle.ride_log.proofs.entry_at.Goals as goal
 
 pub returns : goal.returns

@@ -3,7 +3,6 @@ use mathlib.Core.Path.{◌∙◌, ap}
 use mir.Syntax.{w32}
 use mir.ValLaws.{to_z-of_z}
 use Rattle.ride_log.specs.Entry.{signed, i32_at}
-use borrow.Author.Rules.{rules}
 use Rattle.ride_log.proofs.i32_at.Goals as goal
 
 pub returns : goal.returns

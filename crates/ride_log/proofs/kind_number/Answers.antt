@@ -1,6 +1,5 @@
 -- `log::kind_number` meets its contract.
 use Rattle.ride_log.specs.Entry.{kind_number}
-use borrow.Author.Rules.{rules}
 use Rattle.ride_log.proofs.kind_number.Goals as goal
 
 pub returns : goal.returns

@@ -1,6 +1,5 @@
 -- `log::next_of` meets its contract.
 use Rattle.ride_log.specs.Entry.{next_of}
-use borrow.Author.Rules.{rules}
 use Rattle.ride_log.proofs.next_of.Goals as goal
 
 pub returns : goal.returns

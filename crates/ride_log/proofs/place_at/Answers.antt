@@ -3,7 +3,6 @@ use mathlib.Core.Path.{◌∙◌}
 use mir.Syntax.{w32}
 use mir.ValLaws.{to_z-of_z}
 use Rattle.ride_log.proofs.Samples.{place-there, place-missing}
-use borrow.Author.Rules.{rules}
 use Rattle.ride_log.proofs.place_at.Goals as goal
 
 pub returns-then-byte_at-eq1 : goal.returns-then-byte_at-eq1

@@ -1,6 +1,5 @@
 -- `log::place_of` meets its contract: the place stands where the sample begins.
 use Rattle.ride_log.specs.Entry.{sample_at}
-use borrow.Author.Rules.{rules}
 use Rattle.ride_log.proofs.place_of.Goals as goal
 
 pub returns : goal.returns

@@ -1,6 +1,5 @@
 -- `log::recovered` meets its contract.
 use Rattle.ride_log.specs.Entry.{recovered}
-use borrow.Author.Rules.{rules}
 use Rattle.ride_log.proofs.recovered.Goals as goal
 
 pub returns : goal.returns

@@ -1,6 +1,5 @@
 -- `log::ride_of` meets its contract.
 use Rattle.ride_log.specs.Entry.{ride_of}
-use borrow.Author.Rules.{rules}
 use Rattle.ride_log.proofs.ride_of.Goals as goal
 
 pub returns : goal.returns

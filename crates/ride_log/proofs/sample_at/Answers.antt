@@ -1,6 +1,5 @@
 -- `log::sample_at` meets its contract.
 use Rattle.ride_log.specs.Entry.{sample_at}
-use borrow.Author.Rules.{rules}
 use Rattle.ride_log.proofs.sample_at.Goals as goal
 
 pub returns : goal.returns

@@ -1,7 +1,6 @@
 -- `log::sample_of` meets its contract: samples past the count are not read.
 use Rattle.ride_log.specs.Entry.{no_sample}
 use Rattle.ride_log.proofs.Samples.{sample-used, sample-unused}
-use borrow.Author.Rules.{rules}
 use Rattle.ride_log.proofs.sample_of.Goals as goal
 
 pub returns-then-k-count_of : goal.returns-then-k-count_of

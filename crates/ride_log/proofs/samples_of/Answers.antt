@@ -1,6 +1,5 @@
 -- `log::samples_of` meets its contract.
 use Rattle.ride_log.specs.Entry.{samples_of}
-use borrow.Author.Rules.{rules}
 use Rattle.ride_log.proofs.samples_of.Goals as goal
 
 pub returns : goal.returns

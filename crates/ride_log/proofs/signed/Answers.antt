@@ -1,6 +1,5 @@
 -- `log::signed` meets its contract.
 use Rattle.ride_log.proofs.Numbers.{signed_low, signed-fits, signed_high}
-use borrow.Author.Rules.{rules}
 use Rattle.ride_log.proofs.signed.Goals as goal
 
 pub returns-then-n-lt2147483648 : goal.returns-then-n-lt2147483648

@@ -1,6 +1,5 @@
 -- `log::u32_at` meets its contract: the bytes are those of the file, 0 behind its end.
 use Rattle.ride_log.specs.Entry.{byte_at, u32_at}
-use borrow.Author.Rules.{rules}
 use Rattle.ride_log.proofs.u32_at.Goals as goal
 
 pub returns-then-at-file : goal.returns-then-at-file

@@ -1,6 +1,5 @@
 -- `log::u64_at` meets its contract.
 use Rattle.ride_log.specs.Entry.{u64_at}
-use borrow.Author.Rules.{rules}
 use Rattle.ride_log.proofs.u64_at.Goals as goal
 
 pub returns : goal.returns

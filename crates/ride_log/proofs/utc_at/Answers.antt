@@ -1,6 +1,5 @@
 -- `log::utc_at` meets its contract: the flags say whether the time is there.
 use Rattle.ride_log.proofs.Samples.{utc-there, utc-unknown}
-use borrow.Author.Rules.{rules}
 use Rattle.ride_log.proofs.utc_at.Goals as goal
 
 pub returns-then-byte_at-eq1 : goal.returns-then-byte_at-eq1

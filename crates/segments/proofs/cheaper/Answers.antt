@@ -1,5 +1,4 @@
 -- `segments::cheaper` meets its contract: the test is the rule's.
-use borrow.Author.Rules.{rules}
 use Rattle.segments.specs.Segment.{cheaper}
 use Rattle.segments.proofs.cheaper.Goals as goal
 

@@ -1,5 +1,4 @@
 -- `segments::consider` meets its contract: a segment is considered as the rule has it.
-use borrow.Author.Rules.{rules}
 use Rattle.segments.proofs.Considering.{ends-before, begins-past, lies_in}
 use Rattle.segments.proofs.consider.Goals as goal
 

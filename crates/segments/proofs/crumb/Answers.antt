@@ -1,6 +1,5 @@
 -- `segments::crumb` meets its contract: the crumb read is the line's.
 use mathlib.Core.Path.{sym, ◌∙◌}
-use borrow.Author.Rules.{rules}
 use Rattle.segments.proofs.Line.{at_held}
 use Rattle.segments.proofs.crumb.Goals as goal
 

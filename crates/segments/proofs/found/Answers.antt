@@ -1,5 +1,4 @@
 -- `segments::found` meets its contract: the cost is left out.
-use borrow.Author.Rules.{rules}
 use Rattle.segments.specs.Segment.{found}
 use Rattle.segments.proofs.found.Goals as goal
 

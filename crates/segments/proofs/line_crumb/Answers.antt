@@ -1,6 +1,5 @@
 -- `segments::line_crumb` meets its contract: the crumb read is the line's.
 use mathlib.Core.Path.{sym, ◌∙◌}
-use borrow.Author.Rules.{rules}
 use Rattle.segments.proofs.Line.{at_held}
 use Rattle.segments.proofs.line_crumb.Goals as goal
 

@@ -1,5 +1,4 @@
 -- `segments::may_cost` meets its contract: a segment without a cost changes nothing.
-use borrow.Author.Rules.{rules}
 use Rattle.segments.proofs.Ranging.{flop}
 use Rattle.segments.proofs.Considering.{ends-before, begins-past, lies-far}
 use Rattle.segments.proofs.may_cost.Goals as goal

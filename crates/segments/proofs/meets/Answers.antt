@@ -1,5 +1,4 @@
 -- `segments::meets` meets its contract: each operation is the rule's.
-use borrow.Author.Rules.{rules}
 use Rattle.plane.specs.Plane.{between}
 use Rattle.segments.specs.Segment.{meets}
 use Rattle.segments.proofs.meets.Goals as goal

@@ -1,5 +1,4 @@
 -- `segments::nearest_on_line` meets its contract: the crumbs read are the line's.
-use borrow.Author.Rules.{rules}
 use Rattle.segments.specs.Segment.{nearest_on}
 use Rattle.segments.proofs.nearest_on_line.Goals as goal
 

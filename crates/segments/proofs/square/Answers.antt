@@ -1,5 +1,4 @@
 -- `segments::square` meets its contract.
-use borrow.Author.Rules.{rules}
 use Rattle.segments.proofs.square.Goals as goal
 
 pub returns : goal.returns

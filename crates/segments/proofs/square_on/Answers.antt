@@ -1,5 +1,4 @@
 -- `segments::square_on` meets its contract.
-use borrow.Author.Rules.{rules}
 use Rattle.segments.specs.Square.{square_on}
 use Rattle.segments.proofs.square_on.Goals as goal
 

@@ -1,5 +1,4 @@
 -- `segments::too_far` meets its contract: what its square says is further off than 25 m has no cost.
-use borrow.Author.Rules.{rules}
 use Rattle.segments.proofs.Ranging.{not-told, far-on, far-ahead}
 use Rattle.segments.proofs.too_far.Goals as goal
 

@@ -1,6 +1,5 @@
 -- `steer::awaiting` meets its contract.
 use Rattle.calls.specs.Line.{awaiting}
-use borrow.Author.Rules.{rules}
 use Rattle.steer.proofs.awaiting.Goals as goal
 
 pub returns : goal.returns

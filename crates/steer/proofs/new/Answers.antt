@@ -5,7 +5,6 @@ use Rattle.binary32.specs.Arithmetic.{constant}
 use Rattle.plane.specs.Fix.{m_per_e7}
 use Rattle.trail.specs.View.{empty_window}
 use Rattle.calls.specs.Line.{new}
-use borrow.Author.Rules.{rules}
 use Rattle.steer.proofs.new.Goals as goal
 
 pub returns : goal.returns

@@ -5,7 +5,6 @@ use Rattle.follow.specs.Parts.{stopped, held_off}
 use Rattle.follow.specs.Engage.{stop_course}
 use Rattle.calls.specs.Line.{off_course}
 use Rattle.steer.proofs.Setting.{off-by}
-use borrow.Author.Rules.{rules}
 use Rattle.steer.proofs.off_course.Goals as goal
 
 pub returns-in-Course : goal.returns-in-Course

@@ -1,7 +1,6 @@
 -- `steer::reset` meets its contract.
 use Rattle.calls.specs.Fix.{unheaded}
 use Rattle.calls.specs.Line.{reset}
-use borrow.Author.Rules.{rules}
 use Rattle.steer.proofs.reset.Goals as goal
 
 pub returns : goal.returns

@@ -2,7 +2,6 @@
 use mathlib.Core.Path.{refl}
 use Rattle.course.specs.Course.{fixes}
 use Rattle.steer.proofs.Setting.{course-set}
-use borrow.Author.Rules.{rules}
 use Rattle.steer.proofs.set_course.Goals as goal
 
 pub returns : goal.returns

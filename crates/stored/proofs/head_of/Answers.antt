@@ -1,6 +1,5 @@
 -- `stored::head_of` meets its contract.
 use Rattle.stored.specs.Stored.{head_of}
-use borrow.Author.Rules.{rules}
 use Rattle.stored.proofs.head_of.Goals as goal
 
 pub returns : goal.returns

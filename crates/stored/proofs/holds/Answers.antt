@@ -1,8 +1,6 @@
 -- `stored::holds` meets its contract.
-use borrow.Author.Tests.{not-true, not-false}
 use Rattle.stored.proofs.Holding.{outside, inside, in-room}
 use mathlib.Core.Path.{sym, ◌∙◌}
-use borrow.Author.Rules.{rules}
 use Rattle.stored.proofs.holds.Goals as goal
 
 pub returns-then-not-within : goal.returns-then-not-within

@@ -1,7 +1,6 @@
 -- `stored::homing_at` meets its contract.
 use native.Mathlib.Omega.{arith}
 use Rattle.stored.specs.Stored.{homing_at}
-use borrow.Author.Rules.{rules}
 use Rattle.stored.proofs.homing_at.Goals as goal
 
 pub trail_at-requires : goal.trail_at-requires

@@ -1,7 +1,6 @@
 -- `stored::load` meets its contract.
 use Rattle.stored.proofs.Holding.{loads-there, loads-nothing, loads-room}
 use mathlib.Core.Path.{sym, ◌∙◌}
-use borrow.Author.Rules.{rules}
 use Rattle.stored.proofs.load.Goals as goal
 
 pub homing_at-requires : goal.homing_at-requires

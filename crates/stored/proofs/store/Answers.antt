@@ -1,6 +1,5 @@
 -- `stored::store` meets its contract.
 use Rattle.stored.proofs.Storing.{stores}
-use borrow.Author.Rules.{rules}
 use Rattle.stored.proofs.store.Goals as goal
 
 pub returns : goal.returns

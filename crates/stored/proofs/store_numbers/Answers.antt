@@ -1,5 +1,5 @@
 -- `stored::store_numbers` meets its contract: the window, then the numbers before it.
-use mathlib.Core.Path.{◌≡◌, sym}
+use mathlib.Core.Path.{◌≡◌}
 use native.Mathlib.Omega.{arith}
 use lib.ListN.{length}
 use Rattle.stored.proofs.Storing.{numbers-front}

@@ -2,7 +2,6 @@
 use Rattle.stored.proofs.Storing.{first-front, length-first, words-front}
 use Rattle.stored.proofs.Placing.{words-fit}
 use native.Mathlib.Omega.{arith}
-use borrow.Author.Rules.{rules}
 use Rattle.stored.proofs.store_words.Goals as goal
 
 pub put_words-requires-2 : goal.put_words-requires-2

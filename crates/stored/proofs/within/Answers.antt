@@ -1,12 +1,9 @@
 -- `stored::within` meets its contract.
 use native.Mathlib.Omega.{arith}
 use Rattle.stored.proofs.fields.Limits.{within-short, within-over, within_on, within_end}
-use Rattle.stored.specs.Fields.{within}
 use Rattle.stored.specs.Stored.{mosts}
-use Prim.Native.Nat.{◌-◌, ◌≤◌}
-use mathlib.Core.Path.{◌≡◌, refl, sym, ◌∙◌}
-use lib.ListN.{length, drop}
-use borrow.Author.Rules.{rules}
+use Prim.Native.Nat.{◌-◌}
+use mathlib.Core.Path.{refl, sym, ◌∙◌}
 use Rattle.stored.proofs.within.Goals as goal
 
 pub returns-then-words-lt-WORDS : goal.returns-then-words-lt-WORDS

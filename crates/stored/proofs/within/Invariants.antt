@@ -1,12 +1,9 @@
 -- `stored::within` meets its contract.
-use native.Mathlib.Omega.{arith}
-use Rattle.stored.proofs.fields.Limits.{within-short, within-over, within_on, within_end}
 use Rattle.stored.specs.Fields.{within}
 use Rattle.stored.specs.Stored.{mosts}
 use Prim.Native.Nat.{◌-◌, ◌≤◌}
-use mathlib.Core.Path.{◌≡◌, refl, sym, ◌∙◌}
+use mathlib.Core.Path.{◌≡◌}
 use lib.ListN.{length, drop}
-use borrow.Author.Rules.{rules}
 use Rattle.stored.proofs.within.Given as goal
 
 abbrev pub invariant-loop-i : goal.invariant-loop-i

@@ -1,5 +1,4 @@
 -- `thin::found` meets its contract.
-use borrow.Author.Rules.{rules}
 use Rattle.thin.proofs.found.Goals as goal
 
 pub returns : goal.returns

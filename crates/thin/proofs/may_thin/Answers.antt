@@ -1,6 +1,5 @@
 -- `thin::may_thin` is question 9.
-use borrow.Author.Rules.{rules}
-use borrow.Author.Tests.{le-leb, lt-leb, not-true, not-false}
+use borrow.Author.Tests.{le-leb, lt-leb}
 use lib.Ieee.{of_bits}
 use Rattle.thin.specs.Questions.{question9}
 use Rattle.thin.proofs.may_thin.Goals as goal

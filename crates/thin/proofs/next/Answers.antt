@@ -4,7 +4,6 @@ use native.Mathlib.Omega.{arith}
 use Prim.Native.Nat.{◌+◌}
 use Rattle.thin.specs.Inner.{step_by}
 use Rattle.thin.proofs.Passing.{step-halving}
-use borrow.Author.Rules.{rules}
 use Rattle.thin.proofs.next.Goals as goal
 
 pub returns-then-halve : goal.returns-then-halve

@@ -1,8 +1,7 @@
 -- `thin::over` meets its contract.
-use mathlib.Core.Path.{◌≡◌, refl, sym, subst}
+use mathlib.Core.Path.{sym, subst}
 use lib.Dec.{T}
-use lib.Ieee.{Float, nan, binary32, fits, div, of_bits}
-use borrow.Author.Rules.{rules}
+use lib.Ieee.{binary32, fits}
 use Rattle.thin.proofs.Bounding.{over-found, over_none}
 use Rattle.binary32.proofs.Cases.{none}
 use Rattle.thin.proofs.over.Goals as goal

@@ -2,7 +2,7 @@
 use Prim.Native.Nat.{◌-◌}
 use mathlib.Core.Path.{◌≡◌, ◌∙◌}
 use native.Mathlib.Omega.{arith}
-use Rattle.thin.proofs.Passing.{Kept, passed-few, kept-along, kept-end, kept_put, next-on, next-inside, next_last}
+use Rattle.thin.proofs.Passing.{passed-few, kept-along, kept-end, kept_put, next-on, next-inside, next_last}
 use Rattle.thin.proofs.pass.Goals as goal
 
 pub returns-then-len-le2 : goal.returns-then-len-le2

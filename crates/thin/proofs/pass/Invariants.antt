@@ -1,8 +1,6 @@
 -- `thin::pass` is the rule's pass, compacted in place.
 use Prim.Native.Nat.{◌-◌}
-use mathlib.Core.Path.{◌≡◌, ◌∙◌}
-use native.Mathlib.Omega.{arith}
-use Rattle.thin.proofs.Passing.{Kept, passed-few, kept-along, kept-end, kept_put, next-on, next-inside, next_last}
+use Rattle.thin.proofs.Passing.{Kept}
 use Rattle.thin.proofs.pass.Given as goal
 
 abbrev pub invariant-loop-anchor : goal.invariant-loop-anchor

@@ -2,8 +2,7 @@
 use Prim.Native.Nat.{◌-◌, ◌<◌}
 use mathlib.Core.Path.{refl}
 use native.Mathlib.Omega.{arith}
-use borrow.Author.Rules.{rules}
-use Rattle.thin.proofs.Reaching.{Between, Ends, ends-start, ends-out, ends_on, ends-stray, between-on}
+use Rattle.thin.proofs.Reaching.{ends-start, ends-out, ends_on, ends-stray, between-on}
 use Rattle.thin.proofs.Rowing.{between-near}
 use Rattle.thin.proofs.Bounding.{stays, leaves}
 use Rattle.thin.proofs.reach.Goals as goal

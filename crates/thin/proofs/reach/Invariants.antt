@@ -1,13 +1,6 @@
 -- `thin::reach` is the rule's reach.
-use Prim.Native.Nat.{◌-◌, ◌<◌}
-use mathlib.Core.Logic.{⊎_elim}
-use mathlib.Core.Path.{refl}
-use native.Mathlib.Omega.{arith}
-use borrow.Author.Rules.{rules}
-use borrow.Author.Tests.{leb-true, leb-false}
-use Rattle.thin.proofs.Reaching.{Between, Ends, ends-start, ends-out, ends_on, ends-stray, between-on}
-use Rattle.thin.proofs.Rowing.{between-near}
-use Rattle.thin.proofs.Bounding.{stays, leaves}
+use Prim.Native.Nat.{◌-◌}
+use Rattle.thin.proofs.Reaching.{Between, Ends}
 use Rattle.thin.proofs.reach.Given as goal
 
 abbrev pub invariant-loop-j : goal.invariant-loop-j

@@ -1,6 +1,5 @@
 -- `thin::start` begins behind crumbs from which the rule's step is one.
 use native.Mathlib.Omega.{arith}
-use borrow.Author.Rules.{rules}
 use Rattle.thin.proofs.Rowing.{one_by_one}
 use Rattle.thin.proofs.start.Goals as goal
 

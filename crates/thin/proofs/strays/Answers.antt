@@ -1,6 +1,5 @@
 -- `thin::strays` meets its contract.
 use mathlib.Core.Path.{refl}
-use borrow.Author.Rules.{rules}
 use Rattle.thin.proofs.Bounding.{surely-in, surely-out, by-root}
 use Rattle.thin.proofs.strays.Goals as goal
 

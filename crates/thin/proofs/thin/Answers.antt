@@ -1,13 +1,10 @@
 -- `thin::thin` answers and leaves what the rule says.
-use Prim.Native.Nat.{◌-◌}
 use mathlib.Core.Path.{sym, ap, ◌∙◌}
 use native.Mathlib.Omega.{arith}
-use borrow.Author.Rules.{rules}
-use borrow.Author.Tests.{not-true, not-false}
 use lib.Ieee.{of_bits}
 use Rattle.binary32.specs.Arithmetic.{constant}
 use Rattle.thin.specs.Crumb.{doubled, target}
-use Rattle.thin.proofs.Thinning.{Going, going_start, room, still-size, not_last, going_on, thin-done, thin-refused}
+use Rattle.thin.proofs.Thinning.{going_start, room, still-size, not_last, going_on, thin-done, thin-refused}
 use Rattle.thin.proofs.thin.Goals as goal
 
 pub returns-then-not-may_thin : goal.returns-then-not-may_thin

@@ -4,7 +4,6 @@ use lib.Ieee.{of_bits, round}
 use Rattle.binary32.specs.Arithmetic.{constant}
 use Rattle.trail.specs.Trail.{min_step_m}
 use Rattle.trail.proofs.Recording.{adds-first, adds-near, adds-far}
-use borrow.Author.Rules.{rules}
 use Rattle.trail.proofs.add.Goals as goal
 
 pub returns-then-t-eq0 : goal.returns-then-t-eq0

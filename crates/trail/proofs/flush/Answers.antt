@@ -1,7 +1,6 @@
 -- `trail::flush` keeps the last place that waits, and empties the window.
 use native.Mathlib.Omega.{arith}
 use Rattle.trail.proofs.Recording.{flushes-none, flushes}
-use borrow.Author.Rules.{rules}
 use Rattle.trail.proofs.flush.Goals as goal
 
 pub returns-then-n-eq0 : goal.returns-then-n-eq0

@@ -2,7 +2,6 @@
 use mathlib.Core.Path.{sym, ◌∙◌}
 use mathlib.Core.List.{[]}
 use Rattle.trail.proofs.Recording.{room-behind, keeps-full, keeps-room}
-use borrow.Author.Rules.{rules}
 use Rattle.trail.proofs.keep.Goals as goal
 
 pub put-requires : goal.put-requires

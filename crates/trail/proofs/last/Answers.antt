@@ -1,7 +1,6 @@
 -- `trail::last` is the last place that waits, or the anchor.
 use native.Mathlib.Omega.{arith}
 use Rattle.trail.proofs.Window.{last-places, none-places}
-use borrow.Author.Rules.{rules}
 use Rattle.trail.proofs.last.Goals as goal
 
 pub returns-then-window_len-eq0 : goal.returns-then-window_len-eq0

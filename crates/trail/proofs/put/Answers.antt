@@ -1,6 +1,5 @@
 -- `trail::put` puts a crumb behind those held.
 use Rattle.trail.proofs.Tracks.{puts}
-use borrow.Author.Rules.{rules}
 use Rattle.trail.proofs.put.Goals as goal
 
 pub returns : goal.returns

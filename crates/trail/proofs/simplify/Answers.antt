@@ -3,7 +3,6 @@ use native.Mathlib.Omega.{arith}
 use Rattle.std.proofs.lemmas.Bool.{eq-eqb, ne_eqb}
 use Rattle.trail.specs.Trail.{window_places}
 use Rattle.trail.proofs.Recording.{room-to-wait, strayed, filled, straight, simplifies-bends, simplifies-straight}
-use borrow.Author.Rules.{rules}
 use Rattle.trail.proofs.simplify.Goals as goal
 use Rattle.trail.proofs.simplify.Goals.{then-strays-via-then-strays, then-strays-via-else-strays+then-t-eq-WINDOW}
 

@@ -1,14 +1,9 @@
 -- `trail::strays` looks at each place that waits: none before the present one strays.
 use Prim.Native.Nat.{◌-◌, ◌≤◌}
-use mathlib.Core.Path.{◌≡◌, sym}
-use mathlib.Core.Bool.{true, false}
-use lib.Ieee.{lt}
-use Rattle.plane.specs.Plane.{off_segment}
-use native.Mathlib.Omega.{arith}
-use borrow.Author.Rules.{rules}
+use mathlib.Core.Path.{◌≡◌}
+use mathlib.Core.Bool.{false}
 use Rattle.trail.specs.Trail.{strays}
-use Rattle.trail.specs.View.{waiting_at, places}
-use Rattle.trail.proofs.Window.{strays-none, strays-next, strays-found}
+use Rattle.trail.specs.View.{places}
 use Rattle.trail.proofs.strays.Given as goal
 
 abbrev pub invariant-loop-i : goal.invariant-loop-i

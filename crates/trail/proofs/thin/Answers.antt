@@ -1,6 +1,5 @@
 -- `trail::thin` thins, and recomputes along: the call of `thin::thin` is never refused.
 use Rattle.trail.proofs.Tracks.{taken, room-left, thins}
-use borrow.Author.Rules.{rules}
 use Rattle.trail.proofs.thin.Goals as goal
 
 pub returns-in_default : goal.returns-in_default

@@ -1,6 +1,5 @@
 -- `trail::wait` puts the place behind the others.
 use Rattle.trail.proofs.Tracks.{waits}
-use borrow.Author.Rules.{rules}
 use Rattle.trail.proofs.wait.Goals as goal
 
 pub returns : goal.returns

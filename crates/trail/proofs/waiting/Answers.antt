@@ -1,7 +1,6 @@
 -- `trail::waiting` reads the place's two numbers.
 use mathlib.Core.Path.{refl}
 use Rattle.trail.specs.View.{waiting_at}
-use borrow.Author.Rules.{rules}
 use Rattle.trail.proofs.waiting.Goals as goal
 
 pub returns : goal.returns

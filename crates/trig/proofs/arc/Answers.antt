@@ -1,5 +1,4 @@
 -- `trig::arc` meets its contract: it composes what its callees promise.
-use borrow.Author.Rules.{rules}
 use Rattle.trig.specs.Fix.{arc}
 use Rattle.trig.proofs.arc.Goals as goal
 

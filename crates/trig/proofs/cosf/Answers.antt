@@ -1,5 +1,4 @@
 -- `trig::cosf` meets its contract: each answer by the test that led there.
-use borrow.Author.Rules.{rules}
 use Rattle.trig.specs.Fix.{cos}
 use Rattle.trig.proofs.Constants.{half_pi-is, quarter_pi-is}
 use Rattle.trig.proofs.cosf.Goals as goal

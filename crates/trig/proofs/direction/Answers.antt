@@ -1,5 +1,4 @@
 -- `trig::direction` meets its contract: it composes what its callees promise.
-use borrow.Author.Rules.{rules}
 use Rattle.trig.specs.Fix.{direction}
 use Rattle.trig.proofs.direction.Goals as goal
 

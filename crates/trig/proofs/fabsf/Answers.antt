@@ -1,7 +1,6 @@
 -- `trig::fabsf` meets its contract: the larger of x and 0 - x is the size of x.
 use mathlib.Core.Path.{◌∙◌}
 use lib.Ieee.{of_bits}
-use borrow.Author.Rules.{rules}
 use Rattle.trig.proofs.Magnitude.{larger-is}
 use Rattle.trig.proofs.fabsf.Goals as goal
 

@@ -1,5 +1,4 @@
 -- `trig::quotient` meets its contract: it composes what its callees promise.
-use borrow.Author.Rules.{rules}
 use Rattle.trig.specs.Fix.{quotient}
 use Rattle.trig.proofs.quotient.Goals as goal
 

@@ -5,7 +5,6 @@ use Rattle.binary32.specs.Arithmetic.{constant}
 use Rattle.guide.specs.Guide.{arrive_m}
 use Rattle.update.specs.Update.{course_end_m}
 use Rattle.update.proofs.Deciding.{course-ends, far-from-course, no-course}
-use borrow.Author.Rules.{rules}
 use Rattle.update.proofs.at_course_end.Goals as goal
 
 pub returns-then-near : goal.returns-then-near

@@ -4,7 +4,6 @@ use Rattle.lap.specs.declared.Lap.{Lap}
 use Rattle.state.specs.State.{state_of, with_lap, with_updated_ms}
 use Rattle.state.specs.Guided.{whole}
 use Rattle.update.specs.Update.{begun}
-use borrow.Author.Rules.{rules}
 use Rattle.update.proofs.begun.Goals as goal
 
 pub returns : goal.returns

@@ -5,7 +5,6 @@ use Rattle.state.specs.Guided.{whole}
 use Rattle.update.specs.View.{told_in}
 use Rattle.update.proofs.Updating.{stands-begun}
 use Rattle.update.proofs.Ending.{placed-after, ends_with}
-use borrow.Author.Rules.{rules}
 use Rattle.update.proofs.ended_with.Goals as goal
 
 pub stop_following-stopped-requires : goal.stop_following-stopped-requires

@@ -1,7 +1,6 @@
 -- `update::follow_on` meets its contract.
 use mathlib.Core.Path.{◌∙◌}
 use Rattle.update.proofs.Deciding.{stays, meets, line_of, met-in}
-use borrow.Author.Rules.{rules}
 use Rattle.update.proofs.follow_on.Goals as goal
 
 pub returns-in_default : goal.returns-in_default

@@ -3,7 +3,6 @@ use mathlib.Core.Path.{refl, ap, ◌∙◌}
 use mathlib.Core.Bool.{Bool}
 use Rattle.matching.specs.Match.{off_event, due}
 use Rattle.update.proofs.Matching.{matches}
-use borrow.Author.Rules.{rules}
 use Rattle.update.proofs.matched_at.Goals as goal
 
 pub returns : goal.returns

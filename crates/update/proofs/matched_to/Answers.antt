@@ -4,7 +4,6 @@ use lib.Ieee.{of_bits}
 use Rattle.binary32.specs.Arithmetic.{constant}
 use Rattle.matching.specs.Distances.{drop_m}
 use Rattle.update.proofs.Deciding.{drops, reaches_end, goes_on}
-use borrow.Author.Rules.{rules}
 use Rattle.update.proofs.matched_to.Goals as goal
 
 pub returns-then-near : goal.returns-then-near

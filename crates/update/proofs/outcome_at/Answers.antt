@@ -2,7 +2,6 @@
 use mathlib.Core.Path.{sym, ◌∙◌}
 use Rattle.update.specs.View.{comes_to}
 use Rattle.update.proofs.Deciding.{follows_on, goes-straight, begun-followed, leads-here, two-of}
-use borrow.Author.Rules.{rules}
 use Rattle.update.proofs.outcome_at.Goals as goal
 
 pub follow_on-requires : goal.follow_on-requires

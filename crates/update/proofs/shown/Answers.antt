@@ -6,7 +6,6 @@ use Rattle.guide.specs.View.{displaying}
 use Rattle.state.specs.Guided.{whole}
 use Rattle.update.specs.Update.{begun}
 use Rattle.update.proofs.Updating.{tells}
-use borrow.Author.Rules.{rules}
 use Rattle.update.proofs.shown.Goals as goal
 
 pub returns : goal.returns

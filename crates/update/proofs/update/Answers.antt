@@ -6,7 +6,6 @@ use Rattle.update.specs.Update.{begun}
 use Rattle.update.proofs.Deciding.{begun-followed}
 use Rattle.update.proofs.Updating.{fit-begun, stands-begun, followed-here, lent-here, last-here}
 use Rattle.update.proofs.Updating.{match-on, goes-straight, stays, ends, goes_on}
-use borrow.Author.Rules.{rules}
 use Rattle.update.proofs.update.Goals as goal
 
 pub outcome_at-o-requires : goal.outcome_at-o-requires

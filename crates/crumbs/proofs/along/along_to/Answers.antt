@@ -1,6 +1,5 @@
 -- `crumbs::along::along_to` adds the distance.
 use Rattle.crumbs.specs.Along.{along_to}
-use borrow.Author.Rules.{rules}
 use Rattle.crumbs.proofs.along.along_to.Goals as goal
 
 pub returns : goal.returns

@@ -4,7 +4,6 @@ use mathlib.Core.Option.{some, map}
 use native.Mathlib.Omega.{arith}
 use Rattle.crumbs.specs.Crumb.{point}
 use Rattle.crumbs.proofs.along.Line.{last-crumbs}
-use borrow.Author.Rules.{rules}
 use Rattle.crumbs.proofs.along.end.Goals as goal
 
 pub returns : goal.returns

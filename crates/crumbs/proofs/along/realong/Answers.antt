@@ -1,7 +1,5 @@
 -- `crumbs::along::realong` recomputes along from the second crumb on.
-use Prim.Native.Nat.{◌-◌}
-use borrow.Author.Rules.{rules}
-use Rattle.crumbs.proofs.along.Line.{Going, going_start, going_on, going_end}
+use Rattle.crumbs.proofs.along.Line.{going_start, going_on, going_end}
 use Rattle.crumbs.proofs.along.realong.Goals as goal
 
 pub loop-i-init : goal.loop-i-init

@@ -1,7 +1,6 @@
 -- `crumbs::along::realong` recomputes along from the second crumb on.
 use Prim.Native.Nat.{◌-◌}
-use borrow.Author.Rules.{rules}
-use Rattle.crumbs.proofs.along.Line.{Going, going_start, going_on, going_end}
+use Rattle.crumbs.proofs.along.Line.{Going}
 use Rattle.crumbs.proofs.along.realong.Given as goal
 
 abbrev pub invariant-loop-i : goal.invariant-loop-i

@@ -4,7 +4,6 @@ use native.Mathlib.Omega.{arith}
 use lib.Ieee.{of_bits}
 use Rattle.crumbs.specs.Along.{along_to}
 use Rattle.crumbs.proofs.along.Line.{recorded-none, recorded-some}
-use borrow.Author.Rules.{rules}
 use Rattle.crumbs.proofs.along.recorded_m.Goals as goal
 
 pub returns-then-len-eq0 : goal.returns-then-len-eq0

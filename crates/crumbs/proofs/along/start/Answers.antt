@@ -2,7 +2,6 @@
 use mathlib.Core.Path.{sym, ◌∙◌}
 use native.Mathlib.Omega.{arith}
 use Rattle.crumbs.proofs.along.Line.{start_none, start-some}
-use borrow.Author.Rules.{rules}
 use Rattle.crumbs.proofs.along.start.Goals as goal
 
 pub returns-then-len-eq0 : goal.returns-then-len-eq0

@@ -1,10 +1,5 @@
 -- `crumbs::bounds::leading` goes on by rows that lie between.
-use Prim.Native.Nat.{◌-◌}
 use native.Mathlib.Omega.{arith}
-use borrow.Author.Rules.{rules}
-use borrow.Author.Tests.{not-false}
-use Rattle.crumbs.specs.Crumb.{crumb_at}
-use Rattle.crumbs.specs.Bounds.{Leading}
 use Rattle.crumbs.proofs.bounds.Rows.{leading-start, leading-next, leading_end}
 use Rattle.crumbs.proofs.bounds.leading.Goals as goal
 

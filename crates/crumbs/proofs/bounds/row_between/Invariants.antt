@@ -1,9 +1,8 @@
 -- `crumbs::bounds::row_between` tests each number.
 use Prim.Native.Nat.{◌-◌, ◌*◌}
-use borrow.Author.Rules.{rules}
 use Rattle.crumbs.specs.Crumb.{stride}
 use Rattle.crumbs.specs.Bounds.{row_length}
-use Rattle.crumbs.proofs.bounds.Rows.{Tested, tested-start, tested-next, tested-end}
+use Rattle.crumbs.proofs.bounds.Rows.{Tested}
 use Rattle.crumbs.proofs.bounds.row_between.Given as goal
 
 abbrev pub invariant-loop-k : goal.invariant-loop-k

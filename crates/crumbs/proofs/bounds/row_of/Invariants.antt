@@ -1,9 +1,7 @@
 -- `crumbs::bounds::row_of` puts the crumb at each place.
 use Prim.Native.Nat.{◌-◌}
-use mathlib.Core.Path.{refl, sym}
-use native.Mathlib.Omega.{arith}
 use Rattle.crumbs.specs.Bounds.{row_length}
-use Rattle.crumbs.proofs.bounds.Rows.{Filled, filled_next, filled-end}
+use Rattle.crumbs.proofs.bounds.Rows.{Filled}
 use Rattle.crumbs.proofs.bounds.row_of.Given as goal
 
 abbrev pub invariant-loop-i : goal.invariant-loop-i

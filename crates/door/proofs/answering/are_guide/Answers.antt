@@ -1,6 +1,5 @@
 -- `door::answering::are_guide` meets its contract.
 use Rattle.door.proofs.answering.GuideWords.{too_short, tested}
-use borrow.Author.Rules.{rules}
 use Rattle.door.proofs.answering.are_guide.Goals as goal
 
 pub returns-then-words-lt-GUIDE : goal.returns-then-words-lt-GUIDE

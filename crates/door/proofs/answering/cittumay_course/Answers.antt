@@ -1,7 +1,6 @@
 -- `door::answering::cittumay_course` meets its contract.
 use mathlib.Core.Path.{refl}
 use Rattle.door.proofs.answering.Answers.{loaded, unloaded, no_part, part-returned}
-use borrow.Author.Rules.{rules}
 use Rattle.door.proofs.answering.cittumay_course.Goals as goal
 
 pub returns-then-not-there : goal.returns-then-not-there

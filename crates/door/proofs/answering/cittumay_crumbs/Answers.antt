@@ -1,6 +1,5 @@
 -- `door::answering::cittumay_crumbs` meets its contract.
 use Rattle.door.proofs.answering.Answers.{loaded, unloaded, no_part, part-returned}
-use borrow.Author.Rules.{rules}
 use Rattle.door.proofs.answering.cittumay_crumbs.Goals as goal
 
 pub returns-then-not-there : goal.returns-then-not-there

@@ -1,7 +1,6 @@
 -- `door::answering::cittumay_following` meets its contract.
 use mathlib.Core.Path.{refl}
 use Rattle.door.proofs.answering.Answers.{loaded, unloaded, not-held, handed}
-use borrow.Author.Rules.{rules}
 use Rattle.door.proofs.answering.cittumay_following.Goals as goal
 
 pub returns-then-not-there : goal.returns-then-not-there

@@ -1,12 +1,9 @@
 -- `door::answering::cittumay_guide` meets its contract.
 use mathlib.Core.Path.{refl, ap}
-use mathlib.Core.List.{List}
-use Prim.Native.Nat.{ℕ}
 use Rattle.answers.specs.Answers.{says_showing}
 use Rattle.door.specs.Answers.{guide_values, showing}
 use Rattle.door.proofs.answering.Answers.{loaded, unloaded, roomy, no_room, not-held, answered, answered-with}
 use Rattle.door.specs.Through.{number_of}
-use borrow.Author.Rules.{rules}
 use Rattle.door.proofs.answering.cittumay_guide.Goals as goal
 
 pub returns-then-guide-lt-GUIDE : goal.returns-then-guide-lt-GUIDE

@@ -3,7 +3,6 @@ use mathlib.Core.Path.{refl}
 use Rattle.answers.specs.Answers.{says_riding}
 use Rattle.door.proofs.answering.Answers.{loaded, unloaded, not-held, answered, answered-with}
 use Rattle.door.specs.Through.{number_of}
-use borrow.Author.Rules.{rules}
 use Rattle.door.proofs.answering.cittumay_heading.Goals as goal
 
 pub returns-then-not-there : goal.returns-then-not-there

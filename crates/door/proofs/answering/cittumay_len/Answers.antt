@@ -3,7 +3,6 @@ use mathlib.Core.Path.{refl}
 use Rattle.answers.specs.Answers.{says_count}
 use Rattle.door.proofs.answering.Answers.{loaded, unloaded, not-held, answered}
 use Rattle.door.specs.Through.{number_of}
-use borrow.Author.Rules.{rules}
 use Rattle.door.proofs.answering.cittumay_len.Goals as goal
 
 pub returns-then-not-there : goal.returns-then-not-there

@@ -3,7 +3,6 @@ use Rattle.answers.specs.Answers.{says_back}
 use Rattle.door.specs.Answers.{returning}
 use Rattle.door.proofs.answering.Answers.{loaded, unloaded, not-held, answered}
 use Rattle.door.specs.Through.{number_of}
-use borrow.Author.Rules.{rules}
 use Rattle.door.proofs.answering.cittumay_way_back.Goals as goal
 
 pub returns-then-not-there : goal.returns-then-not-there

@@ -1,7 +1,6 @@
 -- `door::answering::guide_at` meets its contract.
 use native.Mathlib.Omega.{arith}
 use Rattle.door.proofs.answering.GuideWords.{are-read, read_plain}
-use borrow.Author.Rules.{rules}
 use Rattle.door.proofs.answering.guide_at.Goals as goal
 
 pub bounds-words-0 : goal.bounds-words-0

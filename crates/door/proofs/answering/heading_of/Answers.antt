@@ -1,5 +1,4 @@
 -- `door::answering::heading_of` meets its contract.
-use Rattle.stored.specs.Fields.{heading_of}
 use Rattle.door.proofs.answering.heading_of.Goals as goal
 
 pub returns-then-known : goal.returns-then-known

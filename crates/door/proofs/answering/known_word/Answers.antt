@@ -1,7 +1,6 @@
 -- `door::answering::known_word` meets its contract.
 use mathlib.Core.Path.{sym, ap}
 use Rattle.stored.specs.Fields.{heading_flag}
-use borrow.Author.Rules.{rules}
 use Rattle.door.proofs.answering.known_word.Goals as goal
 
 pub returns-in-Known : goal.returns-in-Known

@@ -1,7 +1,6 @@
 -- `door::answering::mode_word` meets its contract.
 use mathlib.Core.Path.{sym, ap}
 use Rattle.stored.specs.Fields.{mode_tag}
-use borrow.Author.Rules.{rules}
 use Rattle.door.proofs.answering.mode_word.Goals as goal
 
 pub returns-in-Direct : goal.returns-in-Direct

@@ -1,11 +1,8 @@
 -- `door::answering::put_guide` meets its contract.
 use native.Mathlib.Omega.{arith}
-use mathlib.Core.Path.{◌≡◌, refl, sym, ap, ◌∙◌}
-use mathlib.Core.List.{◌++◌}
+use mathlib.Core.Path.{◌∙◌}
 use lib.ListN.{length-set}
-use Rattle.stored.specs.Parts.{guide_words}
 use Rattle.door.proofs.answering.GuideWords.{ten-written}
-use borrow.Author.Rules.{rules}
 use Rattle.door.proofs.answering.put_guide.Goals as goal
 
 pub bounds-words-1 : goal.bounds-words-1

@@ -1,8 +1,7 @@
 -- `door::answering::put_heading` meets its contract.
-use mathlib.Core.Path.{◌≡◌, sym, ap}
+use mathlib.Core.Path.{sym, ap}
 use Rattle.plane.specs.declared.Heading.{Heading}
 use Rattle.door.specs.Answers.{riding, heading_values}
-use borrow.Author.Rules.{rules}
 use Rattle.door.proofs.answering.put_heading.Goals as goal
 
 pub returns-in_default : goal.returns-in_default

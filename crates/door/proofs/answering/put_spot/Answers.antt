@@ -1,8 +1,7 @@
 -- `door::answering::put_spot` meets its contract.
-use mathlib.Core.Path.{◌≡◌, sym, ap}
+use mathlib.Core.Path.{sym, ap}
 use Rattle.plane.specs.declared.Spot.{Spot}
 use Rattle.door.specs.Answers.{spot_values, spotted}
-use borrow.Author.Rules.{rules}
 use Rattle.door.proofs.answering.put_spot.Goals as goal
 
 pub returns-in_default : goal.returns-in_default

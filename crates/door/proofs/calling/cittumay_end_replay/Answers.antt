@@ -1,7 +1,6 @@
 -- `door::calling::cittumay_end_replay` meets its contract.
 use mathlib.Core.Path.{refl}
 use Rattle.door.proofs.numbering.Through.{room-read, not-held, on-held}
-use borrow.Author.Rules.{rules}
 use Rattle.door.proofs.calling.cittumay_end_replay.Goals as goal
 
 pub returns-then-not-read : goal.returns-then-not-read
@@ -17,5 +16,5 @@ returns c =
     let made = c.end_replay-c in
     on-held c.load-read.ensures
     c.if-not-read.false
-    (record { call = made.result; promised = made.ensures; state = refl; refusal = kept.0 })
-    kept.1
+    (record { call = made.result; promised = made.ensures; state = refl; refusal = kept.value })
+    kept.leaves

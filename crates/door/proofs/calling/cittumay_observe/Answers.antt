@@ -1,6 +1,5 @@
 -- `door::calling::cittumay_observe` meets its contract.
 use Rattle.door.proofs.calling.Calls.{observed}
-use borrow.Author.Rules.{rules}
 use Rattle.door.proofs.calling.cittumay_observe.Goals as goal
 
 pub returns : goal.returns

@@ -2,7 +2,6 @@
 use mathlib.Core.Path.{refl}
 use Rattle.door.proofs.calling.Calls.{replayed}
 use Rattle.door.proofs.numbering.Through.{room-read, not-held, on-held}
-use borrow.Author.Rules.{rules}
 use Rattle.door.proofs.calling.cittumay_replay.Goals as goal
 
 pub returns-then-not-read : goal.returns-then-not-read
@@ -25,6 +24,6 @@ returns c =
       promised = replayed c.args.lat c.args.lon c.ranges.lat.sfits c.ranges.lon.sfits
           made.ensures;
       state = refl;
-      refusal = kept.0;
+      refusal = kept.value;
     })
-    kept.1
+    kept.leaves

@@ -2,7 +2,6 @@
 use mathlib.Core.Path.{refl}
 use Rattle.door.specs.Through.{is_set}
 use Rattle.door.proofs.numbering.Through.{room-read, not-held, on-held}
-use borrow.Author.Rules.{rules}
 use Rattle.door.proofs.calling.cittumay_set_auto_follow.Goals as goal
 
 pub returns-then-not-read : goal.returns-then-not-read
@@ -21,5 +20,5 @@ returns c =
     on-held
     c.load-read.ensures
     c.if-not-read.false
-    (record { call = made.result; promised = made.ensures; state = refl; refusal = kept.0 })
-    kept.1
+    (record { call = made.result; promised = made.ensures; state = refl; refusal = kept.value })
+    kept.leaves

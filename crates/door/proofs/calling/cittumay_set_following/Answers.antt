@@ -2,7 +2,6 @@
 use mathlib.Core.Path.{refl, ◌∙◌}
 use Rattle.door.specs.Through.{is_set}
 use Rattle.door.proofs.numbering.Through.{room-read, not-held, on-held}
-use borrow.Author.Rules.{rules}
 use Rattle.door.proofs.calling.cittumay_set_following.Goals as goal
 
 pub returns-then-not-read : goal.returns-then-not-read
@@ -20,7 +19,7 @@ returns c =
     let made = c.set_following-f in
     on-held c.load-read.ensures c.if-not-read.false
     (record {
-      made = record { answer = made.result; promised = made.ensures; c = kept.0 ∙ put.0; written = put.1 };
+      made = record { answer = made.result; promised = made.ensures; told = kept.value ∙ put.value; written = put.yes_after };
       state = refl;
     })
-    kept.1
+    kept.leaves

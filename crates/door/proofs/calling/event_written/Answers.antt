@@ -4,7 +4,6 @@ use Rattle.homing.specs.declared.Sight.{Sight}
 use Rattle.homing.specs.Answers.{says_sight}
 use Rattle.door.specs.Through.{values_of}
 use Rattle.door.specs.Calls.{number_of_event}
-use borrow.Author.Rules.{rules}
 use Rattle.door.proofs.calling.event_written.Goals as goal
 
 pub returns-in-Event : goal.returns-in-Event

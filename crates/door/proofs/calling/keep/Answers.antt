@@ -1,6 +1,5 @@
 -- `door::calling::keep` meets its contract: a refusal stores nothing.
 use mathlib.Core.Path.{refl, sym}
-use borrow.Author.Rules.{rules}
 use Rattle.door.proofs.calling.keep.Goals as goal
 
 pub returns-then-number-ne0 : goal.returns-then-number-ne0

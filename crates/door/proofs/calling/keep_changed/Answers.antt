@@ -1,6 +1,5 @@
 -- `door::calling::keep_changed` meets its contract.
 use mathlib.Core.Path.{◌∙◌}
-use borrow.Author.Rules.{rules}
 use Rattle.door.proofs.calling.keep_changed.Goals as goal
 
 pub returns : goal.returns

@@ -1,7 +1,6 @@
 -- `door::calling::number_of_event` meets its contract.
 use mathlib.Core.Path.{sym, ap}
 use Rattle.door.specs.Calls.{number_of_event}
-use borrow.Author.Rules.{rules}
 use Rattle.door.proofs.calling.number_of_event.Goals as goal
 
 pub returns-in-Nothing : goal.returns-in-Nothing

@@ -3,7 +3,6 @@ use mathlib.Core.Path.{sym, ap}
 use Rattle.homing.specs.declared.Sight.{Sight}
 use Rattle.homing.specs.Answers.{says_sight}
 use Rattle.door.specs.Through.{number_of}
-use borrow.Author.Rules.{rules}
 use Rattle.door.proofs.calling.number_of_sight.Goals as goal
 
 pub returns-in-Event : goal.returns-in-Event

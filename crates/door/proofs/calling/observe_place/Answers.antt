@@ -1,7 +1,6 @@
 -- `door::calling::observe_place` meets its contract.
 use mathlib.Core.Path.{refl, ◌∙◌}
 use Rattle.door.proofs.numbering.Through.{room-read, not-held, on-held}
-use borrow.Author.Rules.{rules}
 use Rattle.door.proofs.calling.observe_place.Goals as goal
 
 pub returns-then-not-read : goal.returns-then-not-read
@@ -21,9 +20,9 @@ returns c =
       made = record {
         answer = made.result;
         promised = made.ensures;
-        told = kept.0 ∙ c.number_of_sight.ensures;
+        told = kept.value ∙ c.number_of_sight.ensures;
         written = c.event_written.ensures;
       };
       state = refl;
     })
-    kept.1
+    kept.leaves

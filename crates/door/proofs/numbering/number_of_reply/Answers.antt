@@ -3,7 +3,6 @@ use mathlib.Core.Path.{sym, ap}
 use Rattle.homing.specs.declared.Reply.{Reply}
 use Rattle.homing.specs.Answers.{says_reply}
 use Rattle.door.specs.Through.{number_of}
-use borrow.Author.Rules.{rules}
 use Rattle.door.proofs.numbering.number_of_reply.Goals as goal
 
 pub returns-in-Taken : goal.returns-in-Taken

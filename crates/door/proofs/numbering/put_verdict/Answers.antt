@@ -1,10 +1,9 @@
 -- `door::numbering::put_verdict` meets its contract.
-use mathlib.Core.Path.{◌≡◌, refl, sym, ap, ◌∙◌}
+use mathlib.Core.Path.{sym, ap, ◌∙◌}
 use Rattle.answers.specs.Answers.{says_verdict}
 use Rattle.answers.specs.declared.Verdict.{Verdict}
 use Rattle.door.specs.Answers.{flagged}
 use Rattle.door.specs.Through.{number_of, values_of}
-use borrow.Author.Rules.{rules}
 use Rattle.door.proofs.numbering.put_verdict.Goals as goal
 
 pub returns-in-Is : goal.returns-in-Is

@@ -2,7 +2,6 @@
 use mathlib.Core.Path.{ap, ◌∙◌}
 use Rattle.door.proofs.rebuilding.Rebuild.{begun, not-begun, no-rebuild, caught}
 use Rattle.stored.specs.Fields.{flag_of}
-use borrow.Author.Rules.{rules}
 use Rattle.door.proofs.rebuilding.cittumay_rebuild_caught_up.Goals as goal
 
 pub returns-then-not-begun : goal.returns-then-not-begun

@@ -1,6 +1,5 @@
 -- `door::rebuilding::cittumay_rebuild_new` meets its contract.
 use Rattle.door.proofs.rebuilding.Rebuild.{new-refused, new-stored}
-use borrow.Author.Rules.{rules}
 use Rattle.door.proofs.rebuilding.cittumay_rebuild_new.Goals as goal
 
 pub returns-then-rebuild-lt-REBUILD_WORDS : goal.returns-then-rebuild-lt-REBUILD_WORDS

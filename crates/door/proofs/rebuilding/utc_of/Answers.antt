@@ -1,7 +1,5 @@
 -- `door::rebuilding::utc_of` meets its contract.
-use mathlib.Core.Bool.{not}
 use borrow.Author.Tests.{ne_eqb, eq-eqb}
-use Rattle.stored.specs.Rebuilt.{utc_of}
 use Rattle.door.specs.Through.{is_set}
 use borrow.Author.Tests.{ne_eqb, eq-eqb}
 use borrow.Author.Tests.{ne_eqb, eq-eqb}

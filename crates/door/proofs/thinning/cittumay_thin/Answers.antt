@@ -1,6 +1,5 @@
 -- `door::thinning::cittumay_thin` meets its contract: the four numbers are those of the answer.
 use mathlib.Core.Path.{sym, ap}
-use borrow.Author.Rules.{rules}
 use Rattle.thin.specs.declared.Thinned.{Thinned}
 use Rattle.door.specs.Thin.{thin_written}
 use Rattle.door.proofs.thinning.cittumay_thin.Goals as goal

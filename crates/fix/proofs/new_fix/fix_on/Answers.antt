@@ -6,7 +6,6 @@ use Rattle.calls.specs.Fix.{fix_on}
 use Rattle.state.specs.Guided.{whole}
 use Rattle.update.specs.View.{told_in}
 use Rattle.fix.proofs.recording.Turning.{course-grows, by-line}
-use borrow.Author.Rules.{rules}
 use Rattle.fix.proofs.new_fix.fix_on.Goals as goal
 
 pub update-requires : goal.update-requires

@@ -4,7 +4,6 @@ use Rattle.state.specs.Guided.{whole}
 use Rattle.update.specs.View.{told_in}
 use Rattle.fix.proofs.recording.Beginning.{retraced_as, asks-retracing, retrace-fit, retrace-few}
 use Rattle.fix.proofs.recording.Turning.{idle-grows, turned_round, rode-on, never-turned}
-use borrow.Author.Rules.{rules}
 use Rattle.fix.proofs.new_fix.may_retrace.Goals as goal
 
 pub retracing-b-requires : goal.retracing-b-requires

@@ -3,7 +3,6 @@ use Rattle.state.specs.Guided.{whole}
 use Rattle.update.specs.View.{told_in}
 use Rattle.fix.proofs.recording.Beginning.{joined_as, asks-joining, joined_at, join-ready}
 use Rattle.fix.proofs.recording.Turning.{joined-up, rode-by}
-use borrow.Author.Rules.{rules}
 use Rattle.fix.proofs.new_fix.unfollowed.Goals as goal
 
 pub joining-j-requires : goal.joining-j-requires

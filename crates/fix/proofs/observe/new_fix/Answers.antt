@@ -1,5 +1,5 @@
 -- `fix::observe::new_fix` meets its contract.
-use mathlib.Core.Path.{◌≡◌, refl, sym, ap, ◌∙◌}
+use mathlib.Core.Path.{refl, sym, ap, ◌∙◌}
 use lib.ListN.{length}
 use Rattle.crumbs.specs.Crumb.{capacity}
 use Rattle.state.specs.State.{state_of, with_here_ms}
@@ -12,7 +12,6 @@ use Rattle.update.specs.View.{told_in}
 use Rattle.fix.proofs.recording.Moving.{updates-after, same_len}
 use Rattle.fix.proofs.Arriving.{handed-fix}
 use Rattle.fix.proofs.observe.Seeing.{moved_to, arrives, arrived-ready, new-fix}
-use borrow.Author.Rules.{rules}
 use Rattle.fix.proofs.observe.new_fix.Goals as goal
 
 pub fix_on-requires : goal.fix_on-requires

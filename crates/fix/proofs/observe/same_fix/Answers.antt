@@ -1,6 +1,5 @@
 -- `fix::observe::same_fix` meets its contract.
 use Rattle.fix.proofs.observe.Seeing.{never-fed, same-lat, other-lat}
-use borrow.Author.Rules.{rules}
 use Rattle.fix.proofs.observe.same_fix.Goals as goal
 
 pub returns-in_default : goal.returns-in_default

@@ -6,7 +6,6 @@ use Rattle.state.specs.Guided.{whole}
 use Rattle.fix.specs.Ready.{Ready}
 use Rattle.fix.proofs.Arriving.{handed-fix}
 use Rattle.fix.proofs.observe.Seeing.{seen-whole}
-use borrow.Author.Rules.{rules, length_unmapped}
 use Rattle.fix.proofs.observe.seen.Goals as goal
 
 pub seen_on-u-requires : goal.seen_on-u-requires

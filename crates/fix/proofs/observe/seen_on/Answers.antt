@@ -1,5 +1,5 @@
 -- `fix::observe::seen_on` meets its contract.
-use mathlib.Core.Path.{◌≡◌, refl, sym, ap, ◌∙◌, subst}
+use mathlib.Core.Path.{refl, sym, ap, ◌∙◌}
 use native.Mathlib.Omega.{arith}
 use lib.ListN.{length}
 use Rattle.crumbs.specs.Crumb.{capacity}
@@ -12,7 +12,6 @@ use Rattle.update.specs.View.{told_in}
 use Rattle.fix.proofs.recording.Moving.{updates-after, ready-same}
 use Rattle.fix.proofs.Arriving.{handed-fix}
 use Rattle.fix.proofs.observe.Seeing.{seen-again, seen-new}
-use borrow.Author.Rules.{rules}
 use Rattle.fix.proofs.observe.seen_on.Goals as goal
 
 pub still_at-requires : goal.still_at-requires

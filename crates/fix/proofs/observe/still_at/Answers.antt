@@ -1,8 +1,7 @@
 -- `fix::observe::still_at` meets its contract.
-use mathlib.Core.Path.{◌≡◌, refl, sym, ap, ◌∙◌, subst}
+use mathlib.Core.Path.{refl, sym, ap, ◌∙◌}
 use borrow.Author.Tests.{lt-ltb, le-ltb}
 use Prim.Native.Nat.{ℕ}
-use mathlib.Core.Bool.{Bool}
 use lib.Dec.{ltb}
 use lib.ListN.{length}
 use Rattle.crumbs.specs.Crumb.{capacity}
@@ -14,7 +13,6 @@ use Rattle.state.specs.Guided.{whole}
 use Rattle.update.specs.View.{told_in}
 use Rattle.fix.proofs.recording.Moving.{updates-after, updates-nothing, same_len}
 use Rattle.fix.proofs.observe.Seeing.{still-nowhere, still-early, still-due, moved_on, turns, headed-fit}
-use borrow.Author.Rules.{rules}
 use Rattle.fix.proofs.observe.still_at.Goals as goal
 
 pub returns-in_default : goal.returns-in_default

@@ -5,7 +5,6 @@ use Rattle.update.proofs.Updating.{fit_same}
 use Rattle.state.specs.Guided.{whole}
 use Rattle.update.specs.View.{told_in}
 use Rattle.fix.proofs.recording.Growing.{fit-grown, grown-updated}
-use borrow.Author.Rules.{rules}
 use Rattle.fix.proofs.recording.add_update.Goals as goal
 
 pub update-requires : goal.update-requires

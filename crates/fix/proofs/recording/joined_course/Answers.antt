@@ -1,9 +1,7 @@
 -- `fix::recording::joined_course` meets its contract.
-use lib.ListN.{length}
 use Rattle.state.specs.Guided.{whole}
 use Rattle.update.specs.View.{told_in}
 use Rattle.fix.proofs.recording.Turning.{on-fit, on-grows, joined-on}
-use borrow.Author.Rules.{rules}
 use Rattle.fix.proofs.recording.joined_course.Goals as goal
 
 pub add_update-u-requires : goal.add_update-u-requires

@@ -1,13 +1,11 @@
 -- `fix::recording::retraced` meets its contract.
-use mathlib.Core.Path.{◌≡◌, sym, ap, ◌∙◌}
-use lib.ListN.{length}
+use mathlib.Core.Path.{ap, ◌∙◌}
 use Rattle.state.specs.declared.Follow.{Follow}
 use Rattle.follow.specs.View.{decided_in}
 use Rattle.state.specs.Guided.{whole}
 use Rattle.update.specs.View.{told_in}
 use Rattle.fix.proofs.recording.Beginning.{engaged-fit, unengaged-fit, unengaged-follow}
 use Rattle.fix.proofs.recording.Turning.{idle-grows, back-room, back-idle, back-fit, turned_on, engaged-on, unengaged-on}
-use borrow.Author.Rules.{rules}
 use Rattle.fix.proofs.recording.retraced.Goals as goal
 
 pub engage-e-requires : goal.engage-e-requires

@@ -1,10 +1,8 @@
 -- `fix::recording::turned_back` meets its contract.
-use mathlib.Core.Path.{◌≡◌, refl, sym, ap, ◌∙◌}
-use Prim.Native.Nat.{ℕ, ◌≤◌}
+use mathlib.Core.Path.{sym, ap}
 use native.Mathlib.Omega.{arith}
 use mathlib.Core.List.{List, []}
 use Rattle.crumbs.specs.declared.Crumb.{Crumb}
-use Rattle.crumbs.specs.Crumb.{capacity}
 use Rattle.crumbs.proofs.Crumbs.{take-crumbs}
 use Rattle.trail.specs.View.{track, places}
 use Rattle.trail.specs.View as trail

@@ -1,6 +1,5 @@
 -- `follow::follow_parts::after_thinning` meets its contract.
 use Rattle.follow.specs.Record.{after_thinning}
-use borrow.Author.Rules.{rules}
 use Rattle.follow.proofs.follow_parts.after_thinning.Goals as goal
 
 pub returns-then-thinned : goal.returns-then-thinned

@@ -3,7 +3,6 @@ use borrow.Author.Tests.{lt-ltb, le-ltb}
 use lib.Ieee.{of_bits}
 use Rattle.crumbs.proofs.Crumbs.{length-crumbs}
 use Rattle.follow.specs.Parts.{along_at}
-use borrow.Author.Rules.{rules}
 use Rattle.follow.proofs.follow_parts.along_at.Goals as goal
 
 pub returns-then-end-len : goal.returns-then-end-len

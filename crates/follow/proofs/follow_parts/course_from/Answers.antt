@@ -1,6 +1,5 @@
 -- `follow::follow_parts::course_from` meets its contract.
 use Rattle.follow.specs.Parts.{course_from}
-use borrow.Author.Rules.{rules}
 use Rattle.follow.proofs.follow_parts.course_from.Goals as goal
 
 pub returns : goal.returns

@@ -1,5 +1,5 @@
 -- `follow::follow_parts::held_off` meets its contract.
-use mathlib.Core.Path.{◌≡◌, refl, sym, ap, ◌∙◌}
+use mathlib.Core.Path.{refl}
 use Rattle.follow.specs.Parts.{held_off}
 use Rattle.follow.proofs.follow_parts.held_off.Goals as goal
 

@@ -1,12 +1,10 @@
 -- `follow::follow_parts::leads` meets its contract.
 use borrow.Author.Tests.{lt-leb, le-leb}
-use native.Mathlib.Omega.{arith}
 use lib.Ieee.{of_bits}
 use Rattle.binary32.specs.Arithmetic.{constant}
 use Rattle.crumbs.proofs.Crumbs.{length-crumbs}
 use Rattle.trail.specs.Trail.{min_step_m}
 use Rattle.follow.specs.Parts.{leads}
-use borrow.Author.Rules.{rules}
 use Rattle.follow.proofs.follow_parts.leads.Goals as goal
 
 pub returns-then-len-lt2 : goal.returns-then-len-lt2

@@ -1,8 +1,7 @@
 -- `follow::follow_parts::left` meets its contract.
-use mathlib.Core.Path.{◌≡◌, refl, sym, ap, ◌∙◌}
+use mathlib.Core.Path.{sym, ap}
 use Rattle.state.specs.declared.Line.{Line}
 use Rattle.follow.specs.Parts.{ended_by_thinning}
-use borrow.Author.Rules.{rules}
 use Rattle.follow.proofs.follow_parts.left.Goals as goal
 
 pub returns-in-Breadcrumb : goal.returns-in-Breadcrumb

@@ -1,5 +1,5 @@
 -- `follow::follow_parts::stopped` meets its contract.
-use mathlib.Core.Path.{◌≡◌, refl, sym, ap, ◌∙◌}
+use mathlib.Core.Path.{refl}
 use Rattle.follow.specs.Parts.{stopped}
 use Rattle.follow.proofs.follow_parts.stopped.Goals as goal
 

@@ -1,7 +1,6 @@
 -- `guide::goal::aim` meets its contract.
 use lib.Ieee.{of_bits}
 use Rattle.guide.specs.Goal.{aim}
-use borrow.Author.Rules.{rules}
 use Rattle.guide.proofs.goal.aim.Goals as goal
 
 pub returns-then-distance : goal.returns-then-distance

@@ -1,6 +1,5 @@
 -- `guide::goal::found_near` meets its contract: the nearest segment lies near where some does.
 use native.Mathlib.Omega.{arith}
-use borrow.Author.Rules.{rules}
 use Rattle.crumbs.proofs.Crumbs.{length-crumbs}
 use Rattle.guide.proofs.goal.Nearing.{near_none, near-lost, near-some}
 use Rattle.guide.proofs.goal.found_near.Goals as goal

@@ -4,7 +4,6 @@ use Rattle.crumbs.specs.Crumb.{crumbs}
 use Rattle.state.specs.declared.Line.{Line}
 use Rattle.guide.specs.Goal.{goal_on}
 use Rattle.guide.proofs.goal.Ending.{course-goal}
-use borrow.Author.Rules.{rules}
 use Rattle.guide.proofs.goal.goal_on.Goals as goal
 
 pub returns-in-Course : goal.returns-in-Course

@@ -1,5 +1,4 @@
 -- `guide::goal::lies_near` meets its contract: a square past the bar has a root past 500 m.
-use borrow.Author.Rules.{rules}
 use lib.Ieee.{of_bits}
 use Rattle.binary32.specs.Arithmetic.{constant}
 use Rattle.matching.specs.Distances.{drop_m}

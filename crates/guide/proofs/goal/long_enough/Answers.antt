@@ -4,7 +4,6 @@ use lib.Ieee.{of_bits}
 use Rattle.binary32.specs.Arithmetic.{constant}
 use Rattle.crumbs.proofs.Crumbs.{length-crumbs}
 use Rattle.guide.specs.Goal.{min_track_m, long_enough}
-use borrow.Author.Rules.{rules}
 use Rattle.guide.proofs.goal.long_enough.Goals as goal
 
 pub returns-then-course : goal.returns-then-course

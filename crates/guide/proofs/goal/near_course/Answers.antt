@@ -3,7 +3,6 @@ use mathlib.Core.Path.{sym, ap, ◌∙◌}
 use Rattle.crumbs.specs.Crumb.{crumbs}
 use Rattle.state.specs.declared.Line.{Line}
 use Rattle.guide.specs.Goal.{near_course}
-use borrow.Author.Rules.{rules}
 use Rattle.guide.proofs.goal.near_course.Goals as goal
 
 pub returns-in-Nothing : goal.returns-in-Nothing

@@ -1,10 +1,8 @@
 -- `guide::goal::some_near` meets its contract: the ends below decide.
 use Prim.Native.Nat.{◌-◌, ◌≤◌}
-use mathlib.Core.Path.{◌≡◌, refl, sym, ◌∙◌}
-use native.Mathlib.Omega.{arith}
+use mathlib.Core.Path.{◌≡◌}
 use Rattle.crumbs.specs.Crumb.{crumbs}
 use Rattle.guide.specs.Near.{some_near}
-use Rattle.guide.proofs.goal.Nearing.{some-here, some_below, some_out}
 use Rattle.guide.proofs.goal.some_near.Given as goal
 
 abbrev pub invariant-loop-end : goal.invariant-loop-end

@@ -1,12 +1,10 @@
 -- `joining::retrace::against_near` meets its contract.
-use mathlib.Core.Path.{◌≡◌, ◌∙◌}
 use native.Mathlib.Omega.{arith}
 use lib.Ieee.{of_bits}
 use Rattle.binary32.specs.Arithmetic.{constant}
 use Rattle.crumbs.specs.Crumb.{crumbs}
 use Rattle.joining.specs.Retrace.{retrace_m, backwards}
 use Rattle.joining.proofs.retrace.Turning.{on_line, nothing-near, near-against, far-off}
-use borrow.Author.Rules.{rules}
 use Rattle.joining.proofs.retrace.against_near.Goals as goal
 
 pub returns-in_default : goal.returns-in_default

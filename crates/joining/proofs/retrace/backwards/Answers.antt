@@ -1,7 +1,6 @@
 -- `joining::retrace::backwards` meets its contract.
 use borrow.Author.Tests.{lt-ltb, le-ltb}
 use Rattle.joining.specs.Retrace.{backwards}
-use borrow.Author.Rules.{rules}
 use Rattle.joining.proofs.retrace.backwards.Goals as goal
 
 pub returns-then-turn : goal.returns-then-turn

@@ -1,5 +1,4 @@
 -- `joining::retrace::len_before` meets its contract.
-use mathlib.Core.Path.{◌≡◌, refl, sym, ap, ◌∙◌}
 use borrow.Author.Tests.{eq-eqb, ne_eqb}
 use Rattle.crumbs.proofs.Crumbs.{length-crumbs}
 use Rattle.trail.specs.View.{track}

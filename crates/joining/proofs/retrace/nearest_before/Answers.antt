@@ -1,7 +1,6 @@
 -- `joining::retrace::nearest_before` meets its contract.
 use borrow.Author.Tests.{lt-leb, le-leb}
 use Rattle.joining.specs.Retrace.{nearest_before}
-use borrow.Author.Rules.{rules}
 use Rattle.joining.proofs.retrace.nearest_before.Goals as goal
 
 pub returns-then-n-lt2 : goal.returns-then-n-lt2

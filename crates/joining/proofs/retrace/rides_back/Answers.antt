@@ -1,16 +1,13 @@
 -- `joining::retrace::rides_back` meets its contract.
-use mathlib.Core.Path.{◌≡◌, ◌∙◌, sym, subst}
+use mathlib.Core.Path.{sym, subst}
 use Prim.Native.Nat.{ℕ, ◌≤◌}
-use lib.Ieee.{Float, of_bits}
-use Rattle.binary32.specs.Arithmetic.{constant, ◌⊖◌}
-use Rattle.crumbs.specs.declared.Crumb.{Crumb}
+use lib.Ieee.{of_bits}
+use Rattle.binary32.specs.Arithmetic.{constant}
 use Rattle.crumbs.specs.Crumb.{crumbs}
 use Rattle.segments.specs.declared.Best.{Best}
-use Rattle.search.specs.Along.{ends}
-use Rattle.joining.specs.Retrace.{retrace_skip_m, nearest_before, against_near}
+use Rattle.joining.specs.Retrace.{retrace_skip_m, against_near}
 use Rattle.segments.specs.Inner.{InLine}
 use Rattle.joining.proofs.retrace.Turning.{before-in-line, no-heading, too_short, long-enough, ends-few}
-use borrow.Author.Rules.{rules}
 use Rattle.joining.proofs.retrace.rides_back.Goals as goal
 
 pub returns-in_default : goal.returns-in_default

@@ -1,7 +1,6 @@
 -- `lap::StartPass::stepped` meets its contract. Each return rewrites with the stage that the match told and with the test that led there.
 -- A float constant is its bit pattern in MIR, which `of_bits` reads.
 use lib.Ieee
-use borrow.Author.Rules.{rules}
 use Rattle.binary32.specs.Arithmetic.{constant}
 use Rattle.lap.specs.Pass.{pass_arm_m, pass_m, pass_end_m, from_stage, step_of}
 use Rattle.lap.proofs.StartPass.stepped.Goals as goal

@@ -6,7 +6,6 @@ use Rattle.state.specs.declared.Line.TheVariants as line
 use Rattle.matching.specs.Distances.{lookahead_m}
 use Rattle.matching.specs.Followed.{followed_on}
 use Rattle.matching.proofs.followed.Lines.{lent-as, ahead-as}
-use borrow.Author.Rules.{rules}
 use Rattle.matching.proofs.followed.ahead.Goals as goal
 
 pub line_at_along-requires : goal.line_at_along-requires

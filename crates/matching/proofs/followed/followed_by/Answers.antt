@@ -1,5 +1,4 @@
 -- `matching::followed::followed_by` meets its contract.
-use borrow.Author.Rules.{rules}
 use Rattle.matching.proofs.followed.followed_by.Goals as goal
 
 pub returns : goal.returns

@@ -3,7 +3,6 @@ use mathlib.Core.Path.{ap, ◌∙◌}
 use Rattle.segments.specs.declared.costs.Nearest.{Nearest}
 use Rattle.segments.specs.declared.Best.TheVariants.{Found}
 use Rattle.matching.proofs.followed.Lines.{matched-from, matched-none, matched-some}
-use borrow.Author.Rules.{rules}
 use Rattle.matching.proofs.followed.matched.Goals as goal
 
 pub returns-in_default : goal.returns-in_default

@@ -3,7 +3,6 @@ use mathlib.Core.Path.{◌∙◌}
 use Rattle.state.specs.declared.Line.TheVariants as line
 use Rattle.matching.specs.Followed.{followed_on}
 use Rattle.matching.proofs.followed.Lines.{lent-as, nearest_by, nearest-as}
-use borrow.Author.Rules.{rules}
 use Rattle.matching.proofs.followed.nearest.Goals as goal
 
 pub nearest_on_course-requires : goal.nearest_on_course-requires

@@ -7,7 +7,6 @@ use Rattle.state.specs.declared.Mode.TheVariants as mode
 use Rattle.matching.specs.declared.followed.Way.{Way}
 use Rattle.matching.specs.Followed.{way_on}
 use Rattle.matching.specs.View.{line_in}
-use borrow.Author.Rules.{rules}
 use Rattle.matching.proofs.followed.way_on.Goals as goal
 
 pub returns-then-off : goal.returns-then-off

@@ -1,7 +1,6 @@
 -- `matching::followed::widened` meets its contract.
 use mathlib.Core.Path.{sym, ◌∙◌}
 use Rattle.matching.proofs.followed.Lines.{widened-off, widened-on}
-use borrow.Author.Rules.{rules}
 use Rattle.matching.proofs.followed.widened.Goals as goal
 
 pub returns-then-lost : goal.returns-then-lost

@@ -1,5 +1,4 @@
 -- `plane::squares::off_square` meets its contract.
-use Rattle.std.proofs.Common.{rules}
 use Rattle.plane.specs.Square.{off_square}
 use Rattle.plane.proofs.squares.off_square.Goals as goal
 

@@ -1,7 +1,6 @@
 -- `questions::counts::crumbs_fit` meets its contract: those passed and those to come are all.
 use Prim.Native.Nat.{◌-◌}
-use native.Mathlib.Omega.{arith}
-use Rattle.questions.proofs.counts.Scans.{Passing, passing-from, passing-next, passing-end}
+use Rattle.questions.proofs.counts.Scans.{Passing}
 use Rattle.questions.proofs.counts.crumbs_fit.Given as goal
 
 abbrev pub invariant-loop-i : goal.invariant-loop-i

@@ -1,6 +1,5 @@
 -- `questions::counts::follow_fits` meets its contract: the tests are the rule's.
 use Rattle.calls.specs.Questions.{follow_fits}
-use borrow.Author.Rules.{rules}
 use Rattle.questions.proofs.counts.follow_fits.Goals as goal
 
 pub returns-in-Nothing : goal.returns-in-Nothing

@@ -1,6 +1,5 @@
 -- `questions::counts::held_fits` meets its contract: the count is tested first.
 use borrow.Author.Tests.{le-leb, lt-leb}
-use borrow.Author.Rules.{rules}
 use Rattle.questions.proofs.counts.held_fits.Goals as goal
 
 pub returns-then-len-capacity : goal.returns-then-len-capacity

@@ -1,6 +1,5 @@
 -- `questions::counts::question1` meets its contract: the tests are the rule's.
 use Rattle.calls.specs.Questions.{question1}
-use borrow.Author.Rules.{rules}
 use Rattle.questions.proofs.counts.question1.Goals as goal
 
 pub returns : goal.returns

@@ -1,5 +1,4 @@
 -- `questions::counts::ten_then_four` meets its contract: the tests are the rule's.
-use borrow.Author.Tests.{not-true, not-false}
 use Rattle.questions.proofs.counts.ten_then_four.Goals as goal
 
 pub returns-then-not-ten : goal.returns-then-not-ten

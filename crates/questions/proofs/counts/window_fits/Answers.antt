@@ -1,7 +1,7 @@
 -- `questions::counts::window_fits` meets its contract: those passed fit.
 use Prim.Native.Nat.{◌-◌}
 use native.Mathlib.Omega.{arith}
-use Rattle.questions.proofs.counts.Scans.{Waiting, waiting-start, waiting-next, waiting-end}
+use Rattle.questions.proofs.counts.Scans.{waiting-start, waiting-next, waiting-end}
 use Rattle.questions.proofs.counts.window_fits.Goals as goal
 
 pub loop-i-init : goal.loop-i-init

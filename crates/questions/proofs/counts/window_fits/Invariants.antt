@@ -1,7 +1,6 @@
 -- `questions::counts::window_fits` meets its contract: those passed fit.
 use Prim.Native.Nat.{◌-◌}
-use native.Mathlib.Omega.{arith}
-use Rattle.questions.proofs.counts.Scans.{Waiting, waiting-start, waiting-next, waiting-end}
+use Rattle.questions.proofs.counts.Scans.{Waiting}
 use Rattle.questions.proofs.counts.window_fits.Given as goal
 
 abbrev pub invariant-loop-i : goal.invariant-loop-i

@@ -1,8 +1,6 @@
 -- `questions::globe::asks_fix` meets its contract: latitude is asked before longitude.
-use borrow.Author.Tests.{not-true, not-false}
 use Rattle.calls.specs.Questions.{latitude_fits, longitude_fits, asks_fix}
 use Rattle.questions.proofs.globe.Fixes.{asked}
-use borrow.Author.Rules.{rules}
 use Rattle.questions.proofs.globe.asks_fix.Goals as goal
 
 pub returns-then-not-latitude : goal.returns-then-not-latitude

@@ -1,10 +1,7 @@
 -- `questions::globe::asks_fixes` meets its contract: none of those passed says no.
 use Prim.Native.Nat.{◌-◌}
 use native.Mathlib.Omega.{arith}
-use borrow.Author.Tests.{ltb-true, ltb-false}
-use borrow.Author.Rules.{rules}
-use lib.ListN.{length}
-use Rattle.questions.proofs.globe.Fixes.{fix-handed, Asking, asking-start, asking-no, asking-next, lats-end, lons-end}
+use Rattle.questions.proofs.globe.Fixes.{fix-handed, asking-start, asking-no, asking-next, lats-end, lons-end}
 use Rattle.questions.proofs.globe.asks_fixes.Goals as goal
 
 pub loop-i-init : goal.loop-i-init

@@ -4,7 +4,6 @@ use mir.Syntax.{w32}
 use mir.ValLaws.{to_z-of_z}
 use Rattle.calls.specs.Questions.{latitude_fits}
 use Rattle.questions.proofs.globe.Fixes.{abs-within}
-use borrow.Author.Rules.{rules}
 use Rattle.questions.proofs.globe.latitude_fits.Goals as goal
 
 pub returns : goal.returns

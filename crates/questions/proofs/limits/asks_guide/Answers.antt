@@ -1,6 +1,5 @@
 -- `questions::limits::asks_guide` meets its contract: the tests are the rule's.
 use Rattle.calls.specs.Questions.{asks_guide}
-use borrow.Author.Rules.{rules}
 use Rattle.questions.proofs.limits.asks_guide.Goals as goal
 
 pub returns-then-guide_fits : goal.returns-then-guide_fits

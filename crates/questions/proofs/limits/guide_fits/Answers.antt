@@ -1,6 +1,5 @@
 -- `questions::limits::guide_fits` meets its contract: the tests are the rule's.
 use Rattle.calls.specs.Questions.{guide_fits}
-use borrow.Author.Rules.{rules}
 use Rattle.questions.proofs.limits.guide_fits.Goals as goal
 
 pub returns : goal.returns

@@ -1,6 +1,5 @@
 -- `questions::limits::heading_fits` meets its contract: the tests are the rule's.
 use Rattle.calls.specs.Questions.{heading_fits}
-use borrow.Author.Rules.{rules}
 use Rattle.questions.proofs.limits.heading_fits.Goals as goal
 
 pub returns-in-Known : goal.returns-in-Known

@@ -1,6 +1,5 @@
 -- `questions::limits::place_fits` meets its contract: the tests are the rule's.
 use Rattle.calls.specs.Questions.{place_fits}
-use borrow.Author.Rules.{rules}
 use Rattle.questions.proofs.limits.place_fits.Goals as goal
 
 pub returns : goal.returns

@@ -1,6 +1,5 @@
 -- `questions::limits::shown_fits` meets its contract: the tests are the rule's.
 use Rattle.calls.specs.Questions.{shown_fits}
-use borrow.Author.Rules.{rules}
 use Rattle.questions.proofs.limits.shown_fits.Goals as goal
 
 pub returns-in-Guide : goal.returns-in-Guide

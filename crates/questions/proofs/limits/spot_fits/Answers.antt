@@ -1,6 +1,5 @@
 -- `questions::limits::spot_fits` meets its contract: the tests are the rule's.
 use Rattle.calls.specs.Questions.{spot_fits}
-use borrow.Author.Rules.{rules}
 use Rattle.questions.proofs.limits.spot_fits.Goals as goal
 
 pub returns-in-At : goal.returns-in-At

@@ -1,7 +1,6 @@
 -- `retelling::lines::capital` meets its contract.
 use borrow.Author.Tests.{lt-ltb, le-ltb}
 use Rattle.retelling.specs.Text.{capital}
-use borrow.Author.Rules.{rules}
 use Rattle.retelling.proofs.lines.capital.Goals as goal
 
 pub returns-then-d-lt10 : goal.returns-then-d-lt10

@@ -1,6 +1,5 @@
 -- `retelling::lines::put_byte` meets its contract.
 use Rattle.retelling.proofs.lines.Writing.{writes_byte, writes-full}
-use borrow.Author.Rules.{rules}
 use Rattle.retelling.proofs.lines.put_byte.Goals as goal
 
 pub returns-then-at-text : goal.returns-then-at-text

@@ -1,7 +1,6 @@
 -- `retelling::lines::put_crumb` meets its contract.
 use Rattle.retelling.proofs.lines.Writing.{writes_then}
 use Rattle.retelling.specs.Text.{crumb_line}
-use borrow.Author.Rules.{rules}
 use Rattle.retelling.proofs.lines.put_crumb.Goals as goal
 
 pub returns : goal.returns

@@ -1,10 +1,6 @@
 -- `retelling::lines::put_crumbs` meets its contract: behind what stood before are the lines of the crumbs that are passed.
-use Prim.Native.Nat.{◌≤◌, ◌-◌}
-use Rattle.crumbs.specs.Crumb.{crumbs}
-use Rattle.retelling.specs.Writing.{Writes}
-use Rattle.retelling.specs.Text.{crumb_lines}
+use Prim.Native.Nat.{◌-◌}
 use native.Mathlib.Omega.{arith}
-use Rattle.retelling.proofs.lines.Writing.{writes-none}
 use Rattle.retelling.proofs.lines.Numbers.{writes-no-crumb, writes-crumb, writes-crumbs}
 use Rattle.retelling.proofs.lines.put_crumbs.Goals as goal
 

@@ -3,9 +3,6 @@ use Prim.Native.Nat.{◌≤◌, ◌-◌}
 use Rattle.crumbs.specs.Crumb.{crumbs}
 use Rattle.retelling.specs.Writing.{Writes}
 use Rattle.retelling.specs.Text.{crumb_lines}
-use native.Mathlib.Omega.{arith}
-use Rattle.retelling.proofs.lines.Writing.{writes-none}
-use Rattle.retelling.proofs.lines.Numbers.{writes-no-crumb, writes-crumb, writes-crumbs}
 use Rattle.retelling.proofs.lines.put_crumbs.Given as goal
 
 abbrev pub invariant-loop-i : goal.invariant-loop-i

@@ -1,5 +1,4 @@
 -- `retelling::lines::put_decimal` meets its contract: the digits that the kit gives are the decimal.
-use borrow.Author.Rules.{rules}
 use Rattle.retelling.proofs.lines.Numbers.{writes-decimal}
 use Rattle.retelling.proofs.lines.put_decimal.Goals as goal
 

@@ -1,7 +1,6 @@
 -- `retelling::lines::put_first` meets its contract.
 use Rattle.retelling.proofs.lines.Writing.{writes_then}
 use Rattle.retelling.specs.Text.{first_line}
-use borrow.Author.Rules.{rules}
 use Rattle.retelling.proofs.lines.put_first.Goals as goal
 
 pub returns : goal.returns

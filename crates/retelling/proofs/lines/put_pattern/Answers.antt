@@ -1,7 +1,6 @@
 -- `retelling::lines::put_pattern` meets its contract.
 use mathlib.Core.Path.{sym}
 use Rattle.retelling.specs.Text.{pattern}
-use borrow.Author.Rules.{rules}
 use Rattle.retelling.proofs.lines.put_pattern.Goals as goal
 
 pub returns : goal.returns

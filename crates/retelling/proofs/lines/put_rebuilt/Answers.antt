@@ -1,7 +1,6 @@
 -- `retelling::lines::put_rebuilt` meets its contract.
 use native.Mathlib.Omega.{arith}
 use Rattle.retelling.proofs.lines.Lengths.{tells_first}
-use borrow.Author.Rules.{rules}
 use Rattle.retelling.proofs.lines.put_rebuilt.Goals as goal
 
 pub returns : goal.returns

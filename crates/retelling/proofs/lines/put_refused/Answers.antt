@@ -3,7 +3,6 @@ use native.Mathlib.Omega.{arith}
 use Rattle.retelling.specs.Text.{refused_text}
 use Rattle.retelling.proofs.lines.Writing.{writes_then}
 use Rattle.retelling.proofs.lines.Lengths.{tells-number}
-use borrow.Author.Rules.{rules}
 use Rattle.retelling.proofs.lines.put_refused.Goals as goal
 
 pub returns : goal.returns

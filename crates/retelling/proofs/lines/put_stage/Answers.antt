@@ -1,6 +1,5 @@
 -- `retelling::lines::put_stage` meets its contract.
 use Rattle.retelling.specs.Text.{stage_text}
-use borrow.Author.Rules.{rules}
 use Rattle.retelling.proofs.lines.put_stage.Goals as goal
 
 pub returns-then-decided : goal.returns-then-decided

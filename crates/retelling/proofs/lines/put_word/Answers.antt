@@ -1,8 +1,6 @@
 -- `retelling::lines::put_word` meets its contract: behind what stood before are the bytes of the word that are passed.
-use Prim.Native.Nat.{◌≤◌, ◌-◌}
+use Prim.Native.Nat.{◌-◌}
 use mathlib.Core.Path.{refl}
-use lib.ListN.{length, take}
-use Rattle.retelling.specs.Writing.{Writes}
 use native.Mathlib.Omega.{arith}
 use Rattle.retelling.proofs.lines.Writing.{writes-none, writes-next, writes-whole}
 use Rattle.retelling.proofs.lines.put_word.Goals as goal

@@ -1,6 +1,5 @@
 -- `log::file_questions::asks_entry` meets its contract.
 use Rattle.ride_log.proofs.file_questions.Asking.{entry-count, entry-places}
-use borrow.Author.Rules.{rules}
 use Rattle.ride_log.proofs.file_questions.asks_entry.Goals as goal
 
 pub returns-then-count-gt-SAMPLES : goal.returns-then-count-gt-SAMPLES

@@ -4,7 +4,6 @@ use mathlib.Core.Path.{refl}
 use native.Mathlib.Omega.{arith}
 use Rattle.ride_log.specs.Entry.{record_count}
 use Rattle.ride_log.proofs.file_questions.Asking.{counted, file-size, file-chain, file-records}
-use borrow.Author.Rules.{rules}
 use Rattle.ride_log.proofs.file_questions.asks_file.Goals as goal
 
 pub returns-then-not-question6 : goal.returns-then-not-question6

@@ -2,7 +2,6 @@
 use mathlib.Core.Path.{sym, ap}
 use Rattle.calls.specs.Calls.{asks_place}
 use Rattle.ride_log.proofs.file_questions.Asking.{place-asked}
-use borrow.Author.Rules.{rules}
 use Rattle.ride_log.proofs.file_questions.asks_place.Goals as goal
 
 pub returns-in-At : goal.returns-in-At

@@ -1,7 +1,6 @@
 -- `log::file_questions::asks_record` meets its contract.
 use Rattle.std.proofs.lemmas.Bool.{not_from_false, not_from_true}
 use Rattle.ride_log.proofs.file_questions.Asking.{record-kind, record-entry}
-use borrow.Author.Rules.{rules}
 use Rattle.ride_log.proofs.file_questions.asks_record.Goals as goal
 
 pub returns-then-not-question8 : goal.returns-then-not-question8

@@ -1,6 +1,6 @@
 -- `log::file_questions::asks_records` meets its contract: the records along the chain are asked in its order.
 use native.Mathlib.Omega.{arith}
-use Rattle.ride_log.proofs.file_questions.Asking.{Walking, walking_start, walking-next, walking-no, walking-over, walking-none}
+use Rattle.ride_log.proofs.file_questions.Asking.{walking_start, walking-next, walking-no, walking-over, walking-none}
 use Rattle.ride_log.proofs.file_questions.asks_records.Goals as goal
 
 pub next_of-index-requires : goal.next_of-index-requires

@@ -1,6 +1,5 @@
 -- `log::file_questions::asks_records` meets its contract: the records along the chain are asked in its order.
-use native.Mathlib.Omega.{arith}
-use Rattle.ride_log.proofs.file_questions.Asking.{Walking, walking_start, walking-next, walking-no, walking-over, walking-none}
+use Rattle.ride_log.proofs.file_questions.Asking.{Walking}
 use Rattle.ride_log.proofs.file_questions.asks_records.Given as goal
 
 abbrev pub invariant-loop-left : goal.invariant-loop-left

@@ -1,7 +1,6 @@
 -- `log::file_questions::asks_used` meets its contract: the samples up to the count are asked in their order.
 use Prim.Native.Nat.{◌-◌}
-use native.Mathlib.Omega.{arith}
-use Rattle.ride_log.proofs.file_questions.Asking.{Using, using-start, using-no, using-next, using-end}
+use Rattle.ride_log.proofs.file_questions.Asking.{Using}
 use Rattle.ride_log.proofs.file_questions.asks_used.Given as goal
 
 abbrev pub invariant-loop-k : goal.invariant-loop-k

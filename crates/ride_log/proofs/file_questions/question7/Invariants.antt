@@ -1,7 +1,6 @@
 -- `log::file_questions::question7` meets its contract: a chain of as many records as there are has reached one of them twice. Assumes
 -- nothing.
-use native.Mathlib.Omega.{arith}
-use Rattle.ride_log.proofs.file_questions.Asking.{Stepping, stepping-start, stepping-next, stepping-over, stepping-out, stepping-none}
+use Rattle.ride_log.proofs.file_questions.Asking.{Stepping}
 use Rattle.ride_log.proofs.file_questions.question7.Given as goal
 
 abbrev pub invariant-loop-left : goal.invariant-loop-left

@@ -1,5 +1,4 @@
 -- `segments::costs::ahead` meets its contract: the tests are the rule's.
-use borrow.Author.Rules.{rules}
 use lib.Ieee.{of_bits}
 use Rattle.binary32.specs.Arithmetic.{constant}
 use Rattle.segments.specs.CostConstants.{search_m}

@@ -1,5 +1,4 @@
 -- `segments::costs::contrary` meets its contract: the test is the rule's.
-use borrow.Author.Rules.{rules}
 use lib.Ieee.{of_bits}
 use Rattle.binary32.specs.Arithmetic.{constant}
 use Rattle.segments.specs.CostConstants.{against_m}

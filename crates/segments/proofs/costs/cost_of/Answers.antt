@@ -1,5 +1,4 @@
 -- `segments::costs::cost_of` meets its contract: each ranking has its own cost.
-use borrow.Author.Rules.{rules}
 use Rattle.segments.specs.Cost.{cost_of}
 use Rattle.segments.proofs.costs.cost_of.Goals as goal
 

@@ -1,6 +1,5 @@
 -- `segments::turns::against` meets its contract: the tests are the rule's.
 use borrow.Author.Tests.{le-leb, lt-leb}
-use borrow.Author.Rules.{rules}
 use Rattle.segments.specs.Turn.{against}
 use Rattle.segments.proofs.turns.against.Goals as goal
 

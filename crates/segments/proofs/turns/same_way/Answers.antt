@@ -1,6 +1,5 @@
 -- `segments::turns::same_way` meets its contract: the tests are the rule's.
 use borrow.Author.Tests.{le-leb, lt-leb}
-use borrow.Author.Rules.{rules}
 use Rattle.segments.specs.Turn.{same_way}
 use Rattle.segments.proofs.turns.Testing.{ltb-not}
 use Rattle.segments.proofs.turns.same_way.Goals as goal

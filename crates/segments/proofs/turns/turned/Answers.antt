@@ -1,6 +1,5 @@
 -- `segments::turns::turned` meets its contract: in 32 bits nothing overflows.
 use mathlib.Core.Path.{refl}
-use borrow.Author.Rules.{rules}
 use Rattle.segments.specs.Turn.{turned}
 use Rattle.segments.proofs.turns.turned.Goals as goal
 

@@ -1,5 +1,4 @@
 -- `segments::turns::turned_from` meets its contract: a bearing is below a whole turn.
-use borrow.Author.Rules.{rules}
 use Rattle.plane.proofs.Theorems.{bearing-below}
 use Rattle.segments.specs.Turn.{turned_from}
 use Rattle.segments.proofs.turns.turned_from.Goals as goal

@@ -15,7 +15,6 @@ use Rattle.follow.specs.Engage.{stop}
 use Rattle.follow.specs.View.{Follows}
 use Rattle.calls.specs.Follow.{auto_off}
 use Rattle.steer.proofs.way_home.Deciding.{follows-as, auto-set}
-use borrow.Author.Rules.{rules}
 use Rattle.steer.proofs.following.auto_off.Goals as goal
 
 pub stop_following-stopped-requires : goal.stop_following-stopped-requires

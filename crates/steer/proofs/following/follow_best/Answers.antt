@@ -12,7 +12,6 @@ use Rattle.calls.specs.Follow.{way_home, follow}
 use Rattle.state.specs.Guided.{whole}
 use Rattle.steer.proofs.way_home.Fitting.{engaged-fits}
 use Rattle.steer.proofs.way_home.Deciding.{decides-as, goes-on-course}
-use borrow.Author.Rules.{rules}
 use Rattle.steer.proofs.following.follow_best.Goals as goal
 
 pub way_home-requires : goal.way_home-requires

@@ -12,7 +12,6 @@ use Rattle.calls.specs.Follow.{brought, follow, follow_from}
 use Rattle.state.specs.Guided.{whole}
 use Rattle.steer.proofs.way_home.Fitting.{near-in}
 use Rattle.steer.proofs.way_home.Deciding.{decides-as}
-use borrow.Author.Rules.{rules}
 use Rattle.steer.proofs.following.follow_from.Goals as goal
 
 pub near_here-best-requires : goal.near_here-best-requires

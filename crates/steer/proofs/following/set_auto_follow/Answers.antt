@@ -7,7 +7,6 @@ use Rattle.state.specs.State.{state_of, with_auto_follow}
 use Rattle.state.specs.Rule.{done}
 use Rattle.calls.specs.Follow.{auto_off, set_auto_follow}
 use Rattle.steer.proofs.way_home.Deciding.{follows-as}
-use borrow.Author.Rules.{rules}
 use Rattle.steer.proofs.following.set_auto_follow.Goals as goal
 
 pub returns-then-on : goal.returns-then-on

@@ -1,6 +1,5 @@
 -- `steer::following::set_following` meets its contract.
 use Rattle.steer.proofs.way_home.Deciding.{fit_apart, set-whole}
-use borrow.Author.Rules.{rules}
 use Rattle.steer.proofs.following.set_following.Goals as goal
 
 pub set_on-d-requires : goal.set_on-d-requires

@@ -11,7 +11,6 @@ use Rattle.calls.specs.Follow.{follow_from, set_following}
 use Rattle.state.specs.Guided.{whole}
 use Rattle.steer.proofs.way_home.Fitting.{stopped-fits}
 use Rattle.steer.proofs.way_home.Deciding.{decides-as, ends}
-use borrow.Author.Rules.{rules}
 use Rattle.steer.proofs.following.set_on.Goals as goal
 
 pub returns-then-follow : goal.returns-then-follow

@@ -2,7 +2,6 @@
 use Rattle.state.specs.Guided.{whole}
 use Rattle.update.specs.View.{told_in}
 use Rattle.steer.proofs.way_home.Deciding.{brought-nowhere, brought-at}
-use borrow.Author.Rules.{rules}
 use Rattle.steer.proofs.way_home.brought.Goals as goal
 
 pub returns-in_default : goal.returns-in_default

@@ -9,7 +9,6 @@ use Rattle.follow.specs.View.{course_of, decided_in}
 use Rattle.calls.specs.Follow.{brought, engaged_or}
 use Rattle.state.specs.Guided.{whole}
 use Rattle.steer.proofs.way_home.Deciding.{decides-as, decides-still}
-use borrow.Author.Rules.{rules}
 use Rattle.steer.proofs.way_home.engaged_or.Goals as goal
 
 pub returns-then-engaged : goal.returns-then-engaged

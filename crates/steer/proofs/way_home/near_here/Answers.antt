@@ -6,7 +6,6 @@ use Rattle.plane.specs.declared.Spot.{Spot}
 use Rattle.follow.specs.View.{course_of}
 use Rattle.matching.specs.Distances.{drop_m}
 use Rattle.calls.specs.Follow.{near_here}
-use borrow.Author.Rules.{rules}
 use Rattle.state.specs.Guided.{whole}
 use Rattle.steer.proofs.way_home.near_here.Goals as goal
 

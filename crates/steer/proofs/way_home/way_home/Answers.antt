@@ -5,7 +5,6 @@ use Rattle.follow.specs.View.{course_of, decided_in}
 use Rattle.state.specs.Guided.{whole}
 use Rattle.steer.proofs.way_home.Fitting.{idle-flushed, flushed-fits, home_fits}
 use Rattle.steer.proofs.way_home.Deciding.{goes-home}
-use borrow.Author.Rules.{rules}
 use Rattle.steer.proofs.way_home.way_home.Goals as goal
 
 pub flush-flushed-requires : goal.flush-flushed-requires

@@ -1,7 +1,6 @@
 -- `stored::fields::heading_at` meets its contract.
 use Rattle.stored.proofs.fields.Fielded.{heading-there, heading-missing}
 use mathlib.Core.Path.{◌∙◌, sym}
-use borrow.Author.Rules.{rules}
 use Rattle.stored.proofs.fields.heading_at.Goals as goal
 
 pub returns-then-flag_at : goal.returns-then-flag_at

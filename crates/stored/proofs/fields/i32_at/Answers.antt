@@ -4,7 +4,6 @@ use Rattle.ride_log.specs.Entry.{signed}
 use mir.ValLaws.{to_z-of_z}
 use mir.Syntax.{w32}
 use mathlib.Core.Path.{◌∙◌, ap}
-use borrow.Author.Rules.{rules}
 use Rattle.stored.proofs.fields.i32_at.Goals as goal
 
 pub returns : goal.returns

@@ -3,7 +3,6 @@ use Rattle.stored.specs.Fields.{lat_in}
 use mir.ValLaws.{to_z-of_z}
 use mir.Syntax.{w32}
 use mathlib.Core.Path.{◌∙◌, sym, ap}
-use borrow.Author.Rules.{rules}
 use Rattle.stored.proofs.fields.lat_in.Goals as goal
 
 pub returns-in-At : goal.returns-in-At

@@ -1,6 +1,5 @@
 -- `stored::fields::line_of` meets its contract.
 use Rattle.stored.proofs.fields.Fielded.{last_line}
-use borrow.Author.Rules.{rules}
 use Rattle.stored.proofs.fields.line_of.Goals as goal
 
 pub returns-in_default : goal.returns-in_default

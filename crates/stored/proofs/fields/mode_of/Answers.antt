@@ -1,6 +1,5 @@
 -- `stored::fields::mode_of` meets its contract.
 use Rattle.stored.proofs.fields.Fielded.{last-mode}
-use borrow.Author.Rules.{rules}
 use Rattle.stored.proofs.fields.mode_of.Goals as goal
 
 pub returns-in_default : goal.returns-in_default

@@ -1,6 +1,5 @@
 -- `stored::fields::pass_of` meets its contract.
 use Rattle.stored.proofs.fields.Fielded.{last-stage}
-use borrow.Author.Rules.{rules}
 use Rattle.stored.proofs.fields.pass_of.Goals as goal
 
 pub returns-in_default : goal.returns-in_default

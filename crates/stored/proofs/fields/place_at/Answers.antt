@@ -3,7 +3,6 @@ use Rattle.stored.proofs.fields.Fielded.{place-there, place-missing}
 use mir.ValLaws.{to_z-of_z}
 use mir.Syntax.{w32}
 use mathlib.Core.Path.{◌∙◌, sym}
-use borrow.Author.Rules.{rules}
 use Rattle.stored.proofs.fields.place_at.Goals as goal
 
 pub returns-then-flag_at : goal.returns-then-flag_at

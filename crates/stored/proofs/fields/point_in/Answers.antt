@@ -2,7 +2,6 @@
 use lib.Ieee.{of_bits}
 use Rattle.stored.specs.Fields.{point_in}
 use mathlib.Core.Path.{sym, ap}
-use borrow.Author.Rules.{rules}
 use Rattle.stored.proofs.fields.point_in.Goals as goal
 
 pub returns-in-Nowhere : goal.returns-in-Nowhere

@@ -1,11 +1,8 @@
 -- `stored::fields::put_numbers` meets its contract.
-use native.Mathlib.Omega.{arith}
-use lib.Ieee.{nan}
 use Prim.Native.Nat.{◌-◌}
-use mathlib.Core.Path.{◌≡◌, refl}
+use mathlib.Core.Path.{◌≡◌}
 use lib.ListN.{length}
-use Rattle.stored.proofs.fields.Copying.{Copied, copied-start, copied_on, copied-end}
-use borrow.Author.Rules.{rules}
+use Rattle.stored.proofs.fields.Copying.{Copied}
 use Rattle.stored.proofs.fields.put_numbers.Given as goal
 
 abbrev pub invariant-loop-i : goal.invariant-loop-i

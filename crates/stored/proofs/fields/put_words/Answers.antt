@@ -1,10 +1,8 @@
 -- `stored::fields::put_words` meets its contract.
 use native.Mathlib.Omega.{arith}
 use Prim.Native.Nat.{◌-◌}
-use mathlib.Core.Path.{◌≡◌, refl}
-use lib.ListN.{length}
-use Rattle.stored.proofs.fields.Copying.{Copied, copied-start, copied_on, copied-end}
-use borrow.Author.Rules.{rules}
+use mathlib.Core.Path.{refl}
+use Rattle.stored.proofs.fields.Copying.{copied-start, copied_on, copied-end}
 use Rattle.stored.proofs.fields.put_words.Goals as goal
 
 pub loop-i-init : goal.loop-i-init

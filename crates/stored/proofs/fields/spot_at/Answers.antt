@@ -1,7 +1,6 @@
 -- `stored::fields::spot_at` meets its contract.
 use Rattle.stored.proofs.fields.Fielded.{spot-there, spot-missing}
 use mathlib.Core.Path.{◌∙◌, sym}
-use borrow.Author.Rules.{rules}
 use Rattle.stored.proofs.fields.spot_at.Goals as goal
 
 pub returns-then-flag_at : goal.returns-then-flag_at

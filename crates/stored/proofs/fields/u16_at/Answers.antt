@@ -1,6 +1,5 @@
 -- `stored::fields::u16_at` meets its contract.
 use borrow.Author.Tests.{le-leb, lt-leb}
-use borrow.Author.Rules.{rules}
 use Rattle.stored.proofs.fields.u16_at.Goals as goal
 
 pub returns-then-word-le-U16 : goal.returns-then-word-le-U16

@@ -1,6 +1,5 @@
 -- `stored::fields::u32_at` meets its contract.
 use borrow.Author.Tests.{le-leb, lt-leb}
-use borrow.Author.Rules.{rules}
 use Rattle.stored.proofs.fields.u32_at.Goals as goal
 
 pub returns-then-word-le-U32 : goal.returns-then-word-le-U32

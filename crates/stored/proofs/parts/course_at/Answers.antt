@@ -1,6 +1,5 @@
 -- `stored::parts::course_at` meets its contract.
 use Rattle.stored.specs.Parts.{course_at}
-use borrow.Author.Rules.{rules}
 use Rattle.stored.proofs.parts.course_at.Goals as goal
 
 pub returns : goal.returns

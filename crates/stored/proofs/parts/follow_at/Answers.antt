@@ -1,6 +1,5 @@
 -- `stored::parts::follow_at` meets its contract.
 use Rattle.stored.specs.Parts.{follow_at}
-use borrow.Author.Rules.{rules}
 use Rattle.stored.proofs.parts.follow_at.Goals as goal
 
 pub returns : goal.returns

@@ -2,9 +2,8 @@
 use Rattle.stored.proofs.fields.Fitting.{none_left, and_in, line-most, spot-most, flag-most}
 use Prim.Native.Nat.{◌≤◌}
 use native.Mathlib.Omega.{arith}
-use mathlib.Core.Path.{refl, ap, ◌∙◌}
+use mathlib.Core.Path.{refl}
 use Rattle.stored.proofs.fields.Copying.{cons}
-use borrow.Author.Rules.{rules}
 use Rattle.stored.proofs.parts.follow_words.Goals as goal
 
 pub returns : goal.returns

@@ -1,6 +1,5 @@
 -- `stored::parts::frame_at` meets its contract.
 use Rattle.stored.specs.Parts.{frame_at}
-use borrow.Author.Rules.{rules}
 use Rattle.stored.proofs.parts.frame_at.Goals as goal
 
 pub returns : goal.returns

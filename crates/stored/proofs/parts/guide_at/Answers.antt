@@ -1,6 +1,5 @@
 -- `stored::parts::guide_at` meets its contract.
 use Rattle.stored.specs.Parts.{guide_read}
-use borrow.Author.Rules.{rules}
 use Rattle.stored.proofs.parts.guide_at.Goals as goal
 
 pub returns : goal.returns

@@ -1,11 +1,10 @@
 -- `stored::parts::guide_words` meets its contract.
-use Rattle.stored.proofs.fields.Fitting.{none_left, and_in, mode-most, flag-most}
+use Rattle.stored.proofs.fields.Fitting.{and_in, mode-most, flag-most}
 use Prim.Native.Nat.{◌≤◌}
 use native.Mathlib.Omega.{arith}
 use lib.ListN.{get_or}
-use mathlib.Core.Path.{refl, ap, ◌∙◌}
+use mathlib.Core.Path.{refl, ap}
 use Rattle.stored.proofs.fields.Copying.{cons}
-use borrow.Author.Rules.{rules}
 use Rattle.stored.proofs.parts.guide_words.Goals as goal
 
 pub returns : goal.returns

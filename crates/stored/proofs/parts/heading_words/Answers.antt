@@ -3,9 +3,8 @@ use Rattle.stored.specs.Fields.{heading_in}
 use Rattle.stored.proofs.fields.Fitting.{none_left, and_in, heading-most}
 use Prim.Native.Nat.{◌≤◌}
 use native.Mathlib.Omega.{arith}
-use mathlib.Core.Path.{refl, ap, ◌∙◌}
+use mathlib.Core.Path.{refl}
 use Rattle.stored.proofs.fields.Copying.{cons}
-use borrow.Author.Rules.{rules}
 use Rattle.stored.proofs.parts.heading_words.Goals as goal
 
 pub returns : goal.returns

@@ -1,6 +1,5 @@
 -- `stored::parts::lap_at` meets its contract.
 use Rattle.stored.specs.Parts.{lap_at}
-use borrow.Author.Rules.{rules}
 use Rattle.stored.proofs.parts.lap_at.Goals as goal
 
 pub returns : goal.returns

@@ -1,8 +1,7 @@
 -- `stored::parts::lap_words` meets its contract.
 use Rattle.stored.proofs.fields.Fitting.{none_left, and_in, stage-most, spot-most, flag-most}
-use mathlib.Core.Path.{refl, ap, ◌∙◌}
+use mathlib.Core.Path.{refl}
 use Rattle.stored.proofs.fields.Copying.{cons}
-use borrow.Author.Rules.{rules}
 use Rattle.stored.proofs.parts.lap_words.Goals as goal
 
 pub returns : goal.returns

@@ -1,6 +1,5 @@
 -- `stored::parts::motion_at` meets its contract.
 use Rattle.stored.specs.Parts.{motion_at}
-use borrow.Author.Rules.{rules}
 use Rattle.stored.proofs.parts.motion_at.Goals as goal
 
 pub returns : goal.returns

@@ -4,9 +4,8 @@ use Rattle.stored.proofs.fields.Fitting.{none_left, and_in, and-part, spot-most}
 use Prim.Native.Nat.{◌≤◌}
 use native.Mathlib.Omega.{arith}
 use lib.ListN.{get_or}
-use mathlib.Core.Path.{refl, ap, ◌∙◌}
+use mathlib.Core.Path.{refl, ap}
 use Rattle.stored.proofs.fields.Copying.{cons}
-use borrow.Author.Rules.{rules}
 use Rattle.stored.proofs.parts.motion_words.Goals as goal
 
 pub returns : goal.returns

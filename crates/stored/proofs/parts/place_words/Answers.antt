@@ -1,10 +1,5 @@
 -- `stored::parts::place_words` meets its contract.
 use Rattle.stored.proofs.parts.Parts.{place-words-there}
-use mir.ValLaws.{to_z-of_z}
-use mir.Syntax.{w32}
-use mathlib.Core.Path.{◌∙◌}
-use Rattle.stored.proofs.parts.Parts.{words-there}
-use borrow.Author.Rules.{rules}
 use Rattle.stored.proofs.parts.place_words.Goals as goal
 
 pub returns : goal.returns

@@ -2,7 +2,6 @@
 use Rattle.stored.specs.Parts.{shown_at}
 use Rattle.stored.proofs.parts.Parts.{shown-there, shown-missing}
 use mathlib.Core.Path.{◌∙◌, sym}
-use borrow.Author.Rules.{rules}
 use Rattle.stored.proofs.parts.shown_at.Goals as goal
 
 pub returns-then-flag_at : goal.returns-then-flag_at

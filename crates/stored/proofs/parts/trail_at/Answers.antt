@@ -1,6 +1,5 @@
 -- `stored::parts::trail_at` meets its contract.
 use Rattle.stored.specs.Parts.{trail_at}
-use borrow.Author.Rules.{rules}
 use Rattle.stored.proofs.parts.trail_at.Goals as goal
 
 pub returns : goal.returns

@@ -3,9 +3,8 @@ use lib.Ieee.{nan}
 use mathlib.Core.Path.{refl}
 use native.Mathlib.Omega.{arith}
 use Prim.Native.Nat.{◌-◌}
-use Rattle.stored.proofs.fields.Copying.{Copied, copied-start, copied_on}
+use Rattle.stored.proofs.fields.Copying.{copied-start, copied_on}
 use Rattle.stored.proofs.parts.Window.{part, part-long, part_at, part_end}
-use borrow.Author.Rules.{rules}
 use Rattle.stored.proofs.parts.window_at.Goals as goal
 
 pub loop-i-init : goal.loop-i-init

@@ -1,11 +1,7 @@
 -- `stored::parts::window_at` meets its contract.
-use lib.Ieee.{nan}
-use mathlib.Core.Path.{refl}
-use native.Mathlib.Omega.{arith}
 use Prim.Native.Nat.{◌-◌}
-use Rattle.stored.proofs.fields.Copying.{Copied, copied-start, copied_on}
-use Rattle.stored.proofs.parts.Window.{part, part-long, part_at, part_end}
-use borrow.Author.Rules.{rules}
+use Rattle.stored.proofs.fields.Copying.{Copied}
+use Rattle.stored.proofs.parts.Window.{part}
 use Rattle.stored.proofs.parts.window_at.Given as goal
 
 abbrev pub invariant-loop-i : goal.invariant-loop-i

@@ -1,8 +1,6 @@
 -- `stored::stored_rebuild::holds_rebuild` meets its contract.
-use borrow.Author.Tests.{not-true, not-false}
 use Rattle.stored.proofs.stored_rebuild.Holding.{outside-rebuild, inside-rebuild, in-room-rebuild}
 use mathlib.Core.Path.{sym, ◌∙◌}
-use borrow.Author.Rules.{rules}
 use Rattle.stored.proofs.stored_rebuild.holds_rebuild.Goals as goal
 
 pub returns-then-not-rebuild_within : goal.returns-then-not-rebuild_within

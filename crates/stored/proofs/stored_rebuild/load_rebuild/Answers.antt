@@ -1,7 +1,6 @@
 -- `stored::stored_rebuild::load_rebuild` meets its contract.
 use Rattle.stored.proofs.stored_rebuild.Holding.{loads-there-rebuild, loads-nothing-rebuild, loads-room-rebuild}
 use mathlib.Core.Path.{sym, ◌∙◌}
-use borrow.Author.Rules.{rules}
 use Rattle.stored.proofs.stored_rebuild.load_rebuild.Goals as goal
 
 pub rebuild_at-requires : goal.rebuild_at-requires

@@ -1,6 +1,5 @@
 -- `stored::stored_rebuild::rebuild_at` meets its contract.
 use Rattle.stored.specs.Rebuilt.{rebuild_at}
-use borrow.Author.Rules.{rules}
 use Rattle.stored.proofs.stored_rebuild.rebuild_at.Goals as goal
 
 pub returns : goal.returns

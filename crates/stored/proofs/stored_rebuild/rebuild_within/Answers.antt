@@ -1,12 +1,9 @@
 -- `stored::stored_rebuild::rebuild_within` meets its contract.
 use native.Mathlib.Omega.{arith}
 use Rattle.stored.proofs.fields.Limits.{within-short, within-over, within_on, within_end}
-use Rattle.stored.specs.Fields.{within}
 use Rattle.stored.specs.Rebuilt.{rebuild_mosts}
-use Prim.Native.Nat.{◌-◌, ◌≤◌}
-use mathlib.Core.Path.{◌≡◌, refl, sym, ◌∙◌}
-use lib.ListN.{length, drop}
-use borrow.Author.Rules.{rules}
+use Prim.Native.Nat.{◌-◌}
+use mathlib.Core.Path.{refl, sym, ◌∙◌}
 use Rattle.stored.proofs.stored_rebuild.rebuild_within.Goals as goal
 
 pub returns-then-words-lt-REBUILD_WORDS : goal.returns-then-words-lt-REBUILD_WORDS

@@ -1,12 +1,9 @@
 -- `stored::stored_rebuild::rebuild_within` meets its contract.
-use native.Mathlib.Omega.{arith}
-use Rattle.stored.proofs.fields.Limits.{within-short, within-over, within_on, within_end}
 use Rattle.stored.specs.Fields.{within}
 use Rattle.stored.specs.Rebuilt.{rebuild_mosts}
 use Prim.Native.Nat.{◌-◌, ◌≤◌}
-use mathlib.Core.Path.{◌≡◌, refl, sym, ◌∙◌}
+use mathlib.Core.Path.{◌≡◌}
 use lib.ListN.{length, drop}
-use borrow.Author.Rules.{rules}
 use Rattle.stored.proofs.stored_rebuild.rebuild_within.Given as goal
 
 abbrev pub invariant-loop-i : goal.invariant-loop-i

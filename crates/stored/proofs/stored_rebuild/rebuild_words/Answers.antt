@@ -6,7 +6,6 @@ use Prim.Native.Nat.{◌≤◌}
 use native.Mathlib.Omega.{arith}
 use mathlib.Core.Path.{◌≡◌, refl, ap, ◌∙◌}
 use Rattle.stored.proofs.fields.Copying.{cons}
-use borrow.Author.Rules.{rules}
 use Rattle.stored.proofs.stored_rebuild.rebuild_words.Goals as goal
 
 pub returns : goal.returns

@@ -2,7 +2,6 @@
 use Rattle.stored.specs.Rebuilt.{stage_read}
 use Rattle.stored.proofs.stored_rebuild.Fielded.{stage-there, stage-missing}
 use mathlib.Core.Path.{◌∙◌, sym}
-use borrow.Author.Rules.{rules}
 use Rattle.stored.proofs.stored_rebuild.stage_at.Goals as goal
 
 pub returns-then-flag_at : goal.returns-then-flag_at

@@ -1,6 +1,5 @@
 -- `stored::stored_rebuild::store_rebuild` meets its contract.
 use Rattle.stored.proofs.stored_rebuild.Storing.{stores-rebuild, rebuild-front}
-use borrow.Author.Rules.{rules}
 use Rattle.stored.proofs.stored_rebuild.store_rebuild.Goals as goal
 
 pub returns : goal.returns

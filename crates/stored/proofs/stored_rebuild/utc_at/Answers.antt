@@ -1,7 +1,6 @@
 -- `stored::stored_rebuild::utc_at` meets its contract.
 use Rattle.stored.proofs.stored_rebuild.Fielded.{utc-there, utc-missing}
 use mathlib.Core.Path.{◌∙◌, sym}
-use borrow.Author.Rules.{rules}
 use Rattle.stored.proofs.stored_rebuild.utc_at.Goals as goal
 
 pub returns-then-flag_at : goal.returns-then-flag_at

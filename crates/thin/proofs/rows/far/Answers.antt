@@ -1,7 +1,6 @@
 -- `thin::rows::far` meets its contract.
 use mathlib.Core.Path.{ap}
 use lib.Ieee.{le}
-use borrow.Author.Rules.{rules}
 use Rattle.thin.proofs.Testing.{squared}
 use Rattle.thin.proofs.rows.far.Goals as goal
 

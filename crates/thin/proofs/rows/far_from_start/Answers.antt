@@ -1,8 +1,5 @@
 -- `thin::rows::far_from_start` goes on by rows.
-use Prim.Native.Nat.{◌+◌, ◌-◌, ◌≤◌}
 use native.Mathlib.Omega.{arith}
-use Rattle.thin.specs.Rows.{far, Each}
-use Rattle.thin.proofs.Bounding.{was-true}
 use Rattle.thin.proofs.Testing.{each_none, each-then}
 use Rattle.thin.proofs.rows.far_from_start.Goals as goal
 

@@ -1,5 +1,4 @@
 -- `thin::rows::four_near` tests each of the four.
-use borrow.Author.Rules.{rules}
 use Rattle.thin.proofs.Testing.{each-four}
 use Rattle.thin.proofs.rows.four_near.Goals as goal
 

@@ -1,7 +1,6 @@
 -- `thin::rows::near` meets its contract.
 use mathlib.Core.Path.{refl, ap}
 use lib.Ieee.{Float, le}
-use borrow.Author.Rules.{rules}
 use Rattle.thin.proofs.Testing.{squared}
 use Rattle.thin.proofs.rows.near.Goals as goal
 

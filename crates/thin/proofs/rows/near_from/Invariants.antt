@@ -1,9 +1,6 @@
 -- `thin::rows::near_from` goes on by fours.
 use Prim.Native.Nat.{◌-◌, ◌≤◌}
-use native.Mathlib.Omega.{arith}
 use Rattle.thin.specs.Rows.{near, Each}
-use Rattle.thin.proofs.Bounding.{was-true}
-use Rattle.thin.proofs.Testing.{each_none, each-then}
 use Rattle.thin.proofs.rows.near_from.Given as goal
 
 abbrev pub invariant-loop-j : goal.invariant-loop-j

@@ -1,9 +1,5 @@
 -- `thin::rows::sixteen_far` tests each of the sixteen.
-use Prim.Native.Nat.{◌+◌, ◌-◌, ◌≤◌}
-use mathlib.Core.Path.{◌≡◌}
-use mathlib.Core.Bool.{true}
 use native.Mathlib.Omega.{arith}
-use Rattle.thin.specs.Rows.{far, Each}
 use Rattle.thin.proofs.Testing.{each_none, each-before, each_more}
 use Rattle.thin.proofs.rows.sixteen_far.Goals as goal
 

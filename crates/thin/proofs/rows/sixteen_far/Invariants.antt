@@ -2,9 +2,7 @@
 use Prim.Native.Nat.{◌+◌, ◌-◌, ◌≤◌}
 use mathlib.Core.Path.{◌≡◌}
 use mathlib.Core.Bool.{true}
-use native.Mathlib.Omega.{arith}
 use Rattle.thin.specs.Rows.{far, Each}
-use Rattle.thin.proofs.Testing.{each_none, each-before, each_more}
 use Rattle.thin.proofs.rows.sixteen_far.Given as goal
 
 abbrev pub invariant-loop-k : goal.invariant-loop-k
