@@ -1,6 +1,8 @@
 -- What `sqrtf`'s tests tell of x: that it is above zero, a zero, or neither; and of its bit pattern where it is above zero. Assumes
 -- nothing.
-use Rattle.std.proofs.Common.{◌≡◌, ℕ, zero, suc, ◌+◌, ◌*◌, ◌/◌, ◌%◌, ◌<◌, ◌≤◌, Bool, true, false, cond, not, ◌||◌, T, eqb, ltb, leb, ℤ, pos, sym, refl, ap, ◌∙◌, subst, inl, inr, zero-lt-suc, eq-zero-or-pos, mul-pos, zero-mul, mul-one, arith, eqb→eq, ltb→lt, lt→ltb, leb→le, T_not}
+use Rattle.std.proofs.Common.{◌≡◌, ℕ, zero, suc, ◌+◌, ◌*◌, ◌/◌, ◌%◌, ◌<◌, ◌≤◌, Bool, true, false, cond, not, ◌||◌, T, eqb, ltb, leb, ℤ, pos}
+use Rattle.std.proofs.Common.{sym, refl, ap, ◌∙◌, subst, inl, inr, zero-lt-suc, eq-zero-or-pos, mul-pos, zero-mul, mul-one, arith, eqb→eq}
+use Rattle.std.proofs.Common.{ltb→lt, lt→ltb, leb→le, T_not}
 use mathlib.Core.Bool.{beq}
 use lib.Dec.{nleb→lt}
 use lib.Ieee.{Float, nan, inf, fin, binary32, odd, of_fields, of_bits, to_bits, fits, is_nan, lt, eq, div, up, down, level}

@@ -1,5 +1,8 @@
 -- What the tests of `as_u32` and `as_f32` tell of the value, and the steps of `as_f32` to a magnitude. Assumes nothing.
-use Rattle.std.proofs.Common.{◌≡◌, ℕ, zero, suc, ◌+◌, ◌-◌, ◌*◌, ◌/◌, ◌^◌, ◌<◌, ◌≤◌, min, Bool, true, false, cond, not, T, ltb, ℤ, pos, negsuc, ◌-ℤ◌, nat_abs, sym, refl, ap, ◌∙◌, subst, true≢false, le_trans, le_of_eq, lt_of_lt_of_le, lt_of_le_of_lt, mul-le-mul_right, div-lt_iff_lt-mul, one-mul, le-div_iff_mul-le, mul-one, add-one, arith, lit≤, ltb→lt, lt→ltb, nltb→le, T_not, w64, Fits, SFits, to_z, of_z}
+use Rattle.std.proofs.Common.{◌≡◌, ℕ, zero, suc, ◌+◌, ◌-◌, ◌*◌, ◌/◌, ◌^◌, ◌<◌, ◌≤◌, min, Bool, true, false, cond, not, T, ltb, ℤ, pos}
+use Rattle.std.proofs.Common.{negsuc, ◌-ℤ◌, nat_abs, sym, refl, ap, ◌∙◌, subst, true≢false, le_trans, le_of_eq, lt_of_lt_of_le}
+use Rattle.std.proofs.Common.{lt_of_le_of_lt, mul-le-mul_right, div-lt_iff_lt-mul, one-mul, le-div_iff_mul-le, mul-one, add-one, arith}
+use Rattle.std.proofs.Common.{lit≤, ltb→lt, lt→ltb, nltb→le, T_not, w64, Fits, SFits, to_z, of_z}
 use mathlib.Core.Bool.{false≢true}
 use lib.IntN.{+ℤ_comm, -ℤ_one}
 use lib.Signed.{le_z, non_neg}

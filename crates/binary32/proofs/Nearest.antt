@@ -1,6 +1,11 @@
 -- `root` is the nearest value of the format (`root-nearest`), and finite where its operand is (`root-finite`), in the units of
 -- `specs/Nearest.antt`. The same is proved of `round` first, at any fraction (`grid-above`, `grid-below`). Assumes nothing.
-use Rattle.std.proofs.Common.{◌≡◌, ℕ, zero, suc, ◌+◌, ◌-◌, ◌*◌, ◌/◌, ◌%◌, ◌^◌, ◌<◌, ◌≤◌, Bool, true, false, not, T, leb, ◌⊎◌, sym, refl, ap, ◌∙◌, subst, inl, inr, le_trans, le_of_eq, lt_of_lt_of_le, le_of_suc-le-suc, le-add_right, lt_of_le_of_lt, le_of_lt, lt_irrefl, mul-le-mul_right, mod-lt, mul_assoc, suc-mul, mul_comm, add-mul, mul-le-mul, lt_of_mul-lt-mul_right, eq-or-lt_of_le, mul-le-mul_left, mul-lt-mul_of_pos_right, mul-pos, lt_of_not-le, div-add-mod', le-div_iff_mul-le, not-le_of_lt, div-mul-le_self, le_of_mul-le-mul_right, mul_left_comm, arith, lit<, lit≤, leb→le, pow_pos, pow_mono, pow-add, shl_lt}
+use Rattle.std.proofs.Common.{◌≡◌, ℕ, zero, suc, ◌+◌, ◌-◌, ◌*◌, ◌/◌, ◌%◌, ◌^◌, ◌<◌, ◌≤◌, Bool, true, false, not, T, leb, ◌⊎◌, sym, refl, ap}
+use Rattle.std.proofs.Common.{◌∙◌, subst, inl, inr, le_trans, le_of_eq, lt_of_lt_of_le, le_of_suc-le-suc, le-add_right, lt_of_le_of_lt}
+use Rattle.std.proofs.Common.{le_of_lt, lt_irrefl, mul-le-mul_right, mod-lt, mul_assoc, suc-mul, mul_comm, add-mul, mul-le-mul}
+use Rattle.std.proofs.Common.{lt_of_mul-lt-mul_right, eq-or-lt_of_le, mul-le-mul_left, mul-lt-mul_of_pos_right, mul-pos, lt_of_not-le}
+use Rattle.std.proofs.Common.{div-add-mod', le-div_iff_mul-le, not-le_of_lt, div-mul-le_self, le_of_mul-le-mul_right, mul_left_comm, arith}
+use Rattle.std.proofs.Common.{lit<, lit≤, leb→le, pow_pos, pow_mono, pow-add, shl_lt}
 use Prim.Native.Nat.{compare, Ordering}
 use native.Mathlib.Nat.{eq_of_mul-eq-mul_right}
 use native.Mathlib.Nat.{pow-succ'}

@@ -1,5 +1,6 @@
 -- In which range the nearest whole number to a root lies. Assumes nothing.
-use Rattle.std.proofs.Common.{ℕ, zero, suc, ◌+◌, ◌*◌, ◌^◌, ◌<◌, ◌≤◌, le_of_suc-le-suc, mul-le-mul_right, zero-lt-suc, mul-le-mul_left, lt_of_not-le, mul-suc, arith}
+use Rattle.std.proofs.Common.{ℕ, zero, suc, ◌+◌, ◌*◌, ◌^◌, ◌<◌, ◌≤◌, le_of_suc-le-suc, mul-le-mul_right, zero-lt-suc, mul-le-mul_left}
+use Rattle.std.proofs.Common.{lt_of_not-le, mul-suc, arith}
 
 pub at_least : (n q : ℕ) → 2 ^ 46 ≤ n → n ≤ q * q + q → 2 ^ 23 ≤ q
 at_least n q h k = le_of_suc-le-suc (lt_of_not-le (λ (g : suc q ≤ 2 ^ 23). no g (mul-le-mul_left q g)))

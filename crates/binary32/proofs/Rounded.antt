@@ -1,7 +1,11 @@
 -- Where `root_of` rounds to: in units of the format's smallest value let the exact root of a / c be that of N, times 2 ^ j, with N from hid
 -- * hid up to 4 * hid * hid. Then the result is q * 2 ^ j units, for the q whose midpoints q - 1/2 and q + 1/2 lie on either side of the
 -- root of N. Assumes nothing.
-use Rattle.std.proofs.Common.{◌≡◌, ℕ, zero, suc, ◌+◌, ◌-◌, ◌*◌, ◌/◌, ◌^◌, ◌<◌, ◌≤◌, false, sym, refl, ap, ◌∙◌, subst, inl, inr, le_trans, le_of_eq, lt_of_lt_of_le, lt_of_le_of_lt, le_of_lt, add_assoc, mul-le-mul_right, zero-lt-suc, mul_assoc, mul_comm, div-lt_iff_lt-mul, add-mul, add_comm, le_antisymm, eq-or-lt_of_le, mul-lt-mul_of_pos_right, mul-pos, one-mul, lt_of_not-le, le-div_iff_mul-le, mul-one, mul-add, not-le_of_lt, mul_left_comm, two-mul, arith, pow_pos, pow_mono, pow-add}
+use Rattle.std.proofs.Common.{◌≡◌, ℕ, zero, suc, ◌+◌, ◌-◌, ◌*◌, ◌/◌, ◌^◌, ◌<◌, ◌≤◌, false, sym, refl, ap, ◌∙◌, subst, inl, inr, le_trans}
+use Rattle.std.proofs.Common.{le_of_eq, lt_of_lt_of_le, lt_of_le_of_lt, le_of_lt, add_assoc, mul-le-mul_right, zero-lt-suc, mul_assoc}
+use Rattle.std.proofs.Common.{mul_comm, div-lt_iff_lt-mul, add-mul, add_comm, le_antisymm, eq-or-lt_of_le, mul-lt-mul_of_pos_right, mul-pos}
+use Rattle.std.proofs.Common.{one-mul, lt_of_not-le, le-div_iff_mul-le, mul-one, mul-add, not-le_of_lt, mul_left_comm, two-mul, arith}
+use Rattle.std.proofs.Common.{pow_pos, pow_mono, pow-add}
 use native.Mathlib.Nat.{add_left_comm}
 use native.Mathlib.Nat.{pow-succ'}
 use lib.Ieee.{Format, prec, low, hid, size, units, round}

@@ -1,6 +1,9 @@
 -- `isqrt n` is the whole part of the root of n, and `halves n` compares with twice a whole number h as twice the exact root of n does, that
 -- is, as n compares with h * h. Assumes nothing.
-use Rattle.std.proofs.Common.{◌≡◌, ℕ, zero, suc, ◌+◌, ◌*◌, ◌/◌, ◌^◌, ◌<◌, ◌≤◌, Bool, true, false, cond, not, T, eqb, ltb, sym, ap, ◌∙◌, subst, lt_of_lt_of_le, le_of_suc-le-suc, lt_of_le_of_lt, le_of_lt, add_assoc, lt_irrefl, zero-lt-suc, div-lt_iff_lt-mul, add-mul, mul-le-mul, add_comm, le_antisymm, one-mul, pow-suc, lt_of_not-le, mul-one, mul-add, not-le_of_lt, two-mul, add-one, arith, eqb→eq, ltb→lt, nltb→le}
+use Rattle.std.proofs.Common.{◌≡◌, ℕ, zero, suc, ◌+◌, ◌*◌, ◌/◌, ◌^◌, ◌<◌, ◌≤◌, Bool, true, false, cond, not, T, eqb, ltb, sym, ap, ◌∙◌}
+use Rattle.std.proofs.Common.{subst, lt_of_lt_of_le, le_of_suc-le-suc, lt_of_le_of_lt, le_of_lt, add_assoc, lt_irrefl, zero-lt-suc}
+use Rattle.std.proofs.Common.{div-lt_iff_lt-mul, add-mul, mul-le-mul, add_comm, le_antisymm, one-mul, pow-suc, lt_of_not-le, mul-one}
+use Rattle.std.proofs.Common.{mul-add, not-le_of_lt, two-mul, add-one, arith, eqb→eq, ltb→lt, nltb→le}
 use native.Mathlib.Nat.{add_left_comm}
 use lib.Dec.{eqb_refl}
 use lib.Ieee.{size}

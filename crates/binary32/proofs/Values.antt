@@ -1,5 +1,7 @@
 -- From the value of x, in smallest values, to the root that `assembled` gives. Assumes nothing.
-use Rattle.std.proofs.Common.{◌≡◌, ℕ, zero, suc, ◌+◌, ◌-◌, ◌*◌, ◌^◌, ◌<◌, false, sym, ap, ◌∙◌, le_trans, le_of_eq, lt_of_lt_of_le, lt_irrefl, mul-le-mul_right, zero-lt-suc, mul_assoc, mul_comm, pow-suc, mul-one, mul_right_comm, arith, lit≤, pow-add}
+use Rattle.std.proofs.Common.{◌≡◌, ℕ, zero, suc, ◌+◌, ◌-◌, ◌*◌, ◌^◌, ◌<◌, false, sym, ap, ◌∙◌, le_trans, le_of_eq, lt_of_lt_of_le}
+use Rattle.std.proofs.Common.{lt_irrefl, mul-le-mul_right, zero-lt-suc, mul_assoc, mul_comm, pow-suc, mul-one, mul_right_comm, arith, lit≤}
+use Rattle.std.proofs.Common.{pow-add}
 use lib.Ieee.{Float, binary32}
 use lib.Ieee.Exact.{HasValue}
 use lib.Ieee.Positive.{num, den, den_pos, positive_of_value, value→cross}

@@ -18,7 +18,8 @@ use Rattle.state.specs.declared.Event.{Event}
 use Rattle.state.specs.declared.Event.TheVariants as event
 use Rattle.state.specs.declared.Shown.TheVariants as shown
 use Rattle.state.specs.declared.Course.{Course}
-use Rattle.state.specs.State.{State, with_track, with_frame, with_fed, with_here, with_here_ms, with_motion, with_course, with_lap, with_guide}
+use Rattle.state.specs.State.{State, with_track, with_frame, with_fed, with_here, with_here_ms, with_motion, with_course, with_lap}
+use Rattle.state.specs.State.{with_guide}
 use Rattle.state.specs.State.{course_with}
 use Rattle.state.specs.Rule.{Done, done, and_then}
 use Rattle.follow.specs.Record.{add_in}

@@ -1,5 +1,6 @@
 -- Document 01, "Questions put to a call, first no wins". A NaN is neither of a size nor 0 or more.
-use Rattle.std.specs.Prelude.{ℕ, ◌-◌, ◌*◌, ◌^◌, Bool, true, false, ◌&&◌, ◌||◌, cond, List, [], ◌∷◌, leb, ltb, eqb, ℤ, nat_abs, length, Float}
+use Rattle.std.specs.Prelude.{ℕ, ◌-◌, ◌*◌, ◌^◌, Bool, true, false, ◌&&◌, ◌||◌, cond, List, [], ◌∷◌, leb, ltb, eqb, ℤ, nat_abs, length}
+use Rattle.std.specs.Prelude.{Float}
 use Rattle.std.specs.Float.{nan, inf, fin}
 use Rattle.std.specs.Float.Ieee.{up, down, le}
 use Rattle.binary32.specs.Limits.{plus_zero, size_of}

@@ -7,7 +7,8 @@ use native.Mathlib.Omega.{arith}
 use native.Mathlib.Numerals.{add-one}
 use native.Mathlib.Decide.{ℕ_discrete}
 use lib.ListN.{length, get_or, take, drop, set, length-set, length-take}
-use lib.Seq.{drop-cons, drop-drop, get_or-drop, get_or-take, get_or-set_same, get_or-set_other, drop-set-lt, take-suc-set, take_all, ext_get_or}
+use lib.Seq.{drop-cons, drop-drop, get_or-drop, get_or-take, get_or-set_same, get_or-set_other, drop-set-lt, take-suc-set, take_all}
+use lib.Seq.{ext_get_or}
 use lib.Ieee.{Float, nan}
 use Rattle.crumbs.specs.declared.Crumb.{Crumb}
 use Rattle.crumbs.specs.Crumb.{stride, capacity, crumb_at, crumbs, in_front, behind}
@@ -117,7 +118,8 @@ module _ (b : List Float) (i : ℕ) (c : Crumb) where
   -- put in place
   pub crumbs-put : (n : ℕ) → i < capacity (length b) → i < n → crumbs n (put_at b i c) ≡ set (crumbs n b) i c
   crumbs-put n fits below =
-      ext_get_or c (crumbs n (put_at b i c)) (set (crumbs n b) i c) (length-crumbs n (put_at b i c) ∙ sym (simp (length-set, length-crumbs)))
+      ext_get_or c (crumbs n (put_at b i c)) (set (crumbs n b) i c)
+      (length-crumbs n (put_at b i c) ∙ sym (simp (length-set, length-crumbs)))
       (λ j h. at j (rw length-crumbs at h) (ℕ_discrete j i))
     where
       at : (j : ℕ) → j < n → Dec (j ≡ i) → get_or (crumbs n (put_at b i c)) j c ≡ get_or (set (crumbs n b) i c) j c

@@ -42,7 +42,8 @@ module _ (now : ℕ) (h r : Homing) where
   abbrev lost_now : Bool
   lost_now = is_at h.here && ltb fix_lost_ms (elapsed now h.here_ms)
 
-  tested : (t : Bool) → lost_now ≡ t → (b : List Float) → (missing now (state_of h b)).state ≡ cond t (cleared (state_of h b)) (state_of h b)
+  tested : (t : Bool) → lost_now ≡ t → (b : List Float)
+      → (missing now (state_of h b)).state ≡ cond t (cleared (state_of h b)) (state_of h b)
   unfolding missing
   tested t e b = ap (λ (x : Bool). cond x (cleared (state_of h b)) (state_of h b)) e
 

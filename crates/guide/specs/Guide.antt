@@ -67,4 +67,5 @@ finished course p w e s =
 unfoldable pub direct : List Crumb → Point → State → Done Event
 direct course p s =
     let crumbs = s.track.crumbs in
-    finished course p (record { mode = mode.Direct; track = recorded_m crumbs p; off = plus_zero; target = start_of crumbs p }) event.Nothing s
+    finished course p
+    (record { mode = mode.Direct; track = recorded_m crumbs p; off = plus_zero; target = start_of crumbs p }) event.Nothing s

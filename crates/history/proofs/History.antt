@@ -57,7 +57,8 @@ pub none_yet : (C : ℕ) → (journal C []).state ≡ rule.new
 unfolding journal run
 none_yet C = refl
 
-pub one_more : (C : ℕ) (cs : List Call) (c : Call) → (after_call (stride * C) c (journal C cs).state).state ≡ (journal C (cs ++ c ∷ [])).state
+pub one_more : (C : ℕ) (cs : List Call) (c : Call)
+    → (after_call (stride * C) c (journal C cs).state).state ≡ (journal C (cs ++ c ∷ [])).state
 unfolding journal
 one_more C cs c = sym (run-last (stride * C) c cs rule.new)
 

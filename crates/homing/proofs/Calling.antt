@@ -68,7 +68,8 @@ module _ (c : Call) (h : Homing) (b : List Float) where
       }
 
 module _ (c : Call) (h r : Homing) (entry exit : List Float) where
-  pub takes : asks (length entry) c (state_of h entry) ≡ 0 → state_of r exit ≡ (performs (capacity (length entry)) c (state_of h entry)).state
+  pub takes : asks (length entry) c (state_of h entry) ≡ 0
+      → state_of r exit ≡ (performs (capacity (length entry)) c (state_of h entry)).state
       → length exit ≡ length entry
       → behind (max h.trail.len r.trail.len) exit ≡ behind (max h.trail.len r.trail.len) entry → Called c h entry r exit
   unfolding after_call
@@ -93,7 +94,8 @@ same_at lat lon a b = ap (λ (c : ℤ). place.At c (handed lon)) (to_z-of_z w32 
     ∙ ap (λ (d : ℤ). place.At lat d) (to_z-of_z w32 lon (record { sfits = b }))
 
 -- ---- what the inner functions require
-pub ready : (size : ℕ) (line : List Float) (h : Homing) (b : List Float) → asks_both size line (state_of h b) ≡ 0 → Ready h size (length line)
+pub ready : (size : ℕ) (line : List Float) (h : Homing) (b : List Float) → asks_both size line (state_of h b) ≡ 0
+    → Ready h size (length line)
 ready size line h b e =
     let g = both-given size line h b e in
     record { fit = g.fit; retrace = g.held.counted.retrace; back = g.held.counted.retrace_len }

@@ -22,7 +22,8 @@ use Rattle.state.specs.declared.Line.TheVariants as line
 use Rattle.state.specs.State.{State, with_auto_follow}
 use Rattle.state.specs.Rule.{Done}
 use Rattle.course.specs.Fix.{Fix}
-use Rattle.calls.specs.Follow.{update_here, brought, engaged_or, way_home, follow, near_here, follow_from, set_following, auto_off, set_auto_follow}
+use Rattle.calls.specs.Follow.{update_here, brought, engaged_or, way_home, follow, near_here, follow_from, set_following, auto_off}
+use Rattle.calls.specs.Follow.{set_auto_follow}
 use Rattle.calls.specs.Line.{reset, off_course, set_course}
 use Rattle.calls.specs.Calls.{Call, Ask, Reset, EndReplay, SetCourse, SetAutoFollow, Observe, Replay, SetFollowing, silent, course_in, asks}
 use Rattle.calls.specs.Calls.{performs, after_call}
@@ -52,7 +53,8 @@ module _ (C : ℕ) (least : 3 ≤ C) where
 
     way_home_lem : Good C (way_home C course now)
     unfolding way_home
-    way_home_lem s h = then (flush-good C least s h) λ _ flushed k. then (engage-good course now flushed k) λ b after l. engaged-or b after l
+    way_home_lem s h =
+        then (flush-good C least s h) λ _ flushed k. then (engage-good course now flushed k) λ b after l. engaged-or b after l
 
     follow-good : (best : Best) → Good C (follow best C course now)
     unfolding follow

@@ -21,8 +21,10 @@ use Rattle.state.specs.State.{State, with_frame, with_here_ms, with_motion}
 use Rattle.state.specs.Rule.{Done, done}
 use Rattle.follow.specs.Engage.{cut_to, forgotten}
 use Rattle.course.specs.Fix.{Fix, located, framed}
-use Rattle.calls.specs.Fix.{fix_lost_ms, still_ms, is_at, cleared, missing, same_fix, headed, still_at, add_update, tell_following, joined_course}
-use Rattle.calls.specs.Fix.{turned_back, engaged_back, retraced, may_retrace, joined_or_not, fix_on, arrived_at, new_fix, seen, observe, pass_only}
+use Rattle.calls.specs.Fix.{fix_lost_ms, still_ms, is_at, cleared, missing, same_fix, headed, still_at, add_update, tell_following}
+use Rattle.calls.specs.Fix.{joined_course}
+use Rattle.calls.specs.Fix.{turned_back, engaged_back, retraced, may_retrace, joined_or_not, fix_on, arrived_at, new_fix, seen, observe}
+use Rattle.calls.specs.Fix.{pass_only}
 use Rattle.calls.specs.Fix.{replay, unheaded, end_replay}
 use Rattle.journal.proofs.Trace.{after}
 use Rattle.journal.proofs.Sound.{Holds, Ran, Good, still, then, either, resumed}

@@ -1,5 +1,6 @@
 -- Differences of coordinates: how large they are, what the wrap makes of them, and that the machine's steps are defined. Assumes nothing.
-use Rattle.std.proofs.Common.{◌≡◌, ℕ, zero, suc, ◌+◌, ◌-◌, ◌^◌, ◌<◌, ◌≤◌, min, Bool, true, false, cond, not, T, ltb, ℤ, pos, negsuc, ◌+ℤ◌, ◌-ℤ◌, nat_abs, sym, refl, ap, ◌∙◌, subst, arith, ltb→lt, nltb→le, w32, w64, SFits, to_z, of_z}
+use Rattle.std.proofs.Common.{◌≡◌, ℕ, zero, suc, ◌+◌, ◌-◌, ◌^◌, ◌<◌, ◌≤◌, min, Bool, true, false, cond, not, T, ltb, ℤ, pos, negsuc, ◌+ℤ◌}
+use Rattle.std.proofs.Common.{◌-ℤ◌, nat_abs, sym, refl, ap, ◌∙◌, subst, arith, ltb→lt, nltb→le, w32, w64, SFits, to_z, of_z}
 use mathlib.Core.Bool.{false≢true}
 use lib.IntN.{sub_ℕ}
 use lib.Signed.{mag, lt_z}

@@ -28,9 +28,12 @@ use Rattle.state.specs.State.{state_of}
 use Rattle.follow.specs.View as follow
 use Rattle.course.specs.Fix.{Fix}
 use Rattle.course.specs.Course.{points}
-use Rattle.calls.specs.Questions.{question1, question4, places_fit, spots_fit, along_fits, factor_fits, heading_fits, guide_fits, shown_fits}
-use Rattle.calls.specs.Questions.{segment_fits, follow_fits, counts_fit, numbers_fit, state_fits, crumbs_fit, held_fits, line_fits, latitude_fits}
-use Rattle.calls.specs.Questions.{longitude_fits, asks_state, asks_crumbs, asks_line, asks_both, asks_guide, asks_fix, asks_fixes, unless, ◌or_else◌}
+use Rattle.calls.specs.Questions.{question1, question4, places_fit, spots_fit, along_fits, factor_fits, heading_fits, guide_fits}
+use Rattle.calls.specs.Questions.{shown_fits}
+use Rattle.calls.specs.Questions.{segment_fits, follow_fits, counts_fit, numbers_fit, state_fits, crumbs_fit, held_fits, line_fits}
+use Rattle.calls.specs.Questions.{latitude_fits}
+use Rattle.calls.specs.Questions.{longitude_fits, asks_state, asks_crumbs, asks_line, asks_both, asks_guide, asks_fix, asks_fixes, unless}
+use Rattle.calls.specs.Questions.{◌or_else◌}
 use Rattle.questions.specs.Counted.{turned}
 use Rattle.questions.proofs.Counted.{counts-counted, held-counted}
 

@@ -3,7 +3,8 @@
 ghost use Rattle.std.specs.Prelude.{◌≡◌};
 ghost use Rattle.std.specs.Float.Ieee.{le};
 ghost use Rattle.binary32.specs.Limits.{plus_zero};
-ghost use Rattle.calls.specs.Questions.{sized, place_fits, along_fits, factor_fits, heading_fits, guide_fits, shown_fits, spot_fits, crumb_fits};
+ghost use Rattle.calls.specs.Questions.{sized, place_fits, along_fits, factor_fits, heading_fits, guide_fits, shown_fits, spot_fits};
+ghost use Rattle.calls.specs.Questions.{crumb_fits};
 ghost use Rattle.calls.specs.Questions.{asks_guide};
 ghost use Rattle.questions.specs.Sure.{least_sure, most_sure};
 

@@ -53,7 +53,8 @@ turned_round false = refl
 decides-so : (s : Stage) (later : Bool) (t : Utc) (r : Rebuild) → r.stage ≡ s
     → before_replay s later t r ≡ making (reset_if (starts_anew s later t)) (with_stage (stage_behind s later t) r)
 unfolding before_replay decide starts_anew stage_behind
-decides-so (stage.Pending last) true t r e = ap (λ (l : List Call). making l (with_stage stage.Decided r)) (turned_round (carries_on last t))
+decides-so (stage.Pending last) true t r e =
+    ap (λ (l : List Call). making l (with_stage stage.Decided r)) (turned_round (carries_on last t))
 decides-so (stage.Pending last) false t r e = refl
 decides-so stage.Decided later t r e = ap (λ (s : Stage). quiet (with_stage s r)) e
 

@@ -63,9 +63,11 @@ origin = record { lat = pos 0; lon = pos 0 }
 
 pub clock-2000 : (visit twice (new_rebuild 5)).rebuild
     ≡ record { recovered = 5; walk = record { slot = 0 }; stage = stage.Pending utc.Unknown; clock_ms = 2000 }
-unfolding new_rebuild ticked known_or skips before_replay replays visit_fix visit_place visit_sample visit_samples used is_later visit_kind visit
+unfolding new_rebuild ticked known_or skips before_replay replays visit_fix visit_place visit_sample visit_samples used is_later visit_kind
+    visit
 clock-2000 = refl
 
 pub replayed-twice : (visit twice (new_rebuild 5)).calls ≡ Replay origin 1000 ∷ Replay origin 2000 ∷ []
-unfolding new_rebuild ticked known_or skips before_replay replays visit_fix visit_place visit_sample visit_samples used is_later visit_kind visit
+unfolding new_rebuild ticked known_or skips before_replay replays visit_fix visit_place visit_sample visit_samples used is_later visit_kind
+    visit
 replayed-twice = refl

@@ -48,7 +48,10 @@ effect-decide last first r C s = by (carries_on last first)
   where
     by : (b : Bool)
         → effect (making (cond b [] (Reset ∷ [])) (with_stage stage.Decided r)) C s
-        ≡ elim b [ true ↦ done (with_stage stage.Decided r) s | false ↦ and_then (reset s) λ _ after. done (with_stage stage.Decided r) after ]
+        ≡ elim b [
+          | true ↦ done (with_stage stage.Decided r) s
+          | false ↦ and_then (reset s) λ _ after. done (with_stage stage.Decided r) after
+        ]
     by true = refl
     by false = refl
 

@@ -178,7 +178,8 @@ module _ {later : Bool} {count : ℕ} {xs : List Sample} {r : Rebuild} {h : Homi
         record {
           made =
               subst (λ (rule : Made). Makes rule h entry w exit) (sym whole)
-              (one_then (visit_samples later (take i xs) r) (λ next. visit_sample later (get_or xs i d) next) h entry mid exit v w g.made m);
+              (one_then (visit_samples later (take i xs) r)
+              (λ next. visit_sample later (get_or xs i d) next) h entry mid exit v w g.made m);
           upto = omega arith;
           few = g.few;
         }

@@ -7,7 +7,8 @@ use lib.IntN.{ℤ}
 use Rattle.state.specs.declared.Place.TheVariants as place
 use Rattle.ride_log.specs.declared.Utc.TheVariants as utc
 use Rattle.ride_log.specs.declared.Sample.{Sample}
-use Rattle.ride_log.specs.Entry.{byte_at, u64_at, i32_at, count_of, sample_start, has_place, has_utc, place_at, utc_at, sample_at, no_sample}
+use Rattle.ride_log.specs.Entry.{byte_at, u64_at, i32_at, count_of, sample_start, has_place, has_utc, place_at, utc_at, sample_at}
+use Rattle.ride_log.specs.Entry.{no_sample}
 use Rattle.ride_log.specs.Entry.{sample_of}
 
 module _ (f : List ℕ) (at : ℕ) {n : ℕ} (flags : n ≡ byte_at f at) where

@@ -1,5 +1,6 @@
 -- The chain file. Document 01, "Entry". A file is the list of its bytes, each 0 to 255; what lies behind the last one counts as 0.
-use Rattle.std.specs.Prelude.{ℕ, zero, suc, ◌+◌, ◌-◌, ◌*◌, ◌/◌, ◌%◌, ◌^◌, Bool, true, false, cond, List, [], ◌∷◌, map, ltb, eqb, ℤ, pos, neg_ℤ, length, get_or, take}
+use Rattle.std.specs.Prelude.{ℕ, zero, suc, ◌+◌, ◌-◌, ◌*◌, ◌/◌, ◌%◌, ◌^◌, Bool, true, false, cond, List, [], ◌∷◌, map, ltb, eqb, ℤ, pos}
+use Rattle.std.specs.Prelude.{neg_ℤ, length, get_or, take}
 use Rattle.std.proofs.Math.Option.{Option}
 use Rattle.std.proofs.Math.ListN.{get_elem?}
 use Rattle.state.specs.declared.Place.{Place}

@@ -4,7 +4,8 @@ use Rattle.state.specs.declared.Place.TheVariants as place
 use Rattle.ride_log.specs.declared.Kind.TheVariants.{Samples}
 use Rattle.ride_log.specs.declared.Utc.TheVariants as utc
 use Rattle.ride_log.specs.declared.Sample.{Sample}
-use Rattle.ride_log.specs.Entry.{byte_at, record_count, next_of, count_of, sample_start, has_place, has_utc, no_sample, recovered, chain, entries}
+use Rattle.ride_log.specs.Entry.{byte_at, record_count, next_of, count_of, sample_start, has_place, has_utc, no_sample, recovered, chain}
+use Rattle.ride_log.specs.Entry.{entries}
 use Rattle.ride_log.specs.Questions.{below, stands, twice, asks_record, asks_file}
 
 -- ---- what a file that no question refuses gives

@@ -5,7 +5,8 @@
 pub mod file_questions;
 
 ghost use Rattle.std.specs.Prelude.{◌≡◌, ◌+◌, ◌*◌, ◌^◌, ◌<◌};
-ghost use Rattle.ride_log.specs.Entry.{byte_at, u32_at, u64_at, signed as signed_of, i32_at, next_of, ride_of, kind_number, count_of, sample_start};
+ghost use Rattle.ride_log.specs.Entry.{byte_at, u32_at, u64_at, signed as signed_of, i32_at, next_of, ride_of, kind_number, count_of};
+ghost use Rattle.ride_log.specs.Entry.{sample_start};
 ghost use Rattle.ride_log.specs.Entry.{kind_of, has_place, has_utc, place_at, utc_at, sample_at, sample_of, samples_of, entry_at};
 ghost use Rattle.ride_log.specs.Entry.{recovered as recovered_of};
 

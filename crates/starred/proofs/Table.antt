@@ -39,8 +39,10 @@ zero-within (inf s) h = absurd h
 zero-within (fin s m e) h = zeros-level s _ _ h (zero-mul (down e))
 
 pub table : Table
-unfolding thin_answer question9 thinning passes_from measuring_pass halving_pass pass_by reach two_on farther clear doubled off_segment project
-    at_share between share distance root clamp arrow metres step_of from_stage pass_arm_m pass_m pass_end_m off_now off_m on_m constant of_bits
+unfolding thin_answer question9 thinning passes_from measuring_pass halving_pass pass_by reach two_on farther clear doubled off_segment
+    project
+    at_share between share distance root clamp arrow metres step_of from_stage pass_arm_m pass_m pass_end_m off_now off_m on_m constant
+    of_bits
     to_unsigned le lt add sub mul div
 table =
     record {

@@ -4,7 +4,8 @@
 ghost use Rattle.std.specs.Prelude.{◌≡◌, ◌+◌, ◌<◌, ◌≤◌, length};
 ghost use Rattle.std.proofs.Math.Seq.{paste};
 ghost use Rattle.stored.specs.Fields.{most32, most16, most8, word_at, narrow_at, flag_at, signed_at, point_at, spot_at, heading_at};
-ghost use Rattle.stored.specs.Fields.{place_read, line_of_tag, stage_of_tag, mode_of_tag, flag_of, unsigned as unsigned_of, spot_flag, point_in};
+ghost use Rattle.stored.specs.Fields.{place_read, line_of_tag, stage_of_tag, mode_of_tag, flag_of, unsigned as unsigned_of, spot_flag};
+ghost use Rattle.stored.specs.Fields.{point_in};
 ghost use Rattle.stored.specs.Fields.{heading_flag, heading_in, place_flag, lat_in, lon_in, line_tag, stage_tag, mode_tag};
 
 use lap::Stage as Pass;

@@ -15,7 +15,8 @@ use Rattle.state.specs.declared.Line.{Line}
 use Rattle.state.specs.declared.Line.TheVariants as line
 use Rattle.state.specs.State.{State}
 use Rattle.course.specs.Fix.{Fix}
-use Rattle.calls.specs.Questions.{question1, segment_fits, follow_fits, counts_fit, spots_fit, numbers_fit, state_fits, held_fits, latitude_fits}
+use Rattle.calls.specs.Questions.{question1, segment_fits, follow_fits, counts_fit, spots_fit, numbers_fit, state_fits, held_fits}
+use Rattle.calls.specs.Questions.{latitude_fits}
 use Rattle.calls.specs.Questions.{longitude_fits, asks_fix, ◌or_else◌, asks_fixes}
 use Rattle.calls.specs.Calls.{point_of, asks_place}
 use Rattle.taken.specs.Taken.{FixOnGlobe, FixesOnGlobe}

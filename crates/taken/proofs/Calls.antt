@@ -31,9 +31,11 @@ use Rattle.joining.specs.Retrace.{len_before, rides_back}
 use Rattle.update.specs.Update.{update}
 use Rattle.course.specs.Fix.{Fix, located}
 use Rattle.calls.specs.Fix.{fix_lost_ms, is_at, unfixed, cleared, missing, same_fix, headed, still_ms, still_at, add_update, tell_following}
-use Rattle.calls.specs.Fix.{joined_course, turned_back, engaged_back, retraced, may_retrace, joined_or_not, fix_on, arrived_at, new_fix, seen}
+use Rattle.calls.specs.Fix.{joined_course, turned_back, engaged_back, retraced, may_retrace, joined_or_not, fix_on, arrived_at, new_fix}
+use Rattle.calls.specs.Fix.{seen}
 use Rattle.calls.specs.Fix.{observe, pass_only, replay, unheaded, end_replay}
-use Rattle.calls.specs.Follow.{update_here, brought, engaged_or, way_home, follow, near_here, follow_from, set_following, auto_off, set_auto_follow}
+use Rattle.calls.specs.Follow.{update_here, brought, engaged_or, way_home, follow, near_here, follow_from, set_following, auto_off}
+use Rattle.calls.specs.Follow.{set_auto_follow}
 use Rattle.calls.specs.Calls.{point_of}
 use Rattle.taken.specs.Taken.{FixOnGlobe, FixesOnGlobe}
 use Rattle.taken.proofs.Tests.{either, one_of}

@@ -17,7 +17,8 @@ use Rattle.state.specs.State.{State}
 use Rattle.state.specs.Rule.{Done}
 use Rattle.course.specs.Fix.{Fix}
 use Rattle.course.specs.Course.{points, line_of}
-use Rattle.calls.specs.Questions.{question1, question4, state_fits, held_fits, line_fits, crumbs_fit, unless, asks_state, asks_crumbs, asks_line}
+use Rattle.calls.specs.Questions.{question1, question4, state_fits, held_fits, line_fits, crumbs_fit, unless, asks_state, asks_crumbs}
+use Rattle.calls.specs.Questions.{asks_line}
 use Rattle.calls.specs.Questions.{asks_both}
 use Rattle.calls.specs.Line.{new, set_course}
 use Rattle.calls.specs.Calls.{Loan, no_buffer, crumb_buffer, line_buffer, both_buffers, line_for_course, Query, Call, Ask, Reset, EndReplay}

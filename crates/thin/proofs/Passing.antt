@@ -40,7 +40,8 @@ stood-then p q =
     record { among = λ i h. let j = q.among i h in let k = p.among j.0 j.1.0 in (k.0, (k.1.0, j.1.1 ∙ k.1.1)) }
 
 -- after a crumb of them was copied to another place of them
-stood-put : (n : ℕ) (buf : List Float) (to from : ℕ) → to < capacity (length buf) → from < n → Stood n buf (put_at buf to (crumb_at buf from))
+stood-put : (n : ℕ) (buf : List Float) (to from : ℕ) → to < capacity (length buf) → from < n
+    → Stood n buf (put_at buf to (crumb_at buf from))
 stood-put n buf to from fits inside = record { among = λ i h. at i h (ℕ_discrete i to) }
   where
     at : (i : ℕ) → i < n → Dec (i ≡ to) → (j : ℕ) × ((j < n) × (crumb_at (put_at buf to (crumb_at buf from)) i ≡ crumb_at buf j))
@@ -152,7 +153,8 @@ module _ {halve : Bool} {t : Float} {len : ℕ} where
       to-come : to_come halve t len (put_at buf kept (crumb_at buf next)) next ≡ to_come halve t len buf next
       to-come = rw (after-put, put-copied buf kept next room)
 
-      front-put : take (kept + 1) (crumbs len (put_at buf kept (crumb_at buf next))) ≡ take kept (crumbs len buf) ++ (crumb_at buf next ∷ [])
+      front-put : take (kept + 1) (crumbs len (put_at buf kept (crumb_at buf next)))
+          ≡ take kept (crumbs len buf) ++ (crumb_at buf next ∷ [])
       front-put =
           rw (add-one kept, put)
           (take-suc-set (crumbs len buf) kept (crumb_at buf next) (omega (arith, before, next-inside, length-crumbs len buf)))

@@ -29,7 +29,8 @@ farther-on : (t : Float) (a : Crumb) (l : List Crumb) (k n : ℕ) → clear t a 
 unfolding farther
 farther-on t a l k n h = rw (h, farther)
 
-farther-stop : (t : Float) (a : Crumb) (l : List Crumb) (k n : ℕ) → clear t a (get_or l k a) (take k l) ≡ false → farther t a l k (suc n) ≡ k
+farther-stop : (t : Float) (a : Crumb) (l : List Crumb) (k n : ℕ) → clear t a (get_or l k a) (take k l) ≡ false
+    → farther t a l k (suc n) ≡ k
 unfolding farther
 farther-stop t a l k n h = rw (h, farther)
 

@@ -24,7 +24,8 @@ angles :
     × (angle one plus_zero ≡ fin false 13176795 (negsuc 22))
     × (angle plus_zero (neg one) ≡ fin false 13176795 (negsuc 21))
     × (angle (neg one) plus_zero ≡ fin true 13176795 (negsuc 22))
-unfolding angle direction westward southward eastward arc series reduced base quotient larger smaller tan_eighth_pi atan3 atan5 atan7 atan9 pi
+unfolding angle direction westward southward eastward arc series reduced base quotient larger smaller tan_eighth_pi atan3 atan5 atan7 atan9
+    pi
     constant
     half_pi eq lt div mul sub add neg
 angles = (refl, refl, refl, refl)

@@ -68,7 +68,8 @@ module _ (C now : ℕ) (course : List Crumb) (p : Point) (s : State) where
     unfolding matched_to comes_to
     drops t = picked (ended event.Dropped) other (lt drop_m near.off) t
 
-    pub reaches_end : lt drop_m near.off ≡ false → at_course_end s near ≡ true → matched_to C course p now near s ≡ by (Ends event.CourseEnd)
+    pub reaches_end : lt drop_m near.off ≡ false → at_course_end s near ≡ true
+        → matched_to C course p now near s ≡ by (Ends event.CourseEnd)
     unfolding matched_to comes_to
     reaches_end t a =
         passed-by (ended event.Dropped) other (lt drop_m near.off) t

@@ -14,7 +14,8 @@ pub overflow_add-result : goal.overflow_add-result
 overflow_add-result c = omega (arith, (at_most c.args.n c.nearest_root-q.result c.requires.1 c.nearest_root-q.ensures.0))
 
 pub float_from_bits-result : goal.float_from_bits-result
-float_from_bits-result c = no_nan (c.args.j * 8388608 + c.nearest_root-q.result) (omega (arith, (at_most c.args.n c.nearest_root-q.result c.requires.1 c.nearest_root-q.ensures.0)))
+float_from_bits-result c = no_nan (c.args.j * 8388608 + c.nearest_root-q.result)
+    (omega (arith, (at_most c.args.n c.nearest_root-q.result c.requires.1 c.nearest_root-q.ensures.0)))
 
 pub returns : goal.returns
 returns c a d D e =
@@ -22,4 +23,5 @@ returns c a d D e =
     let j = c.args.j in
     let q = c.nearest_root-q.result in
     sym (rounded binary32 a d n j q D e c.requires.0 (omega arith) c.nearest_root-q.ensures
-    ∙ pattern j q (at_least c.args.n c.nearest_root-q.result c.requires.0 c.nearest_root-q.ensures.1) (at_most c.args.n c.nearest_root-q.result c.requires.1 c.nearest_root-q.ensures.0) c.requires.2)
+    ∙ pattern j q (at_least c.args.n c.nearest_root-q.result c.requires.0 c.nearest_root-q.ensures.1)
+    (at_most c.args.n c.nearest_root-q.result c.requires.1 c.nearest_root-q.ensures.0) c.requires.2)

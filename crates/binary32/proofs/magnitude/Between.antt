@@ -1,7 +1,8 @@
 -- A point between two places of at most 2 ^ k in size, a + t * (b - a) with t from 0 to 1, is at most 2 ^ k in size again, each of the
 -- three operations rounding once. For binary32. Rounding b - a can carry a + t * (b - a) past 2 ^ k by half the distance to the next value
 -- at most, and that rounds back to 2 ^ k. Assumes nothing.
-use Rattle.std.proofs.Common.{◌≡◌, ℕ, suc, ◌+◌, ◌-◌, ◌*◌, ◌^◌, ◌<◌, ◌≤◌, Bool, true, false, cond, not, ◌&&◌, T, ltb, ◌⊎◌, ℤ, pos, sym, refl, ap, ◌∙◌, subst, inl, inr, le_trans, le_of_eq, add_comm, mul-pos, zero-mul, arith, nltb→le, pow_pos}
+use Rattle.std.proofs.Common.{◌≡◌, ℕ, suc, ◌+◌, ◌-◌, ◌*◌, ◌^◌, ◌<◌, ◌≤◌, Bool, true, false, cond, not, ◌&&◌, T, ltb, ◌⊎◌, ℤ, pos, sym, refl}
+use Rattle.std.proofs.Common.{ap, ◌∙◌, subst, inl, inr, le_trans, le_of_eq, add_comm, mul-pos, zero-mul, arith, nltb→le, pow_pos}
 use native.Mathlib.Nat.{pow-succ'}
 use mathlib.Core.Bool.{beq}
 use lib.Ieee.{Float, nan, inf, fin, binary32, up, down, unlike, round, fits, neg, sum, add, sub, mul}

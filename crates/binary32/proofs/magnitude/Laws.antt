@@ -1,6 +1,8 @@
 -- What each operation does to a bound on its operands' sizes. Each law over closed bounds has one test, which computes: `tt` under
 -- `unfolding add` (or `mul`, `div`, `of_int`). Assumes nothing.
-use Rattle.std.proofs.Common.{◌≡◌, ℕ, suc, ◌+◌, ◌-◌, ◌*◌, ◌<◌, ◌≤◌, Bool, true, false, cond, ◌&&◌, T, ltb, ℤ, pos, negsuc, nat_abs, sym, subst, le_trans, le_of_eq, le_refl, add-le-add, mul-le-mul_right, zero-lt-suc, mul_assoc, mul_comm, add-mul, mul-le-mul, mul-pos, mul_left_comm, arith, leb→le}
+use Rattle.std.proofs.Common.{◌≡◌, ℕ, suc, ◌+◌, ◌-◌, ◌*◌, ◌<◌, ◌≤◌, Bool, true, false, cond, ◌&&◌, T, ltb, ℤ, pos, negsuc, nat_abs, sym}
+use Rattle.std.proofs.Common.{subst, le_trans, le_of_eq, le_refl, add-le-add, mul-le-mul_right, zero-lt-suc, mul_assoc, mul_comm, add-mul}
+use Rattle.std.proofs.Common.{mul-le-mul, mul-pos, mul_left_comm, arith, leb→le}
 use native.Mathlib.Nat.{mul-mul-mul_comm}
 use mathlib.Core.Bool.{beq}
 use lib.Ieee.{Float, nan, inf, fin, Format, up, down, unlike, round, neg, sum, add, sub, mul, of_int}
@@ -117,7 +119,8 @@ pub add-within : (f : Format) (b c g x y : Float) → T (within g (add f (size_o
     → Within g (add f x y)
 add-within f b c g x y t h k =
     let w = test→within g (add f (size_of b) (size_of c)) t in
-    within-trans g (add f (size_of b) (size_of c)) (add f x y) w (add-sizes f b c x y (within-finite g (add f (size_of b) (size_of c)) w) h k)
+    within-trans g (add f (size_of b) (size_of c)) (add f x y) w
+    (add-sizes f b c x y (within-finite g (add f (size_of b) (size_of c)) w) h k)
 
 pub sub_within : (f : Format) (b c g x y : Float) → T (within g (add f (size_of b) (size_of c))) → Within b x → Within c y
     → Within g (sub f x y)
@@ -149,7 +152,8 @@ pub mul-within : (f : Format) (b c g x y : Float) → T (within g (mul f (size_o
     → Within g (mul f x y)
 mul-within f b c g x y t h k =
     let w = test→within g (mul f (size_of b) (size_of c)) t in
-    within-trans g (mul f (size_of b) (size_of c)) (mul f x y) w (mul-sizes f b c x y (within-finite g (mul f (size_of b) (size_of c)) w) h k)
+    within-trans g (mul f (size_of b) (size_of c)) (mul f x y) w
+    (mul-sizes f b c x y (within-finite g (mul f (size_of b) (size_of c)) w) h k)
 
 -- ---- an integer, rounded
 pub of_int-within : (f : Format) (g : Float) (n : ℕ) (z : ℤ) → T (within g (of_int f (pos n))) → nat_abs z ≤ n → Within g (of_int f z)

@@ -1,6 +1,9 @@
 -- More bounds: a quotient, a difference whose second part is known from both sides, one more step along a line, and a tolerance that is
 -- doubled without end. Assumes nothing.
-use Rattle.std.proofs.Common.{◌≡◌, ℕ, suc, ◌+◌, ◌-◌, ◌*◌, ◌^◌, ◌<◌, ◌≤◌, Bool, true, false, cond, ◌&&◌, T, eqb, ltb, ℤ, pos, sym, ap, ◌∙◌, subst, le_trans, le_of_eq, lt_of_lt_of_le, mul-le-mul_right, zero-lt-suc, mul_assoc, suc-mul, mul_comm, add-mul, mul-le-mul, pos_of_ne-zero, mul-pos, one-mul, zero-mul, mul-one, mul_left_comm, arith, eqb→eq, ltb→lt}
+use Rattle.std.proofs.Common.{◌≡◌, ℕ, suc, ◌+◌, ◌-◌, ◌*◌, ◌^◌, ◌<◌, ◌≤◌, Bool, true, false, cond, ◌&&◌, T, eqb, ltb, ℤ, pos, sym, ap, ◌∙◌}
+use Rattle.std.proofs.Common.{subst, le_trans, le_of_eq, lt_of_lt_of_le, mul-le-mul_right, zero-lt-suc, mul_assoc, suc-mul, mul_comm}
+use Rattle.std.proofs.Common.{add-mul, mul-le-mul, pos_of_ne-zero, mul-pos, one-mul, zero-mul, mul-one, mul_left_comm, arith, eqb→eq}
+use Rattle.std.proofs.Common.{ltb→lt}
 use native.Mathlib.Nat.{mul-sub}
 use mathlib.Core.Bool.{beq}
 use lib.Ieee.{Float, nan, inf, fin, Format, prec, low, up, down, unlike, odd, units, round, neg, sum, add, sub, mul, div}
@@ -68,7 +71,8 @@ pub div-within : (f : Format) (b c g x y : Float) → T (within g (div f (size_o
     → Within g (div f x y)
 div-within f b c g x y t h k =
     let w = test→within g (div f (size_of b) (size_of c)) t in
-    within-trans g (div f (size_of b) (size_of c)) (div f x y) w (div-sizes f b c x y (within-finite g (div f (size_of b) (size_of c)) w) h k)
+    within-trans g (div f (size_of b) (size_of c)) (div f x y) w
+    (div-sizes f b c x y (within-finite g (div f (size_of b) (size_of c)) w) h k)
 
 -- ---- x - y, for an x that is written out and a y above zero that lies from l to h
 less : (p q r s : ℕ) → p ≡ r → s ≤ q → p - q ≤ r - s

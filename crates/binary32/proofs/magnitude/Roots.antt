@@ -1,5 +1,7 @@
 -- A root is at most g where its operand is at most g * g, for a whole number g that the format holds, and it is 0 or more. Assumes nothing.
-use Rattle.std.proofs.Common.{◌≡◌, ℕ, zero, suc, ◌*◌, ◌^◌, ◌≤◌, true, false, T, pos, sym, refl, ap, ◌∙◌, inl, inr, le_trans, le_of_eq, le_of_lt, mul-le-mul_right, zero-lt-suc, mul_assoc, mul_comm, eq-or-lt_of_le, mul-pos, zero-mul, mul-one, mul_left_comm, arith, pow_pos}
+use Rattle.std.proofs.Common.{◌≡◌, ℕ, zero, suc, ◌*◌, ◌^◌, ◌≤◌, true, false, T, pos, sym, refl, ap, ◌∙◌, inl, inr, le_trans, le_of_eq}
+use Rattle.std.proofs.Common.{le_of_lt, mul-le-mul_right, zero-lt-suc, mul_assoc, mul_comm, eq-or-lt_of_le, mul-pos, zero-mul, mul-one}
+use Rattle.std.proofs.Common.{mul_left_comm, arith, pow_pos}
 use lib.Ieee.{Float, nan, inf, fin, Format, low, up, down}
 use lib.Ieee.Fits.{down_pos}
 use lib.Ieee.Scale.{finite}

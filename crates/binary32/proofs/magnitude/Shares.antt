@@ -1,6 +1,8 @@
 -- A quotient of finite values by one above zero is no NaN, and what is no NaN is a share once it is clamp to 0 to 1.
 -- Assumes nothing.
-use Rattle.std.proofs.Common.{◌≡◌, ℕ, zero, suc, ◌+◌, ◌*◌, ◌^◌, ◌<◌, ◌≤◌, Bool, true, false, cond, not, T, eqb, ltb, ℤ, sym, refl, ap, ◌∙◌, subst, le_trans, le_of_eq, le_refl, lt_irrefl, mul-le-mul_right, zero-lt-suc, mul_assoc, mul_comm, mul-pos, one-mul, zero-mul, mul-one, arith, eqb→eq, ltb→lt, nltb→le}
+use Rattle.std.proofs.Common.{◌≡◌, ℕ, zero, suc, ◌+◌, ◌*◌, ◌^◌, ◌<◌, ◌≤◌, Bool, true, false, cond, not, T, eqb, ltb, ℤ, sym, refl, ap, ◌∙◌}
+use Rattle.std.proofs.Common.{subst, le_trans, le_of_eq, le_refl, lt_irrefl, mul-le-mul_right, zero-lt-suc, mul_assoc, mul_comm, mul-pos}
+use Rattle.std.proofs.Common.{one-mul, zero-mul, mul-one, arith, eqb→eq, ltb→lt, nltb→le}
 use lib.Ieee.{Float, nan, inf, fin, Format, prec, low, up, down, unlike, odd, units, round, fits, mul, div, lt, is_nan}
 use lib.Ieee.Fits.{up_pos, down_pos, round_is}
 use lib.Ieee.Order.{drop, kept}

@@ -1,6 +1,8 @@
 -- Results that are 0 or more: a sum, a product, a square, and a point between two numbers of which neither is negative.
 -- Assumes nothing.
-use Rattle.std.proofs.Common.{◌≡◌, ℕ, zero, suc, ◌+◌, ◌-◌, ◌*◌, ◌^◌, ◌<◌, ◌≤◌, Bool, true, false, cond, not, ◌&&◌, T, ltb, ◌⊎◌, ℤ, pos, sym, refl, ap, ◌∙◌, subst, inl, inr, le_trans, le_of_eq, zero-lt-suc, mul_comm, mul-pos, zero-mul, arith, ltb→lt, pow_pos}
+use Rattle.std.proofs.Common.{◌≡◌, ℕ, zero, suc, ◌+◌, ◌-◌, ◌*◌, ◌^◌, ◌<◌, ◌≤◌, Bool, true, false, cond, not, ◌&&◌, T, ltb, ◌⊎◌, ℤ, pos, sym}
+use Rattle.std.proofs.Common.{refl, ap, ◌∙◌, subst, inl, inr, le_trans, le_of_eq, zero-lt-suc, mul_comm, mul-pos, zero-mul, arith, ltb→lt}
+use Rattle.std.proofs.Common.{pow_pos}
 use native.Mathlib.Nat.{eq_of_mul-eq-mul_right}
 use mathlib.Core.Bool.{beq}
 use lib.Ieee.{Float, nan, inf, fin, Format, binary32, low, up, down, unlike, round, fits, sum, add, sub, mul}

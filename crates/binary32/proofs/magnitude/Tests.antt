@@ -1,5 +1,7 @@
 -- `Within` and the comparisons that a program makes. Assumes nothing.
-use Rattle.std.proofs.Common.{◌≡◌, ℕ, zero, suc, ◌+◌, ◌*◌, ◌<◌, ◌≤◌, Bool, true, false, not, ◌&&◌, ◌||◌, T, eqb, ltb, ℤ, sym, refl, ap, ◌∙◌, subst, inl, inr, le_trans, le_of_eq, le_of_lt, zero-lt-suc, eq-zero-or-pos, eq-or-lt_of_le, mul-pos, zero-mul, arith, eqb→eq, ltb→lt, lt→ltb, nltb→le}
+use Rattle.std.proofs.Common.{◌≡◌, ℕ, zero, suc, ◌+◌, ◌*◌, ◌<◌, ◌≤◌, Bool, true, false, not, ◌&&◌, ◌||◌, T, eqb, ltb, ℤ, sym, refl, ap, ◌∙◌}
+use Rattle.std.proofs.Common.{subst, inl, inr, le_trans, le_of_eq, le_of_lt, zero-lt-suc, eq-zero-or-pos, eq-or-lt_of_le, mul-pos, zero-mul}
+use Rattle.std.proofs.Common.{arith, eqb→eq, ltb→lt, lt→ltb, nltb→le}
 use lib.Ieee.{Float, nan, inf, fin, up, down, lt, eq, le, below, level}
 use lib.Ieee.Fits.{up_pos, and_l, eq→eqb}
 use lib.Ieee.Scale.{finite}

@@ -1,6 +1,10 @@
 -- binary32 in whole units of its smallest value, 2 ^ -149: what a sum of two values is in units, and how far the rounding of a number of
 -- units can move it. Assumes nothing.
-use Rattle.std.proofs.Common.{◌≡◌, ℕ, suc, ◌+◌, ◌-◌, ◌*◌, ◌/◌, ◌%◌, ◌^◌, ◌<◌, ◌≤◌, Bool, true, false, cond, not, ◌&&◌, T, ltb, sym, refl, ap, ◌∙◌, subst, ap₂, inl, inr, le_trans, le_of_eq, lt_of_lt_of_le, lt_of_le_of_lt, le_of_lt, mul-le-mul_right, mul_assoc, mul_comm, add-mul, lt_of_mul-lt-mul_right, eq-or-lt_of_le, mul-lt-mul_of_pos_right, mul-pos, one-mul, div-add-mod', mul_right_comm, mul-div_cancel, arith, lit≤, eqb→eq, ltb→lt, lt→ltb, pow_pos, pow_mono, pow-add}
+use Rattle.std.proofs.Common.{◌≡◌, ℕ, suc, ◌+◌, ◌-◌, ◌*◌, ◌/◌, ◌%◌, ◌^◌, ◌<◌, ◌≤◌, Bool, true, false, cond, not, ◌&&◌, T, ltb, sym, refl}
+use Rattle.std.proofs.Common.{ap, ◌∙◌, subst, ap₂, inl, inr, le_trans, le_of_eq, lt_of_lt_of_le, lt_of_le_of_lt, le_of_lt, mul-le-mul_right}
+use Rattle.std.proofs.Common.{mul_assoc, mul_comm, add-mul, lt_of_mul-lt-mul_right, eq-or-lt_of_le, mul-lt-mul_of_pos_right, mul-pos}
+use Rattle.std.proofs.Common.{one-mul, div-add-mod', mul_right_comm, mul-div_cancel, arith, lit≤, eqb→eq, ltb→lt, lt→ltb, pow_pos, pow_mono}
+use Rattle.std.proofs.Common.{pow-add}
 use Prim.Native.Nat.{compare, Ordering}
 use native.Mathlib.Nat.{pow-succ', mul-sub}
 use mathlib.Core.Bool.{beq}
@@ -27,7 +31,8 @@ up_to a b u c h k = let l : a * u ≤ b * u = mul-le-mul_right u h in omega arit
 near : (z u : ℕ) → 2 * (closest z u * u) ≤ 2 * z + u
 near z u = go (compare (z % u * 2) u) (nleb→lt (z % u * 2) u) (eqb→eq (z % u * 2) u)
   where
-    go : (o : Ordering) → (T (not (is_le o)) → u < z % u * 2) → (T (compare_is_eq o) → z % u * 2 ≡ u) → 2 * (nearest (z / u) o * u) ≤ 2 * z + u
+    go : (o : Ordering) → (T (not (is_le o)) → u < z % u * 2) → (T (compare_is_eq o) → z % u * 2 ≡ u)
+        → 2 * (nearest (z / u) o * u) ≤ 2 * z + u
     go Ordering.lt h e = stay (z / u) (z % u) u z (div-add-mod' z u)
     go Ordering.eq h e = up_to (z / u + z / u % 2) (suc (z / u)) u (2 * z + u) (nearest-le (z / u) Ordering.eq)
         (step-up (z / u) (z % u) u z (div-add-mod' z u) (le_of_eq (sym (e tt))))

@@ -1,6 +1,7 @@
 -- `binary32::of_bits` meets its contract, at a subnormal value and at a normal one. There the digits are shifted by 24 places where the
 -- exponent's field is even, and by 23 where it is odd.
-use Rattle.std.proofs.Common.{◌≡◌, ℕ, zero, suc, ◌+◌, ◌-◌, ◌*◌, ◌/◌, ◌%◌, ◌^◌, ◌<◌, ◌≤◌, false, sym, refl, ap, ◌∙◌, subst, lt_of_lt_of_le, zero-lt-suc, add_comm, mul-pos, le-add_left, arith, pow_pos}
+use Rattle.std.proofs.Common.{◌≡◌, ℕ, zero, suc, ◌+◌, ◌-◌, ◌*◌, ◌/◌, ◌%◌, ◌^◌, ◌<◌, ◌≤◌, false, sym, refl, ap, ◌∙◌, subst, lt_of_lt_of_le}
+use Rattle.std.proofs.Common.{zero-lt-suc, add_comm, mul-pos, le-add_left, arith, pow_pos}
 use lib.Ieee.Exact.{HasValue}
 use lib.Ieee.{Float, binary32, of_bits}
 use Rattle.binary32.specs.Root.{root}

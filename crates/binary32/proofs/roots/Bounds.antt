@@ -1,6 +1,7 @@
 -- A bound on roots as bounds on what stands under them: with the root of `lo` at most `most`, all that is at most `lo` has a root that is;
 -- with the root of `hi` above `most`, all that is at least `hi` has a root that is not at most `most`. Assumes nothing.
-use Rattle.std.proofs.Common.{◌≡◌, ℕ, zero, suc, ◌+◌, ◌-◌, ◌*◌, ◌/◌, ◌^◌, ◌<◌, ◌≤◌, Bool, true, false, cond, ◌&&◌, ◌||◌, T, eqb, ltb, sym, refl, ap, ◌∙◌, subst, inl, inr, true≢false, eq-zero-or-pos, lt_of_not-le, arith, ltb-false, lt-ltb}
+use Rattle.std.proofs.Common.{◌≡◌, ℕ, zero, suc, ◌+◌, ◌-◌, ◌*◌, ◌/◌, ◌^◌, ◌<◌, ◌≤◌, Bool, true, false, cond, ◌&&◌, ◌||◌, T, eqb, ltb, sym}
+use Rattle.std.proofs.Common.{refl, ap, ◌∙◌, subst, inl, inr, true≢false, eq-zero-or-pos, lt_of_not-le, arith, ltb-false, lt-ltb}
 use borrow.Author.Tests.{eqb-false}
 use lib.Ieee.{Float, nan, inf, fin, Format, prec, emax, low, up, down, size, odd, units, round, below, level, lt, eq, le, fits}
 use lib.Ieee.Fits.{round_is}

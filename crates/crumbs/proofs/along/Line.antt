@@ -109,7 +109,8 @@ module _ {n : ℕ} {b₀ b : List Float} {i : ℕ} (g : Going n b₀ b i) where
         }
 
     -- the same of the buffer that a put left, with the crumb before, the place and the along that were worked out
-    pub going_on : {exit : List Float} {a : Crumb} {p : Point} {along : Float} → exit ≡ put_at b i (crumb_of p along) → a ≡ crumb_at b (i - 1)
+    pub going_on : {exit : List Float} {a : Crumb} {p : Point} {along : Float} → exit ≡ put_at b i (crumb_of p along)
+        → a ≡ crumb_at b (i - 1)
         → p ≡ point (crumb_at b i) → along ≡ along_to a p → Going n b₀ exit (i + 1)
     unfolding next
     going_on e before place far = rw (e ∙ ap₂ (λ q m. put_at b i (crumb_of q m)) place (far ∙ ap₂ along_to before place)) going_next

@@ -14,7 +14,8 @@ use Rattle.plane.specs.declared.Heading.TheVariants as heading
 use Rattle.state.specs.declared.Mode.{Mode}
 use Rattle.state.specs.declared.Mode.TheVariants as mode
 use Rattle.state.specs.declared.Guide.{Guide}
-use Rattle.stored.specs.Fields.{most32, most16, word_at, flag_at, mode_of_tag, heading_of, heading_at, mode_tag, heading_flag, heading_in, flag_of}
+use Rattle.stored.specs.Fields.{most32, most16, word_at, flag_at, mode_of_tag, heading_of, heading_at, mode_tag, heading_flag, heading_in}
+use Rattle.stored.specs.Fields.{flag_of}
 use Rattle.stored.specs.Parts.{guide_mosts, guide_read, guide_words}
 use Rattle.stored.proofs.ReadBack.{within-at, guide-same}
 use Rattle.door.specs.GuideWords.{guide_size, are_guide, guide_of, GuideReadBack}

@@ -201,7 +201,8 @@ module _ (p : Point) (now : ℕ) where
   unfolding headed
   headed-courses s = refl
 
-  pub headed-fit : (h r : Homing) (room line_room : ℕ) → Changes (headed p now) h r → HomingFit h room line_room → HomingFit r room line_room
+  pub headed-fit : (h r : Homing) (room line_room : ℕ) → Changes (headed p now) h r → HomingFit h room line_room
+      → HomingFit r room line_room
   headed-fit h r room line_room c = changed-fit (headed p now) h r c headed-follows headed-courses room line_room
 
 module _ (x : Fix) (now : ℕ) (h r : Homing) (c : Changes (arrived_now x now) h r) where
@@ -224,7 +225,8 @@ module _ (x : Fix) (now : ℕ) (h r : Homing) (c : Changes (arrived_now x now) h
 
   -- what is done at the fix, from the state before it
   pub new-fix : (line b : List Float) (p : Point) → p ≡ framed r.frame x → r.frame ≡ located x h.frame → (C : ℕ)
-      → new_fix C (course_of h line) x now (with_here_ms now (state_of h b)) ≡ fix_on r.follow.line C (course_of r line) p now (state_of r b)
+      → new_fix C (course_of h line) x now (with_here_ms now (state_of h b))
+      ≡ fix_on r.follow.line C (course_of r line) p now (state_of r b)
   unfolding new_fix
   new-fix line b p ep ef C =
       sym

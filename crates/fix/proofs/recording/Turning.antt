@@ -28,7 +28,8 @@ use Rattle.guide.specs.declared.Told.{Told}
 use Rattle.update.specs.Update.{update}
 use Rattle.update.specs.View.{Updates}
 use Rattle.update.proofs.Updating.{updates-as}
-use Rattle.calls.specs.Fix.{tell_following, add_update, joined_course, turned_back, engaged_back, retraced, may_retrace, joined_or_not, fix_on}
+use Rattle.calls.specs.Fix.{tell_following, add_update, joined_course, turned_back, engaged_back, retraced, may_retrace, joined_or_not}
+use Rattle.calls.specs.Fix.{fix_on}
 use Rattle.fix.specs.Ready.{Grows, TurnsBack}
 use Rattle.fix.proofs.recording.Moving.{updates-after, updates-asked, updates-following, same_len}
 use Rattle.fix.proofs.recording.Beginning.{join-course, retrace-course, engage-course}
@@ -153,7 +154,8 @@ module _ (h : Homing) (line entry exit : List Float) (p : Point) (now : ℕ) (r 
       (updates-following (λ C. update C (course_of r.homing line) p now) r.homing entry t exit u))
 
   pub unengaged-on : r.yes ≡ false → Updates (λ C. add_update C (course_of r.homing line) p now) r.homing entry t exit
-      → Updates (λ C s. and_then (engage (course_of h line) now s) λ b after. engaged_back b C (course_of h line) p now after) h entry t exit
+      → Updates
+      (λ C s. and_then (engage (course_of h line) now s) λ b after. engaged_back b C (course_of h line) p now after) h entry t exit
   unfolding engaged_back
   unengaged-on e u =
       updates-asked (engage (course_of h line) now) next h entry exit r false t a e
@@ -198,7 +200,8 @@ never-turned h line entry exit p now t e u =
     (ap (λ (x : Bool). may_retrace x (capacity (length entry)) (course_of h line) p now (state_of h entry)) e) u
 
 -- ---- along the course, or not
-module _ (h : Homing) (line entry exit : List Float) (p : Point) (now : ℕ) (r : Answered) (a : Asks (joining (course_of h line) p) h entry r)
+module _ (h : Homing) (line entry exit : List Float) (p : Point) (now : ℕ) (r : Answered)
+    (a : Asks (joining (course_of h line) p) h entry r)
     (t : Told) where
   abbrev further : Bool → ℕ → State → Done Event
   further b C s = joined_or_not b C (course_of h line) p now s
@@ -227,4 +230,5 @@ module _ (h : Homing) (line entry exit : List Float) (p : Point) (now : ℕ) (r 
 pub by-line : (h : Homing) (on : Line) (line entry exit : List Float) (p : Point) (now : ℕ) (t : Told) → h.follow.line ≡ on
     → Updates (λ C. fix_on on C (course_of h line) p now) h entry t exit
     → Updates (λ C. fix_on h.follow.line C (course_of h line) p now) h entry t exit
-by-line h on line entry exit p now t e u = subst (λ (x : Line). Updates (λ C. fix_on x (C) (course_of h line) p now) h entry t exit) (sym e) u
+by-line h on line entry exit p now t e u =
+    subst (λ (x : Line). Updates (λ C. fix_on x (C) (course_of h line) p now) h entry t exit) (sym e) u

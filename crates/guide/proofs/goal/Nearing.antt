@@ -140,7 +140,8 @@ module _ (line : List Crumb) (p : Point) where
   begins : (k : ℕ) → shown (falling rule (suc k) (suc k) Empty) ≡ shown (falling rule k k (Least (near (suc k)) (near (suc k)).off))
   begins k = one_on k Empty ∙ ap (λ (b : SoFar). shown (falling rule k k b)) (first k)
 
-  whole-lost : (k : ℕ) → eq (square_on line p (suc k)) (square_on line p (suc k)) ≡ false → shown (falling rule (suc k) (suc k) Empty) ≡ false
+  whole-lost : (k : ℕ) → eq (square_on line p (suc k)) (square_on line p (suc k)) ≡ false
+      → shown (falling rule (suc k) (suc k) Empty) ≡ false
   unfolding root
   whole-lost k h =
       let e : (near (suc k)).off ≡ nan = on-is line p (suc k) ∙ ap (root binary32) (no_number (square_on line p (suc k)) h) in

@@ -84,7 +84,8 @@ module _ (len : ℕ) (b : List Float) (p : Point) (heading : Heading) where
     too_short h = sym (chosen false (lt-leb _ _ h))
 
     pub long-enough : 2 ≤ len
-        → against_near (crumbs len b) known (nearest_before (crumbs len b) p (ends (crumbs len b) limit)) ≡ rides_back heading (crumbs len b) p
+        → against_near (crumbs len b) known (nearest_before (crumbs len b) p (ends (crumbs len b) limit))
+        ≡ rides_back heading (crumbs len b) p
     long-enough h = sym (chosen true (le-leb _ _ h))
 
 pub ends-few : (len : ℕ) (b : List Float) (limit : Float) → ends (crumbs len b) limit ≤ len

@@ -40,7 +40,8 @@ module _ (n m : ℕ) (a b : List Float) where
   long-on line.Nothing = sym (length-crumbs m b)
   long-on line.Breadcrumb = sym (length-crumbs m b)
 
-  line_on_lem : (on : Line) → followed_on on (crumbs (len_on on n m) a) (crumbs (len_on on n m) b) ≡ followed_on on (crumbs n a) (crumbs m b)
+  line_on_lem : (on : Line)
+      → followed_on on (crumbs (len_on on n m) a) (crumbs (len_on on n m) b) ≡ followed_on on (crumbs n a) (crumbs m b)
   unfolding followed_on
   line_on_lem line.Course = refl
   line_on_lem line.Nothing = refl

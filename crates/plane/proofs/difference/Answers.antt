@@ -11,7 +11,8 @@ pub overflow_cast-result-2 : goal.overflow_cast-result-2
 overflow_cast-result-2 c = widened c.args.b c.ranges.b
 
 pub overflow_sub-result : goal.overflow_sub-result
-overflow_sub-result c = subst (λ (z : ℤ). SFits w64 z) (sym (minus_is c.args.a c.args.b c.ranges.a c.ranges.b)) (small-fits (c.args.a -ℤ c.args.b) (minus-size c.args.a c.args.b c.ranges.a c.ranges.b))
+overflow_sub-result c = subst (λ (z : ℤ). SFits w64 z) (sym (minus_is c.args.a c.args.b c.ranges.a c.ranges.b))
+    (small-fits (c.args.a -ℤ c.args.b) (minus-size c.args.a c.args.b c.ranges.a c.ranges.b))
 
 pub returns : goal.returns
 returns c =

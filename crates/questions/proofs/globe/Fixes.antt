@@ -28,7 +28,8 @@ pub asked : {v b : Bool} (f : ℤ → Bool) (z : ℤ) → SFits w32 z → b ≡ 
 asked f z fits e t = ap f (sym (to_z-of_z w32 z fits)) ∙ sym e ∙ t
 
 pub fix-handed : {n : ℕ} (lat lon : ℤ) → SFits w32 lat → SFits w32 lon
-    → n ≡ asks_fix (record { lat = to_z w32 (of_z w32 lat); lon = to_z w32 (of_z w32 lon) }) → n ≡ asks_fix (record { lat = lat; lon = lon })
+    → n ≡ asks_fix (record { lat = to_z w32 (of_z w32 lat); lon = to_z w32 (of_z w32 lon) })
+    → n ≡ asks_fix (record { lat = lat; lon = lon })
 fix-handed lat lon x y e = e ∙ ap₂ (λ a b. asks_fix (record { lat = a; lon = b })) (to_z-of_z w32 lat x) (to_z-of_z w32 lon y)
 
 -- ---- latitudes and longitudes side by side

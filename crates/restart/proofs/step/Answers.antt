@@ -14,7 +14,12 @@ walk_slots-v-requires c =
     let g = c.args in
     let b = g.crumbs.now in
     let asked = c.asks_step-number.ensures in
-    let passed = c.if-number-ne0.false in record { trail_fit = (crumbs-given (length b) g.h b (step-crumbs g.file.now g.h b asked passed)).trail; file_value = step-file g.file.now g.h b asked passed }
+    let passed = c.if-number-ne0.false in
+    record {
+      trail_fit = (crumbs-given (length b) g.h b (step-crumbs g.file.now g.h b asked passed)).trail;
+      file_value =
+          step-file g.file.now g.h b asked passed;
+    }
 
 pub returns : goal.returns
 returns c =

@@ -22,7 +22,8 @@ use Rattle.calls.specs.Questions.{asks_fix, ◌or_else◌}
 use Rattle.ride_log.specs.Entry.{next_of, record_count, records_from, chain, count_of, sample_start, sample_at, no_sample, sample_of}
 use Rattle.ride_log.specs.Entry.{samples_of, used, kind_number, entry_at}
 use Rattle.calls.specs.Calls.{asks_place}
-use Rattle.ride_log.specs.Questions.{question6, question7, question8, asks_samples, asks_entry, asks_record, asks_records, asks_chain, asks_file}
+use Rattle.ride_log.specs.Questions.{question6, question7, question8, asks_samples, asks_entry, asks_record, asks_records, asks_chain}
+use Rattle.ride_log.specs.Questions.{asks_file}
 use Rattle.ride_log.proofs.file_questions.Chain.{ends, steps-are}
 
 -- ---- the count of steps
@@ -132,7 +133,8 @@ pub place-asked : (p : Place) (lat lon : ℤ) {n : ℕ} → p ≡ place.At lat l
 unfolding asks_place
 place-asked p lat lon is x y e =
     e
-    ∙ ap₂ (λ a b. asks_fix (record { lat = a; lon = b })) (to_z-of_z w32 lat (record { sfits = x })) (to_z-of_z w32 lon (record { sfits = y }))
+    ∙ ap₂ (λ a b. asks_fix (record { lat = a; lon = b })) (to_z-of_z w32 lat (record { sfits = x }))
+    (to_z-of_z w32 lon (record { sfits = y }))
     ∙ sym (ap asks_place is)
 
 -- ---- the samples that are used
@@ -159,7 +161,8 @@ using-start f r count = record { rest = ap (λ n. asks_samples (take n (samples_
 module _ {f : List ℕ} {r count k : ℕ} (before : Using f r count k) (told : count ≡ count_of f r) where
   module _ {n : ℕ} {p : Place} (most : count ≤ 4) (more : k < count) (read : p ≡ (sample_at f (sample_start r k)).place)
       (asked : n ≡ asks_place p) where
-    sample-split : (n or_else asks_samples (take (count - (k + 1)) (drop (k + 1) (samples_of f r)))) ≡ asks_samples (take count (samples_of f r))
+    sample-split : (n or_else asks_samples (take (count - (k + 1)) (drop (k + 1) (samples_of f r))))
+        ≡ asks_samples (take count (samples_of f r))
     unfolding asks_samples samples_of
     sample-split =
         let left : count - k ≡ suc (count - (k + 1)) = omega arith in

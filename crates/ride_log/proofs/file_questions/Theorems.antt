@@ -9,8 +9,10 @@ use borrow.Author.Tests.{eqb-true, eq-eqb, ltb-true, not-true}
 use lib.Dec.{leb, ltb, eqb}
 use lib.ListN.{length}
 use Rattle.calls.specs.Questions.{latitude_fits, longitude_fits, asks_fix, ◌or_else◌, unless}
-use Rattle.ride_log.specs.Entry.{byte_at, u32_at, u64_at, i32_at, signed, record_count, next_of, ride_of, kind_number, count_of, sample_start}
-use Rattle.ride_log.specs.Entry.{kind_of, has_place, has_utc, place_at, utc_at, sample_at, no_sample, sample_of, samples_of, entry_at, recovered}
+use Rattle.ride_log.specs.Entry.{byte_at, u32_at, u64_at, i32_at, signed, record_count, next_of, ride_of, kind_number, count_of}
+use Rattle.ride_log.specs.Entry.{sample_start}
+use Rattle.ride_log.specs.Entry.{kind_of, has_place, has_utc, place_at, utc_at, sample_at, no_sample, sample_of, samples_of, entry_at}
+use Rattle.ride_log.specs.Entry.{recovered}
 use Rattle.ride_log.specs.Entry.{records_from, chain, entries, used}
 use Rattle.calls.specs.Calls.{asks_place}
 use Rattle.ride_log.specs.Questions.{question6, question7, question8, below, stands, twice, asks_samples, asks_entry, asks_record}
@@ -153,7 +155,8 @@ module _ (f g : List ℕ) where
     record_same = rw (kind-same, entry-same)
 
   -- ---- the chain
-  walk_same : (n r : ℕ) → ((x : ℕ) → stands x (records_from n f r) ≡ true → next_of f x ≡ next_of g x) → records_from n f r ≡ records_from n g r
+  walk_same : (n r : ℕ) → ((x : ℕ) → stands x (records_from n f r) ≡ true → next_of f x ≡ next_of g x)
+      → records_from n f r ≡ records_from n g r
   unfolding records_from stands
   walk_same zero r same = refl
   walk_same (suc n) zero same = refl
@@ -212,7 +215,9 @@ only-read = alike
 
 -- ---- the worked file
 pub worked : Example
-unfolding example asks_file asks_chain question6 question7 question8 below stands twice asks_records asks_record asks_entry chain records_from
-    record_count next_of ride_of kind_number count_of kind_of has_place has_utc place_at utc_at sample_at sample_of samples_of entry_at recovered
+unfolding example asks_file asks_chain question6 question7 question8 below stands twice asks_records asks_record asks_entry chain
+    records_from
+    record_count next_of ride_of kind_number count_of kind_of has_place has_utc place_at utc_at sample_at sample_of samples_of entry_at
+    recovered
     entries u32_at u64_at i32_at byte_at signed asks_samples used asks_place asks_fix latitude_fits longitude_fits
 worked = record { accepted = refl; ride = refl; only = refl }

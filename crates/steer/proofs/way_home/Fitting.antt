@@ -55,12 +55,14 @@ module _ (r : Homing) (room line_room : ℕ) (t : trail.TrailFit r.trail room) (
 
   fit-trail : r.follow.line ≡ line.Breadcrumb → 1 ≤ r.follow.segment → r.follow.segment < r.trail.len → HomingFit r room line_room
   unfolding on_course
-  fit-trail n a b = record { trail = t; course = c; on_trail = λ e. (a, b); on_course = λ e. absurd (false≢true (ap on_course (sym n ∙ e))) }
+  fit-trail n a b =
+      record { trail = t; course = c; on_trail = λ e. (a, b); on_course = λ e. absurd (false≢true (ap on_course (sym n ∙ e))) }
 
   fit-course : r.follow.line ≡ line.Course → 1 ≤ r.follow.segment → r.follow.segment < r.course.line_len
       → HomingFit r room line_room
   unfolding on_course
-  fit-course n a b = record { trail = t; course = c; on_trail = λ e. absurd (true≢false (ap on_course (sym n ∙ e))); on_course = λ e. (a, b) }
+  fit-course n a b =
+      record { trail = t; course = c; on_trail = λ e. absurd (true≢false (ap on_course (sym n ∙ e))); on_course = λ e. (a, b) }
 
 -- ---- nothing is followed after a thinning, where nothing was before it
 thinned-line : (b : Bool) (f : Follow) → f.line ≡ line.Nothing → (after_thinning b f).line ≡ line.Nothing

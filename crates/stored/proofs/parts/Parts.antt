@@ -52,7 +52,8 @@ words-there p {a} {b} {d} e f g h k =
     ap (λ u. u ∷ b ∷ d ∷ []) e ∙ ap (λ u. place_flag p ∷ u ∷ d ∷ []) (f ∙ ap unsigned g)
     ∙ ap (λ u. place_flag p ∷ unsigned (lat_in p) ∷ u ∷ []) (h ∙ ap unsigned k)
 
-pub place-words-there : (p : Place) {a b d : ℕ} {x y : ℤ} → a ≡ place_flag p → b ≡ unsigned (to_z w32 (of_z w32 x)) → x ≡ lat_in p → SFits w32 x
+pub place-words-there : (p : Place) {a b d : ℕ} {x y : ℤ} → a ≡ place_flag p → b ≡ unsigned (to_z w32 (of_z w32 x)) → x ≡ lat_in p
+    → SFits w32 x
     → d ≡ unsigned (to_z w32 (of_z w32 y)) → y ≡ lon_in p → SFits w32 y
     → (◌≡◌ {A = List ℕ} (a ∷ b ∷ d ∷ []) (place_words p)) × (within place_mosts (place_words p) ≡ true) × PlaceFits p
 place-words-there p {a} {b} {d} {x} {y} e f g s h k t =

@@ -52,10 +52,13 @@ use Rattle.matching.specs.Followed.{followed, widened}
 use Rattle.guide.specs.Guide.{arrival_from, finished, direct, leave_m, arrive_m}
 use Rattle.update.specs.Update.{begun, matched_at, ended_with, at_course_end, matched_to, match_from, follow_on, update}
 use Rattle.course.specs.Fix.{Fix}
-use Rattle.calls.specs.Fix.{fix_lost_ms, still_ms, is_at, cleared, missing, same_fix, headed, still_at, add_update, tell_following, joined_course}
-use Rattle.calls.specs.Fix.{turned_back, engaged_back, retraced, may_retrace, joined_or_not, fix_on, arrived_at, new_fix, seen, observe, pass_only}
+use Rattle.calls.specs.Fix.{fix_lost_ms, still_ms, is_at, cleared, missing, same_fix, headed, still_at, add_update, tell_following}
+use Rattle.calls.specs.Fix.{joined_course}
+use Rattle.calls.specs.Fix.{turned_back, engaged_back, retraced, may_retrace, joined_or_not, fix_on, arrived_at, new_fix, seen, observe}
+use Rattle.calls.specs.Fix.{pass_only}
 use Rattle.calls.specs.Fix.{replay, end_replay}
-use Rattle.calls.specs.Follow.{update_here, brought, engaged_or, way_home, follow, near_here, follow_from, set_following, auto_off, set_auto_follow}
+use Rattle.calls.specs.Follow.{update_here, brought, engaged_or, way_home, follow, near_here, follow_from, set_following, auto_off}
+use Rattle.calls.specs.Follow.{set_auto_follow}
 use Rattle.calls.specs.Line.{new, reset, off_course, set_course}
 use Rattle.calls.specs.Questions.{asks_crumbs, asks_both, ◌or_else◌}
 use Rattle.calls.specs.Calls.{Call, Ask, Reset, EndReplay, SetCourse, SetAutoFollow, Observe, Replay, SetFollowing, point_of, asks_place}

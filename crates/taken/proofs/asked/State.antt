@@ -32,7 +32,8 @@ use Rattle.state.specs.State.{State, with_frame}
 use Rattle.follow.specs.Parts.{ended_by_thinning}
 use Rattle.follow.specs.Record.{after_thinning, recorded_in, recorded, add_in}
 use Rattle.course.specs.Fix.{Fix, located}
-use Rattle.calls.specs.Questions.{places_fit, spot_fits, along_fits, heading_fits, shown_fits, factor_fits, segment_fits, follow_fits, retrace_fits}
+use Rattle.calls.specs.Questions.{places_fit, spot_fits, along_fits, heading_fits, shown_fits, factor_fits, segment_fits, follow_fits}
+use Rattle.calls.specs.Questions.{retrace_fits}
 use Rattle.calls.specs.Questions.{counts_fit, spots_fit, numbers_fit, state_fits, crumbs_fit, held_fits, place_fits}
 use Rattle.calls.specs.Fix.{headed, pass_only, replay, unheaded}
 use Rattle.calls.specs.Line.{no_lap, lined, awaiting, reset}
@@ -178,7 +179,8 @@ module _ {C : ℕ} (s : State) (k : Passing C s) where
   held-passes = both (le-leb (length s.track.crumbs) C k.track.sound.held) (crumbs-pass s.track.crumbs k.track.crumbs)
 
 -- ---- the breadcrumb in the whole state
-longer-follow : (on : Line) (segment len len' n : ℕ) → len ≤ len' → follow_fits on segment len n ≡ true → follow_fits on segment len' n ≡ true
+longer-follow : (on : Line) (segment len len' n : ℕ) → len ≤ len' → follow_fits on segment len n ≡ true
+    → follow_fits on segment len' n ≡ true
 unfolding follow_fits segment_fits
 longer-follow line.Nothing segment len len' n g h = refl
 longer-follow line.Breadcrumb segment len len' n g h =

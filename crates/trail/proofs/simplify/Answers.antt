@@ -30,4 +30,5 @@ pub returns : goal.returns
 returns c =
     let a = c.args in
     simplifies-straight a.t _ _ a.anchor a.p c.requires.1
-    (straight a.t _ _ a.anchor a.p c.strays.ensures c.if-strays.false (ne_eqb a.t.window_len window_places c.if-t-eq-WINDOW.false)) c.wait-2.ensures
+    (straight a.t _ _ a.anchor a.p c.strays.ensures c.if-strays.false (ne_eqb a.t.window_len window_places c.if-t-eq-WINDOW.false))
+    c.wait-2.ensures

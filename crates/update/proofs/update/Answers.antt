@@ -13,7 +13,11 @@ outcome_at-o-requires c =
     let g = c.args in
     let f = c.followed_by-f.ensures in
     let h = whole g.h [] in
-    record { lent = lent-here h g.crumbs.now g.line.now f (c.requires []); segment_lt_len = last-here h g.crumbs.now g.line.now f (c.requires []) }
+    record {
+      lent = lent-here h g.crumbs.now g.line.now f (c.requires []);
+      segment_lt_len =
+          last-here h g.crumbs.now g.line.now f (c.requires []);
+    }
 
 pub direct-requires : goal.direct-requires
 direct-requires c =

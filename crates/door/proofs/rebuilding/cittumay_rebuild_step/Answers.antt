@@ -20,7 +20,13 @@ returns c =
     let put = c.put_verdict.ensures in
     with-both _ _ (both-held c.load_rebuild-begun.ensures c.load-there.ensures (not_from_true _ c.if-not-begun-there.false))
     (record {
-      made = record { answer = c.step-stepped.result; promised = c.step-stepped.ensures; told = kept.value ∙ put.value; written = put.yes_after };
+      made = record {
+        answer = c.step-stepped.result;
+        promised = c.step-stepped.ensures;
+        told = kept.value ∙ put.value;
+        written =
+            put.yes_after;
+      };
       rebuilt = kept.leaves_rebuild;
       state = kept.leaves;
     })

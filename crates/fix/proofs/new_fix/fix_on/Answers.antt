@@ -12,7 +12,8 @@ pub update-requires : goal.update-requires
 update-requires c = λ w. fit_same (whole c.args.h c.args.window.now) (whole c.args.h w) _ _ c.requires.1.fit refl refl refl
 
 pub add_update-requires : goal.add_update-requires
-add_update-requires c = record { window_len = (c.requires.0, c.requires.1.fit); grows = course-grows (whole c.args.h c.args.window.now) c.in-Course.is }
+add_update-requires c =
+    record { window_len = (c.requires.0, c.requires.1.fit); grows = course-grows (whole c.args.h c.args.window.now) c.in-Course.is }
 
 pub unfollowed-requires : goal.unfollowed-requires
 unfollowed-requires c = record { window_len = c.requires; line_value = c.in-Nothing.is }

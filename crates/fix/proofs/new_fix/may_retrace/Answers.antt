@@ -14,7 +14,11 @@ retraced-requires c =
     let g = c.args in
     let h = whole g.h g.window.now in
     let r = retraced_as h c.retracing-b.result in
-    let a = asks-retracing h g.crumbs.now g.p c.retracing-b.result c.retracing-b.ensures in record { window_len = (c.requires.window_len.0, retrace-fit h g.crumbs.now g.p r a _ c.requires.window_len.1.fit); retrace_len_bound = (retrace-few h g.crumbs.now g.p r a c.if-b.true c.requires.window_len.1.back, c.requires.line_value) }
+    let a = asks-retracing h g.crumbs.now g.p c.retracing-b.result c.retracing-b.ensures in
+    record {
+      window_len = (c.requires.window_len.0, retrace-fit h g.crumbs.now g.p r a _ c.requires.window_len.1.fit);
+      retrace_len_bound = (retrace-few h g.crumbs.now g.p r a c.if-b.true c.requires.window_len.1.back, c.requires.line_value);
+    }
 
 pub returns-then-b : goal.returns-then-b
 returns-then-b c =
@@ -31,7 +35,12 @@ add_update-requires c =
     let g = c.args in
     let h = whole g.h g.window.now in
     let r = retraced_as h c.retracing-b.result in
-    let a = asks-retracing h g.crumbs.now g.p c.retracing-b.result c.retracing-b.ensures in record { window_len = (c.requires.window_len.0, retrace-fit h g.crumbs.now g.p r a _ c.requires.window_len.1.fit); grows = idle-grows r.homing c.requires.line_value }
+    let a = asks-retracing h g.crumbs.now g.p c.retracing-b.result c.retracing-b.ensures in
+    record {
+      window_len = (c.requires.window_len.0, retrace-fit h g.crumbs.now g.p r a _ c.requires.window_len.1.fit);
+      grows =
+          idle-grows r.homing c.requires.line_value;
+    }
 
 pub returns-then-h : goal.returns-then-h
 returns-then-h c =
@@ -44,7 +53,11 @@ returns-then-h c =
     c.if-h.true c.if-b.false c.add_update.ensures
 
 pub add_update-requires-2 : goal.add_update-requires-2
-add_update-requires-2 c = record { window_len = (c.requires.window_len.0, c.requires.window_len.1.fit); grows = idle-grows (whole c.args.h c.args.window.now) c.requires.line_value }
+add_update-requires-2 c = record {
+  window_len = (c.requires.window_len.0, c.requires.window_len.1.fit);
+  grows =
+      idle-grows (whole c.args.h c.args.window.now) c.requires.line_value;
+}
 
 pub returns : goal.returns
 returns c =

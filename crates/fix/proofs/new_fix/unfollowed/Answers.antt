@@ -13,7 +13,11 @@ joined_course-requires c =
     let g = c.args in
     let h = whole g.h g.window.now in
     let r = joined_as h c.joining-j.result in
-    let a = asks-joining h g.crumbs.now g.line.now g.p c.joining-j.result c.joining-j.ensures in record { window_len = (c.requires.window_len.0, (join-ready h g.crumbs.now g.line.now g.p r a _ c.requires.window_len.1).fit); bound = joined_at h g.crumbs.now g.line.now g.p r a c.if-j.true }
+    let a = asks-joining h g.crumbs.now g.line.now g.p c.joining-j.result c.joining-j.ensures in
+    record {
+      window_len = (c.requires.window_len.0, (join-ready h g.crumbs.now g.line.now g.p r a _ c.requires.window_len.1).fit);
+      bound = joined_at h g.crumbs.now g.line.now g.p r a c.if-j.true;
+    }
 
 pub returns-then-j : goal.returns-then-j
 returns-then-j c =
@@ -30,7 +34,11 @@ may_retrace-requires c =
     let g = c.args in
     let h = whole g.h g.window.now in
     let r = joined_as h c.joining-j.result in
-    let a = asks-joining h g.crumbs.now g.line.now g.p c.joining-j.result c.joining-j.ensures in record { window_len = (c.requires.window_len.0, join-ready h g.crumbs.now g.line.now g.p r a _ c.requires.window_len.1); line_value = c.requires.line_value }
+    let a = asks-joining h g.crumbs.now g.line.now g.p c.joining-j.result c.joining-j.ensures in
+    record {
+      window_len = (c.requires.window_len.0, join-ready h g.crumbs.now g.line.now g.p r a _ c.requires.window_len.1);
+      line_value = c.requires.line_value;
+    }
 
 pub returns : goal.returns
 returns c =

@@ -10,7 +10,8 @@ pub returns-then-not-question6 : goal.returns-then-not-question6
 returns-then-not-question6 c = file-size _ c.question6.ensures (not_from_false _ c.if-not-question6.true)
 
 pub overflow_cast-count : goal.overflow_cast-count
-overflow_cast-count c = let n = counted _ c.question6.ensures (not_from_true _ c.if-not-question6.false) in record { fits = omega (arith, n.most) }
+overflow_cast-count c = let n = counted _ c.question6.ensures (not_from_true _ c.if-not-question6.false) in
+    record { fits = omega (arith, n.most) }
 
 pub question7-requires : goal.question7-requires
 unfolding record_count
