@@ -9,7 +9,7 @@ import re
 import subprocess
 import sys
 
-WORD = re.compile(r"«[^»]*»|[A-Za-z_][A-Za-z0-9_']*")
+WORD = re.compile(r"«[^»]*»|(?<![A-Za-z0-9_])[A-Za-z_][A-Za-z0-9_']*")
 # lemmas that would have the name of a word in scope, by the files that cite them
 LEMMAS = {
     "crates/journal/proofs/Calls.antt": ("way_home", "update_here"),

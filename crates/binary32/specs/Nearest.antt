@@ -14,7 +14,7 @@ pub record NoneNearer (f : Format) (X R : ℕ) : Type 0 where
   pub above : (m i : ℕ) → m < 2 ^ prec f → R < m * 2 ^ i → 4 * (X * 2 ^ low f) ≤ (R + m * 2 ^ i) * (R + m * 2 ^ i)
   pub below : (m i : ℕ) → m < 2 ^ prec f → m * 2 ^ i < R → (R + m * 2 ^ i) * (R + m * 2 ^ i) ≤ 4 * (X * 2 ^ low f)
 
--- "Root: IEEE 754 square_root": of a value above 0 no value of the format is nearer than the root,
+-- "Root: IEEE 754 squareRoot": of a value above 0 no value of the format is nearer than the root,
 abbrev pub EveryRootNearest : Type 0
 EveryRootNearest =
     (f : Format) (x : Float) (X R : ℕ) → 0 < X → HasValue x false X (2 ^ low f) → HasValue (root f x) false R (2 ^ low f) → NoneNearer f X R

@@ -26,7 +26,7 @@ const GUIDE: usize = 10;
 // The most that a mode's word may be, and a bearing's or a heading's.
 const MODE_MOST: u32 = 3;
 
-const ANGLE_MOST: u32 = 0x_fFFF;
+const ANGLE_MOST: u32 = 0xFFFF;
 
 // ---- of the state alone
 

@@ -17,9 +17,9 @@ pub const U64: u64 = 0xFFFF_FFFF_FFFF_FFFF;
 
 pub const U32: u64 = 0xFFFF_FFFF;
 
-pub const U16: u64 = 0x_fFFF;
+pub const U16: u64 = 0xFFFF;
 
-pub const U8: u64 = 0x_fF;
+pub const U8: u64 = 0xFF;
 
 // ---- copies
 

@@ -61,9 +61,9 @@ fn at_course_end(on: Line, near: Nearest) -> bool
 
 // Dropped, at the course's end, or matched.
 fn matched_to(on: Line, near: Nearest) -> Outcome
-    ensures by_index { (C at : ℕ) (course : List Crumb) (p : Point) (s : State) → s.follow.line ≡ on
+    ensures comes { (C at : ℕ) (course : List Crumb) (p : Point) (s : State) → s.follow.line ≡ on
         → matched_to C course p at near s ≡ comes_to result C course p at s }
-    ensures by_index_2 { (len : ℕ) → (1 ≤ near.end) × (near.end < len) → MatchedIn len result }
+    ensures stays_in { (len : ℕ) → (1 ≤ near.end) × (near.end < len) → MatchedIn len result }
 {
     if near.off > distances::DROP_M {
         return Outcome::Ends(Event::Dropped);

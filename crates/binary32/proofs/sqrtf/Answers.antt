@@ -10,21 +10,22 @@ pub float_to_bits-b : goal.float_to_bits-b
 float_to_bits-b c = above_no_nan c.args.x (above_zero c.args.x c.if-x.true)
 
 pub of_bits-requires : goal.of_bits-requires
-of_bits-requires c = (
-  bits_pos c.args.x (let it : T (fits binary32 c.args.x) = subst T (sym c.well_formed.0.1) tt in
-      it) (above_zero c.args.x c.if-x.true),
-  c.if-b-lt2139095040.true,
-)
+of_bits-requires c =
+    let held : T (fits binary32 c.args.x) = subst T (sym c.well_formed.0.1) tt in (
+      bits_pos c.args.x held (above_zero c.args.x c.if-x.true),
+      c.if-b-lt2139095040.true,
+    )
 
 pub returns-then-b-lt2139095040 : goal.returns-then-b-lt2139095040
 returns-then-b-lt2139095040 c =
+    let held : T (fits binary32 c.args.x) = subst T (sym c.well_formed.0.1) tt in
     c.of_bits.ensures ∙ ap (root binary32)
-    (of_bits-to_bits binary32 c.args.x (let it : T (fits binary32 c.args.x) = subst T (sym c.well_formed.0.1) tt in it))
+    (of_bits-to_bits binary32 c.args.x held)
 
 pub returns-else-b-lt2139095040 : goal.returns-else-b-lt2139095040
 returns-else-b-lt2139095040 c =
-    sym (top-root c.args.x (let it : T (fits binary32 c.args.x) = subst T (sym c.well_formed.0.1) tt in
-    it) (above_zero c.args.x c.if-x.true) c.if-b-lt2139095040.false)
+    let held : T (fits binary32 c.args.x) = subst T (sym c.well_formed.0.1) tt in
+    sym (top-root c.args.x held (above_zero c.args.x c.if-x.true) c.if-b-lt2139095040.false)
 
 pub returns-then-x-2 : goal.returns-then-x-2
 returns-then-x-2 c = sym (zero-root c.args.x c.if-x-2.true)

@@ -1,5 +1,4 @@
 -- `restart::walk_slots` meets its contract: each slot with a record is looked at, and those behind the chain's end are passed at once.
---
 use Prim.Native.Nat.{◌-◌}
 use Rattle.rebuild.proofs.Making.{visited}
 use Rattle.restart.proofs.Stepping.{Going}

@@ -7,8 +7,9 @@ use Rattle.binary32.proofs.Cases.{none}
 use Rattle.thin.proofs.under.Goals as goal
 
 pub returns-then-sqrtf-tolerance : goal.returns-then-sqrtf-tolerance
-returns-then-sqrtf-tolerance c = under-found (let it : T (fits binary32 c.args.x) = subst T (sym c.well_formed.0.1) tt in
-    it) c.sqrtf.ensures c.if-sqrtf-tolerance.true
+returns-then-sqrtf-tolerance c =
+    let held : T (fits binary32 c.args.x) = subst T (sym c.well_formed.0.1) tt in
+    under-found held c.sqrtf.ensures c.if-sqrtf-tolerance.true
 
 pub returns : goal.returns
 returns c = under_none none

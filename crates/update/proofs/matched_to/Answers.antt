@@ -9,16 +9,16 @@ use Rattle.update.proofs.matched_to.Goals as goal
 pub returns-then-near : goal.returns-then-near
 unfolding drop_m constant of_bits
 returns-then-near c =
-    record { by_index = (λ C at course p s is. drops C at course p s c.args.near c.if-near.true); by_index_2 = (λ len on. tt) }
+    record { comes = (λ C at course p s is. drops C at course p s c.args.near c.if-near.true); stays_in = (λ len on. tt) }
 
 pub returns-then-at_course_end : goal.returns-then-at_course_end
 unfolding drop_m constant of_bits
 returns-then-at_course_end c =
     let near = c.args.near in
     let end = c.at_course_end in record {
-      by_index = (λ C at course p s is. reaches_end C at course p s near c.if-near.false
+      comes = (λ C at course p s is. reaches_end C at course p s near c.if-near.false
           (sym (end.ensures s is) ∙ c.if-at_course_end.true));
-      by_index_2 = (λ len on. tt);
+      stays_in = (λ len on. tt);
     }
 
 pub returns : goal.returns
@@ -26,7 +26,7 @@ unfolding drop_m constant of_bits
 returns c =
     let near = c.args.near in
     let end = c.at_course_end in record {
-      by_index = (λ C at course p s is. goes_on C at course p s near c.if-near.false
+      comes = (λ C at course p s is. goes_on C at course p s near c.if-near.false
           (sym (end.ensures s is) ∙ c.if-at_course_end.false));
-      by_index_2 = (λ len on. on);
+      stays_in = (λ len on. on);
     }

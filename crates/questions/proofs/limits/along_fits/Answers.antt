@@ -8,4 +8,6 @@ use Rattle.questions.proofs.limits.along_fits.Goals as goal
 
 pub returns : goal.returns
 unfolding along_end constant of_bits
-returns c = along-tested c.args.x (let it : T (fits binary32 c.args.x) = subst T (sym c.well_formed.0.1) tt in it)
+returns c =
+    let held : T (fits binary32 c.args.x) = subst T (sym c.well_formed.0.1) tt in
+    along-tested c.args.x held

@@ -10,5 +10,6 @@ use Rattle.questions.proofs.limits.factor_fits.Goals as goal
 
 pub returns : goal.returns
 unfolding factor_most constant of_bits neg
-returns c = sized-within _ _ c.args.x ∙ factor-tested c.args.x (let it : T (fits binary32 c.args.x) = subst T (sym c.well_formed.0.1) tt in
-    it)
+returns c =
+    let held : T (fits binary32 c.args.x) = subst T (sym c.well_formed.0.1) tt in
+    sized-within _ _ c.args.x ∙ factor-tested c.args.x held

@@ -1,5 +1,4 @@
 -- `questions::limits::sized` meets its contract: a size is at most the bound where the number lies from the negative bound to the bound.
---
 use mathlib.Core.Path.{◌∙◌}
 use lib.Ieee.{of_bits, neg}
 use Rattle.binary32.specs.Arithmetic.{constant}

@@ -9,10 +9,10 @@ use Rattle.stored.proofs.parts.guide_words.Goals as goal
 
 pub returns : goal.returns
 returns c =
-    let direct = (let it : c.args.g.direct_m ≤ 4294967295 = omega arith in it) in
-    let track = (let it : c.args.g.track_m ≤ 4294967295 = omega arith in it) in
-    let off = (let it : c.args.g.off_m ≤ 4294967295 = omega arith in it) in
-    let bearing = (let it : c.args.g.bearing ≤ 65535 = omega arith in it) in (
+    let direct : c.args.g.direct_m ≤ 4294967295 = omega arith in
+    let track : c.args.g.track_m ≤ 4294967295 = omega arith in
+    let off : c.args.g.off_m ≤ 4294967295 = omega arith in
+    let bearing : c.args.g.bearing ≤ 65535 = omega arith in (
       cons c.mode_tag.ensures (cons
           c.flag.ensures
           (cons c.flag-2.ensures
