@@ -3,13 +3,12 @@ use Prim.Native.Nat.{ℕ, zero, suc}
 use mathlib.Core.Path.{◌≡◌, refl, sym, ap, ap₂, ◌∙◌}
 use mathlib.Core.Logic.{◌≢◌}
 use mathlib.Core.List.{List, []}
-use mathlib.Core.Option.{Option, none, some}
+use Rattle.std.specs.Prelude.{None, Option, Some}
 use borrow.Author.Tests.{ne_eqb, eq-eqb}
 use lib.ListN.{length}
 use lib.Ieee.{Float}
 use Rattle.binary32.specs.Casts.{as_u32}
 use Rattle.plane.specs.declared.Point.{Point}
-use Rattle.plane.specs.declared.Spot.TheVariants.{At}
 use Rattle.plane.specs.Plane.{distance}
 use Rattle.crumbs.specs.Crumb.{crumbs}
 use Rattle.crumbs.specs.Inner.{Front}
@@ -40,22 +39,22 @@ unfolding len track
 len-held h b = sym (length-crumbs h.trail.len b)
 
 -- ---- the way back
-pub back-empty : (p : Point) (n : ℕ) (b : List Float) → n ≡ 0 → none ≡ way_back_from (At p) (crumbs n b)
+pub back-empty : (p : Point) (n : ℕ) (b : List Float) → n ≡ 0 → None ≡ way_back_from (Some p) (crumbs n b)
 unfolding way_back_from crumbs
 back-empty p n b e = rw e
 
 abbrev metres : ℕ → ℕ → Option Back
-metres direct track = some (record { direct = direct; track = track })
+metres direct track = Some (record { direct = direct; track = track })
 
 held : (p : Point) (n : ℕ) (b : List Float) → n ≢ 0
-    → metres (as_u32 (distance p (start_of (crumbs n b) p))) (as_u32 (recorded_m (crumbs n b) p)) ≡ way_back_from (At p) (crumbs n b)
+    → metres (as_u32 (distance p (start_of (crumbs n b) p))) (as_u32 (recorded_m (crumbs n b) p)) ≡ way_back_from (Some p) (crumbs n b)
 unfolding way_back_from crumbs
 held p zero b ne = absurd (ne refl)
 held p (suc n) b ne = refl
 
 pub back-held : (p : Point) (n : ℕ) (b : List Float) → n ≢ 0 → (direct track : ℕ)
     → direct ≡ as_u32 (distance p (start_of (crumbs n b) p)) → track ≡ as_u32 (recorded_m (crumbs n b) p)
-    → some (record { direct = direct; track = track }) ≡ way_back_from (At p) (crumbs n b)
+    → Some (record { direct = direct; track = track }) ≡ way_back_from (Some p) (crumbs n b)
 back-held p n b ne direct track d t = ap₂ metres d t ∙ held p n b ne
 
 -- ---- a part that is returned

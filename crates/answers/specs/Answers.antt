@@ -1,9 +1,6 @@
 -- Document 01: "Where an answer is an enum, a definition gives this paper's number and values for each of its cases."
-use Rattle.std.specs.Prelude.{ℕ, Bool}
-use Rattle.std.proofs.Math.Option.{Option, none, some}
-use Rattle.plane.specs.declared.Heading.{Heading}
-use Rattle.state.specs.declared.Shown.{Shown}
-use Rattle.state.specs.declared.Shown.TheVariants as shown
+use Rattle.std.specs.Prelude.{ℕ, Bool, Option, Some, None}
+use Rattle.state.specs.declared.Guide.{Guide}
 use Rattle.calls.specs.Ask as ask
 use Rattle.calls.specs.Promises.{Answer, refused, gives}
 use Rattle.answers.specs.declared.Count.{Count}
@@ -33,25 +30,25 @@ says_verdict (verdict.Refused number) = refused number
 
 -- `course_ahead`, `route_home`
 unfoldable pub says_ahead : Ahead → Answer (Option ask.Ahead)
-says_ahead (ahead.Along end point) = gives (some (record { end = end; point = point }))
-says_ahead ahead.Nothing = gives none
+says_ahead (ahead.Along end point) = gives (Some (record { end = end; point = point }))
+says_ahead ahead.Nothing = gives None
 says_ahead (ahead.Refused number) = refused number
 
 -- `heading`
-unfoldable pub says_riding : Riding → Answer Heading
+unfoldable pub says_riding : Riding → Answer (Option ℕ)
 says_riding (riding.Heading x) = gives x
 says_riding (riding.Refused number) = refused number
 
 -- `guide`
-unfoldable pub says_showing : Showing → Answer Shown
-says_showing (showing.Guide g) = gives (shown.Guide g)
-says_showing showing.Nothing = gives shown.Nothing
+unfoldable pub says_showing : Showing → Answer (Option Guide)
+says_showing (showing.Guide g) = gives (Some g)
+says_showing showing.Nothing = gives None
 says_showing (showing.Refused number) = refused number
 
 -- `way_back`
 unfoldable pub says_back : Back → Answer (Option ask.Back)
-says_back (back.Metres direct track) = gives (some (record { direct = direct; track = track }))
-says_back back.Nothing = gives none
+says_back (back.Metres direct track) = gives (Some (record { direct = direct; track = track }))
+says_back back.Nothing = gives None
 says_back (back.Refused number) = refused number
 
 -- `arrow`

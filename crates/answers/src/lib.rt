@@ -11,9 +11,9 @@ ghost use Rattle.answers.specs.Promises.{AnswersLen, AnswersFollowing, AnswersFo
 ghost use Rattle.answers.specs.Promises.{AnswersHeading, AnswersGuide, AnswersWayBack, ReturnsCrumbs, ReturnsCourse, AnswersArrow};
 
 use crumbs::along;
-use plane::{Heading, Spot};
+use plane::Point;
 use questions::limits;
-use state::{Guide, Homing, Line, Shown};
+use state::{Guide, Homing, Line};
 
 #[derive(Clone, Copy)]
 pub enum Count {
@@ -31,14 +31,14 @@ pub enum Verdict {
 // matched yet.
 #[derive(Clone, Copy)]
 pub enum Ahead {
-    Along(usize, Spot),
+    Along(usize, Option<Point>),
     Nothing,
     Refused(u8),
 }
 
 #[derive(Clone, Copy)]
 pub enum Riding {
-    Heading(Heading),
+    Heading(Option<u16>),
     Refused(u8),
 }
 
@@ -161,19 +161,19 @@ pub fn guide(h: Homing) -> Showing
     }
     let shown = h.guide;
     match shown {
-        Shown::Guide(g) => Showing::Guide(g),
-        Shown::Nothing => Showing::Nothing,
+        Some(g) => Showing::Guide(g),
+        None => Showing::Nothing,
     }
 }
 
 // ---- of the state and a lent buffer
 
 // The way back from where the rider is, over the first `len` crumbs.
-fn way_back_from(here: Spot, crumbs: &[f32], len: usize) -> Back
+fn way_back_from(here: Option<Point>, crumbs: &[f32], len: usize) -> Back
     requires { len ≤ capacity (length crumbs.now) }
     ensures { says_back result ≡ gives (way_back_from here (held_crumbs len crumbs.now)) }
 {
-    let Spot::At(p) = here else {
+    let Some(p) = here else {
         return Back::Nothing;
     };
     if len == 0 {
@@ -235,7 +235,7 @@ pub fn arrow(g: Guide) -> Angle
     let bearing = g.bearing;
     let heading = g.heading;
     match heading {
-        Heading::Known(way) => Angle::Is((bearing + plane::TURN - way) % plane::TURN),
-        Heading::Unknown => Angle::Is(bearing),
+        Some(way) => Angle::Is((bearing + plane::TURN - way) % plane::TURN),
+        None => Angle::Is(bearing),
     }
 }

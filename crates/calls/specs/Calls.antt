@@ -1,13 +1,11 @@
 -- The guide's calls as data, the questions each is asked, and what each does. Document 01, "Journal": "Its list holds `Homing`'s calls
 -- named above except `new`, in any order"; "its arguments, to which the lent line belongs, whoever wrote it".
-use Rattle.std.specs.Prelude.{ℕ, Bool, true, false, List, [], ◌∷◌, eqb, length, Float}
+use Rattle.std.specs.Prelude.{ℕ, Bool, true, false, List, [], ◌∷◌, eqb, length, Float, Option, Some, None}
 use Rattle.crumbs.specs.declared.Crumb.{Crumb}
 use Rattle.crumbs.specs.Crumb.{capacity, crumbs}
-use Rattle.state.specs.declared.Place.{Place}
-use Rattle.state.specs.declared.Place.TheVariants as place
+use Rattle.plane.specs.declared.Fix.{Fix}
 use Rattle.state.specs.State.{State}
 use Rattle.state.specs.Rule.{Done, done}
-use Rattle.course.specs.Fix.{Fix}
 use Rattle.calls.specs.Fix.{observe, replay, end_replay}
 use Rattle.calls.specs.Follow.{set_following, set_auto_follow}
 use Rattle.calls.specs.Line.{reset, set_course}
@@ -30,7 +28,7 @@ pub data Call : Type 0 where
   Reset EndReplay : Call
   SetCourse : List Float → List Fix → Call
   SetAutoFollow : Bool → Call
-  Observe : List Float → Place → ℕ → Call
+  Observe : List Float → Option Fix → ℕ → Call
   Replay : Fix → ℕ → Call
   SetFollowing : List Float → Bool → ℕ → Call
 
@@ -40,9 +38,9 @@ pub record Arguments : Type 0 where
   pub points : List Fix
   pub clock : ℕ
 
-abbrev pub point_of : Place → List Fix
-point_of (place.At lat lon) = record { lat = lat; lon = lon } ∷ []
-point_of place.Missing = []
+abbrev pub point_of : Option Fix → List Fix
+point_of (Some x) = x ∷ []
+point_of None = []
 
 abbrev pub arguments : Call → Arguments
 arguments (Ask {loan = loan} q) = record { loan = loan; points = []; clock = 0 }
@@ -56,9 +54,9 @@ arguments (SetFollowing b on now) = record { loan = both_buffers b; points = [];
 
 -- ---- the questions
 -- a place that may be missing
-unfoldable pub asks_place : Place → ℕ
-asks_place (place.At lat lon) = asks_fix (record { lat = lat; lon = lon })
-asks_place place.Missing = 0
+unfoldable pub asks_place : Option Fix → ℕ
+asks_place (Some x) = asks_fix x
+asks_place None = 0
 
 -- about the state and what is lent
 unfoldable pub asks_lent : ℕ → Loan → State → ℕ

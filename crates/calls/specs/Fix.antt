@@ -1,22 +1,17 @@
 -- A fix taken: `observe`, `replay`, `end_replay`. Document 01, "Fix"; homing.rs.
-use Rattle.std.specs.Prelude.{ℕ, Bool, true, false, ◌&&◌, cond, List, ltb, eqb, ℤ, pos, negsuc}
+use Rattle.std.specs.Prelude.{ℕ, Bool, true, false, ◌&&◌, cond, List, ltb, eqb, ℤ, pos, negsuc, Option, Some, None}
 use Rattle.plane.specs.declared.Point.{Point}
-use Rattle.plane.specs.declared.Spot.{Spot}
-use Rattle.plane.specs.declared.Spot.TheVariants as spot
-use Rattle.plane.specs.declared.Heading.TheVariants.{Unknown}
+use Rattle.plane.specs.declared.Fix.{Fix}
 use Rattle.crumbs.specs.declared.Crumb.{Crumb}
 use Rattle.motion.specs.declared.Motion.{Motion}
 use Rattle.lap.specs.declared.Lap.{Lap}
 use Rattle.motion.specs.Heading.{elapsed, track_heading}
 use Rattle.lap.specs.Lap.{step_pass}
 use Rattle.trail.specs.Trail.{Track, with_crumbs, with_window}
-use Rattle.state.specs.declared.Place.{Place}
-use Rattle.state.specs.declared.Place.TheVariants as place
 use Rattle.state.specs.declared.Line.{Line}
 use Rattle.state.specs.declared.Line.TheVariants as line
 use Rattle.state.specs.declared.Event.{Event}
 use Rattle.state.specs.declared.Event.TheVariants as event
-use Rattle.state.specs.declared.Shown.TheVariants as shown
 use Rattle.state.specs.declared.Course.{Course}
 use Rattle.state.specs.State.{State, with_track, with_frame, with_fed, with_here, with_here_ms, with_motion, with_course, with_lap}
 use Rattle.state.specs.State.{with_guide}
@@ -26,7 +21,7 @@ use Rattle.follow.specs.Record.{add_in}
 use Rattle.follow.specs.Engage.{cut_to, forgotten, engage_at, engage}
 use Rattle.joining.specs.Join.{joining, retracing}
 use Rattle.update.specs.Update.{update}
-use Rattle.course.specs.Fix.{Fix, located, framed}
+use Rattle.course.specs.Fix.{located, framed}
 
 -- "A missing fix for more than 5,000 ms clears guide and place."
 abbrev pub fix_lost_ms : ℕ
@@ -37,15 +32,15 @@ abbrev pub still_ms : ℕ
 still_ms = 1000
 
 -- ---- a missing fix
-unfoldable pub is_at : Spot → Bool
-is_at (spot.At p) = true
-is_at spot.Nowhere = false
+unfoldable pub is_at : Option Point → Bool
+is_at (Some p) = true
+is_at None = false
 
 unfoldable pub unfixed : Course → Course
-unfixed c = course_with c.line_len c.unplaced c.held c.join_fixes c.join_end c.along c.reached spot.Nowhere
+unfixed c = course_with c.line_len c.unplaced c.held c.join_fixes c.join_end c.along c.reached None
 
 unfoldable pub cleared : State → State
-cleared s = with_guide shown.Nothing (with_course (unfixed s.course) (with_fed place.Missing (with_here spot.Nowhere s)))
+cleared s = with_guide None (with_course (unfixed s.course) (with_fed None (with_here None s)))
 
 unfoldable pub missing : ℕ → State → Done Event
 missing now s = done event.Nothing (cond (is_at s.here && ltb fix_lost_ms (elapsed now s.here_ms)) (cleared s) s)
@@ -57,18 +52,18 @@ eq_z (negsuc m) (negsuc n) = eqb m n
 eq_z (pos m) (negsuc n) = false
 eq_z (negsuc m) (pos n) = false
 
-unfoldable pub same_fix : Place → Fix → Bool
-same_fix (place.At lat lon) x = eq_z lat x.lat && eq_z lon x.lon
-same_fix place.Missing x = false
+unfoldable pub same_fix : Option Fix → Fix → Bool
+same_fix (Some fed) x = eq_z fed.lat x.lat && eq_z fed.lon x.lon
+same_fix None x = false
 
 -- the heading taken on, in the whole state
 unfoldable pub headed : Point → ℕ → State → State
 headed p now s = with_motion (track_heading s.motion p now) s
 
 -- time still passes, for the heading and the reminders, but nothing is recorded
-unfoldable pub still_at : Spot → ℕ → List Crumb → ℕ → State → Done Event
-still_at spot.Nowhere C course now s = done event.Nothing s
-still_at (spot.At p) C course now s =
+unfoldable pub still_at : Option Point → ℕ → List Crumb → ℕ → State → Done Event
+still_at None C course now s = done event.Nothing s
+still_at (Some p) C course now s =
     elim (ltb (elapsed now s.updated_ms) still_ms) [ true ↦ done event.Nothing s | false ↦ update C course p now (headed p now s) ]
 
 -- ---- a new fix
@@ -119,7 +114,7 @@ unfoldable pub arrived_at : Fix → ℕ → State → State
 arrived_at x now s =
     let f = located x s.frame in
     headed (framed f x) now
-    (with_here (spot.At (framed f x)) (with_frame f (with_fed (place.At x.lat x.lon) s)))
+    (with_here (Some (framed f x)) (with_frame f (with_fed (Some x) s)))
 
 unfoldable pub new_fix : ℕ → List Crumb → Fix → ℕ → State → Done Event
 new_fix C course x now s =
@@ -133,9 +128,9 @@ seen C course x now s =
     ]
 
 -- "a missing fix is taken apart first and ends the call"
-unfoldable pub observe : ℕ → List Crumb → Place → ℕ → State → Done Event
-observe C course (place.At lat lon) now s = seen C course (record { lat = lat; lon = lon }) now s
-observe C course place.Missing now s = missing now s
+unfoldable pub observe : ℕ → List Crumb → Option Fix → ℕ → State → Done Event
+observe C course (Some x) now s = seen C course x now s
+observe C course None now s = missing now s
 
 -- ---- a fix from before a restart
 -- the start pass is moved on, but no lap is taken
@@ -152,7 +147,7 @@ replay C x now s =
 
 -- the heading starts again from the next fix
 unfoldable pub unheaded : Motion → Motion
-unheaded m = record { from = spot.Nowhere; heading = Unknown; heading_ms = m.heading_ms }
+unheaded m = record { from = None; heading = None; heading_ms = m.heading_ms }
 
 unfoldable pub end_replay : State → Done (Unit {0})
 end_replay s = done tt (with_motion (unheaded s.motion) s)

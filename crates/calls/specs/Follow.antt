@@ -1,10 +1,8 @@
 -- Following begun and ended by the rider: `set_following`, `set_auto_follow`. Document 01, "Guide and event"; homing.rs.
-use Rattle.std.specs.Prelude.{ℕ, Bool, true, false, List}
-use Rattle.plane.specs.declared.Spot.{Spot}
-use Rattle.plane.specs.declared.Spot.TheVariants as spot
+use Rattle.std.specs.Prelude.{ℕ, Bool, true, false, List, Option, Some, None}
+use Rattle.segments.specs.declared.costs.Nearest.{Nearest}
+use Rattle.plane.specs.declared.Point.{Point}
 use Rattle.crumbs.specs.declared.Crumb.{Crumb}
-use Rattle.segments.specs.declared.Best.{Best}
-use Rattle.segments.specs.declared.Best.TheVariants.{Nothing, Found}
 use Rattle.search.specs.Course.{course_near}
 use Rattle.state.specs.declared.Line.{Line}
 use Rattle.state.specs.declared.Line.TheVariants as line
@@ -16,9 +14,9 @@ use Rattle.matching.specs.Distances.{drop_m}
 use Rattle.update.specs.Update.{update}
 
 -- the guide brought up to date where there is a place to show, and the answer yes
-unfoldable pub update_here : Spot → ℕ → List Crumb → ℕ → State → Done Bool
-update_here spot.Nowhere C course now s = done true s
-update_here (spot.At p) C course now s = and_then (update C course p now s) λ _ after. done true after
+unfoldable pub update_here : Option Point → ℕ → List Crumb → ℕ → State → Done Bool
+update_here None C course now s = done true s
+update_here (Some p) C course now s = and_then (update C course p now s) λ _ after. done true after
 
 unfoldable pub brought : ℕ → List Crumb → ℕ → State → Done Bool
 brought C course now s = update_here s.here C course now s
@@ -35,13 +33,13 @@ way_home C course now s =
     engaged_or b C course now after
 
 -- the course while it is near, else the breadcrumb back
-unfoldable pub follow : Best → ℕ → List Crumb → ℕ → State → Done Bool
-follow (Found near) C course now s = brought C course now (engage_at course line.Course near.end now s)
-follow Nothing C course now s = way_home C course now s
+unfoldable pub follow : Option Nearest → ℕ → List Crumb → ℕ → State → Done Bool
+follow (Some near) C course now s = brought C course now (engage_at course line.Course near.end now s)
+follow None C course now s = way_home C course now s
 
-unfoldable pub near_here : Spot → List Crumb → Best
-near_here spot.Nowhere course = Nothing
-near_here (spot.At p) course = course_near course p drop_m
+unfoldable pub near_here : Option Point → List Crumb → Option Nearest
+near_here None course = None
+near_here (Some p) course = course_near course p drop_m
 
 -- by the line that is followed already
 unfoldable pub follow_from : Line → ℕ → List Crumb → ℕ → State → Done Bool

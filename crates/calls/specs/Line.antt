@@ -1,39 +1,35 @@
 -- The guide made anew, and its course: `new`, `reset`, `set_course`. Document 01, "Course line", "Journal"; homing.rs.
-use Rattle.std.specs.Prelude.{ℕ, Bool, true, false, ◌||◌, List, leb, length, Float}
+use Rattle.std.specs.Prelude.{ℕ, Bool, true, false, ◌||◌, List, leb, length, Float, None}
 use Rattle.binary32.specs.Limits.{plus_zero}
-use Rattle.plane.specs.declared.Spot.TheVariants.{Nowhere}
-use Rattle.plane.specs.declared.Heading.TheVariants.{Unknown}
+use Rattle.plane.specs.declared.Fix.{Fix}
 use Rattle.plane.specs.Fix.{m_per_e7}
 use Rattle.motion.specs.declared.Motion.{Motion}
 use Rattle.lap.specs.declared.Stage.TheVariants.{Spent}
 use Rattle.lap.specs.declared.Lap.{Lap}
 use Rattle.trail.specs.Trail.{Track, fresh}
 use Rattle.trail.specs.Trail as trail
-use Rattle.state.specs.declared.Place.TheVariants.{Missing}
 use Rattle.state.specs.declared.Line.{Line}
 use Rattle.state.specs.declared.Line.TheVariants as line
-use Rattle.state.specs.declared.Shown.TheVariants as shown
 use Rattle.state.specs.declared.Follow.{Follow}
 use Rattle.state.specs.declared.Course.{Course}
 use Rattle.state.specs.State.{State, with_course, course_with}
 use Rattle.state.specs.Rule.{Done, done}
 use Rattle.follow.specs.Engage.{stop_course}
-use Rattle.course.specs.Fix.{Fix}
 use Rattle.course.specs.Course.{line_of, waits}
 use Rattle.calls.specs.Fix.{unheaded}
 
 -- no pass of the start is under way
 unfoldable pub no_lap : Lap
-no_lap = record { pass = record { stage = Spent }; start = Nowhere; passed = false }
+no_lap = record { pass = record { stage = Spent }; start = None; passed = false }
 
 -- a ride that begins: nothing is followed or known, and what is given here stays from before
 abbrev pub new_ride : Track → Float → ℕ → Motion → Follow → Course → Bool → ℕ → State
 new_ride track east here_ms motion follow course auto_follow updated_ms =
     record {
       track = track;
-      frame = record { origin = Missing; east_per_e7 = east };
-      fed = Missing;
-      here = Nowhere;
+      frame = record { origin = None; east_per_e7 = east };
+      fed = None;
+      here = None;
       here_ms = here_ms;
       motion = motion;
       follow = follow;
@@ -42,17 +38,17 @@ new_ride track east here_ms motion follow course auto_follow updated_ms =
       arrived = false;
       lap = no_lap;
       updated_ms = updated_ms;
-      guide = shown.Nothing;
+      guide = None;
     }
 
 abbrev pub unfollowed : ℕ → Follow
-unfollowed reminded = record { line = line.Nothing; segment = 0; matched = Nowhere; off = false; reminded_ms = reminded }
+unfollowed reminded = record { line = line.Nothing; segment = 0; matched = None; off = false; reminded_ms = reminded }
 
 -- `new`: nothing is recorded, and a course may be followed by itself
 unfoldable pub new : State
 new =
-    new_ride fresh m_per_e7 0 (record { from = Nowhere; heading = Unknown; heading_ms = 0 }) (unfollowed 0)
-    (course_with 0 false false 0 0 plus_zero plus_zero Nowhere) true 0
+    new_ride fresh m_per_e7 0 (record { from = None; heading = None; heading_ms = 0 }) (unfollowed 0)
+    (course_with 0 false false 0 0 plus_zero plus_zero None) true 0
 
 -- a course of n points that waits for the ride's first fix or not, joined by no fix yet
 unfoldable pub lined : ℕ → Bool → Bool → Course → Course

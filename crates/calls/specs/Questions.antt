@@ -5,10 +5,8 @@ use Rattle.std.specs.Float.{nan, inf, fin}
 use Rattle.std.specs.Float.Ieee.{up, down, le}
 use Rattle.binary32.specs.Limits.{plus_zero, size_of}
 use Rattle.plane.specs.declared.Point.{Point}
-use Rattle.plane.specs.declared.Spot.{Spot}
-use Rattle.plane.specs.declared.Spot.TheVariants as spot
-use Rattle.plane.specs.declared.Heading.{Heading}
-use Rattle.plane.specs.declared.Heading.TheVariants.{Known, Unknown}
+use Rattle.std.specs.Prelude.{Option, Some, None}
+use Rattle.plane.specs.declared.Fix.{Fix}
 use Rattle.plane.specs.Plane.{turn}
 use Rattle.crumbs.specs.declared.Crumb.{Crumb}
 use Rattle.crumbs.specs.Crumb.{whole, capacity, crumbs, point}
@@ -18,10 +16,7 @@ use Rattle.state.specs.declared.Line.TheVariants as line
 use Rattle.state.specs.declared.Follow.{Follow}
 use Rattle.state.specs.declared.Course.{Course}
 use Rattle.state.specs.declared.Guide.{Guide}
-use Rattle.state.specs.declared.Shown.{Shown}
-use Rattle.state.specs.declared.Shown.TheVariants as shown
 use Rattle.state.specs.State.{State}
-use Rattle.course.specs.Fix.{Fix}
 use Rattle.course.specs.Course.{points}
 
 -- ---- 1: "is the crumb buffer a multiple of 3 long, capacity 8 to 4,096?"
@@ -51,20 +46,20 @@ unfoldable pub factor_fits : Float → Bool
 factor_fits x = up_to 2 100 (size_of x)
 
 -- "each heading and bearing, the guide's too, below 4,096"
-unfoldable pub heading_fits : Heading → Bool
-heading_fits (Known heading) = ltb heading turn
-heading_fits Unknown = true
+unfoldable pub heading_fits : Option ℕ → Bool
+heading_fits (Some heading) = ltb heading turn
+heading_fits None = true
 
 unfoldable pub guide_fits : Guide → Bool
 guide_fits g = ltb g.bearing turn && heading_fits g.heading
 
-unfoldable pub shown_fits : Shown → Bool
-shown_fits (shown.Guide g) = guide_fits g
-shown_fits shown.Nothing = true
+unfoldable pub shown_fits : Option Guide → Bool
+shown_fits (Some g) = guide_fits g
+shown_fits None = true
 
-unfoldable pub spot_fits : Spot → Bool
-spot_fits (spot.At p) = place_fits p
-spot_fits spot.Nowhere = true
+unfoldable pub spot_fits : Option Point → Bool
+spot_fits (Some p) = place_fits p
+spot_fits None = true
 
 unfoldable pub places_fit : List Point → Bool
 places_fit [] = true

@@ -3,7 +3,7 @@ use Prim.Native.Nat.{ℕ, suc, ◌+◌, ◌-◌, ◌≤◌, ◌<◌}
 use mathlib.Core.Path.{◌≡◌, refl, sym, ap, ap₂, ◌∙◌}
 use mathlib.Core.Bool.{Bool, true, false, cond}
 use mathlib.Core.List.{List, [], ◌∷◌, ◌++◌, reverse, append_assoc, append-nil, reverse-append}
-use mathlib.Core.Option.{Option, none, some}
+use Rattle.std.specs.Prelude.{Some, None, Option}
 use native.Mathlib.Omega.{arith}
 use borrow.Author.Tests.{lt-leb, le-leb}
 use lib.IntN.{ℤ, pos}
@@ -20,7 +20,8 @@ use Rattle.crumbs.proofs.Choices.{last_snoc}
 use Rattle.crumbs.proofs.Crumbs.{length-crumbs, crumbs-behind, behind-put, length-put}
 use Rattle.crumbs.specs.Along.{crumb_of, along_behind, recorded_m}
 use Rattle.state.specs.declared.Frame.{Frame}
-use Rattle.course.specs.Fix.{Fix, framed}
+use Rattle.course.specs.Fix.{framed}
+use Rattle.plane.specs.declared.Fix.{Fix}
 use Rattle.course.specs.Course.{fixes, no_origin, place_behind, placed, line_of, waits}
 use Rattle.course.specs.View.{Places}
 use Rattle.course.proofs.Fixes.{length-fixes, get_d-fixes}
@@ -42,11 +43,11 @@ all_placed f xs h o = rw (le-leb 2 (length xs) h, o)
 pub length-behind : (f : Frame) (o : Option Crumb) (xs : List Fix) → length (place_behind f o xs) ≡ length xs
 unfolding place_behind
 length-behind f o [] = refl
-length-behind f o (x ∷ xs) = ap suc (length-behind f (some (crumb_of (framed f x) (along_behind o (framed f x)))) xs)
+length-behind f o (x ∷ xs) = ap suc (length-behind f (Some (crumb_of (framed f x) (along_behind o (framed f x)))) xs)
 
 pub length-placed : (f : Frame) (xs : List Fix) → length (placed f xs) ≡ length xs
 unfolding placed
-length-placed f xs = length-behind f none (reverse xs) ∙ length-reverse xs
+length-placed f xs = length-behind f None (reverse xs) ∙ length-reverse xs
 
 pub length-line : (f : Frame) (xs : List Fix) → length (line_of f xs) ≤ length xs
 unfolding line_of
@@ -75,7 +76,7 @@ unfolding crumbs placed
 placing-start f lats lons b {n} e h =
     let short = length-fixes lats lons in
     record {
-      done = ap (λ l. place_behind f none (reverse l)) (take_all (n - 0) (fixes lats lons) (omega arith));
+      done = ap (λ l. place_behind f None (reverse l)) (take_all (n - 0) (fixes lats lons) (omega arith));
       beyond = refl;
       size = refl;
       count = e;
@@ -122,7 +123,7 @@ module _ {f : Frame} {lats lons : List ℤ} {b₀ b : List Float} {n k : ℕ} (g
           done =
               ap (λ m. m ++ place_behind f (last m) rest) (crumbs-behind k b next room)
               ∙ (ap (λ o. (l ++ next ∷ []) ++ place_behind f o rest) (last_snoc l next)
-              ∙ (append_assoc l (next ∷ []) (place_behind f (some next) rest)
+              ∙ (append_assoc l (next ∷ []) (place_behind f (Some next) rest)
               ∙ (ap (λ ys. l ++ place_behind f (last l) ys) (sym to-come) ∙ g.done)));
           beyond = behind-put b k next n more ∙ g.beyond;
           size = length-put b k next ∙ g.size;

@@ -1,14 +1,12 @@
 -- The course line. Document 01, "Course line": "Points are placed last first, along counted from the finish. Fewer than 2 points: line
 -- emptied. No origin yet: line emptied, `unplaced` set. Both are outcomes, not refusals."
-use Rattle.std.specs.Prelude.{ℕ, Bool, true, false, ◌&&◌, cond, List, [], ◌∷◌, reverse, leb, ℤ, length}
-use Rattle.std.proofs.Math.Option.{Option, none, some}
+use Rattle.std.specs.Prelude.{ℕ, Bool, true, false, ◌&&◌, cond, List, [], ◌∷◌, reverse, leb, ℤ, length, Option, Some, None}
+use Rattle.plane.specs.declared.Fix.{Fix}
 use Rattle.plane.specs.declared.Point.{Point}
 use Rattle.crumbs.specs.declared.Crumb.{Crumb}
 use Rattle.crumbs.specs.Along.{crumb_of, along_behind}
-use Rattle.state.specs.declared.Place.{Place}
-use Rattle.state.specs.declared.Place.TheVariants.{At, Missing}
 use Rattle.state.specs.declared.Frame.{Frame}
-use Rattle.course.specs.Fix.{Fix, framed}
+use Rattle.course.specs.Fix.{framed}
 
 -- the most points a course has
 abbrev pub points : ℕ
@@ -23,15 +21,15 @@ fixes (lat ∷ lats) (lon ∷ lons) = record { lat = lat; lon = lon } ∷ fixes 
 -- each behind the one before it, the first at 0
 unfoldable pub place_behind : Frame → Option Crumb → List Fix → List Crumb
 place_behind f before [] = []
-place_behind f before (x ∷ xs) = let c = crumb_of (framed f x) (along_behind before (framed f x)) in c ∷ place_behind f (some c) xs
+place_behind f before (x ∷ xs) = let c = crumb_of (framed f x) (along_behind before (framed f x)) in c ∷ place_behind f (Some c) xs
 
 -- "placed last first"
 unfoldable pub placed : Frame → List Fix → List Crumb
-placed f xs = place_behind f none (reverse xs)
+placed f xs = place_behind f None (reverse xs)
 
-unfoldable pub no_origin : Place → Bool
-no_origin (At lat lon) = false
-no_origin Missing = true
+unfoldable pub no_origin : Option Fix → Bool
+no_origin (Some origin) = false
+no_origin None = true
 
 -- the line after a course was set
 unfoldable pub line_of : Frame → List Fix → List Crumb

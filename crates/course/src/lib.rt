@@ -8,8 +8,8 @@ ghost use Rattle.course.specs.Course.{fixes, no_origin, placed, line_of, waits};
 ghost use Rattle.course.specs.View.{Places};
 
 use crumbs::{Crumb, along};
-use plane::Point;
-use state::{Frame, Place};
+use plane::{Fix, Point};
+use state::Frame;
 
 // The most points a course has.
 pub const POINTS: usize = 2048;
@@ -17,27 +17,27 @@ pub const POINTS: usize = 2048;
 const FEWEST: usize = 2;
 
 // The frame after a fix: the first one is the origin, and gives the east factor.
-pub fn located(f: Frame, lat: i32, lon: i32) -> Frame
-    ensures { result ≡ located (record { lat = lat; lon = lon }) f }
+pub fn located(f: Frame, fix: Fix) -> Frame
+    ensures { result ≡ located fix f }
 {
     let origin = f.origin;
     match origin {
-        Place::At(_, _) => f,
-        Place::Missing => Frame {
-            origin: Place::At(lat, lon),
-            east_per_e7: plane::east_per_e7(lat),
+        Some(_) => f,
+        None => Frame {
+            origin: Some(fix),
+            east_per_e7: plane::east_per_e7(fix.lat),
         },
     }
 }
 
 // The place of a fix. Without an origin the fix itself is where places are counted from.
-pub fn framed(f: Frame, lat: i32, lon: i32) -> Point
-    ensures { result ≡ framed f (record { lat = lat; lon = lon }) }
+pub fn framed(f: Frame, fix: Fix) -> Point
+    ensures { result ≡ framed f fix }
 {
     let origin = f.origin;
     match origin {
-        Place::At(lat0, lon0) => plane::frame(lat0, lon0, f.east_per_e7, lat, lon),
-        Place::Missing => plane::frame(lat, lon, f.east_per_e7, lat, lon),
+        Some(start) => plane::frame(start, f.east_per_e7, fix),
+        None => plane::frame(fix, f.east_per_e7, fix),
     }
 }
 
@@ -47,8 +47,8 @@ fn no_origin(f: Frame) -> bool
 {
     let origin = f.origin;
     match origin {
-        Place::At(_, _) => false,
-        Place::Missing => true,
+        Some(_) => false,
+        None => true,
     }
 }
 
@@ -80,9 +80,11 @@ fn place_all(f: Frame, lats: &[i32], lons: &[i32], line: &mut [f32]) -> usize
     let n = count(lats, lons);
     for k in 0..n {
         let at = n - 1 - k;
-        let lat = lats[at];
-        let lon = lons[at];
-        let p = framed(f, lat, lon);
+        let fix = Fix {
+            lat: lats[at],
+            lon: lons[at],
+        };
+        let p = framed(f, fix);
         let c = Crumb {
             east: p.east,
             north: p.north,

@@ -2,7 +2,7 @@
 use Prim.Native.Nat.{ℕ, zero, suc, ◌≤◌}
 use mathlib.Core.Path.{◌≡◌, refl, ap}
 use mathlib.Core.List.{List, [], ◌∷◌, ◌++◌, map}
-use mathlib.Core.Option.{some}
+use Rattle.std.specs.Prelude.{Some}
 use native.Mathlib.Omega.{arith}
 use lib.ListN.{length, take}
 use Rattle.crumbs.specs.Choice.{Choice, end, leave, strike, first, last}
@@ -60,7 +60,7 @@ module _ {A : Type 0} where
   first-take (suc n) [] h = refl
   first-take (suc n) (a ∷ l) h = refl
 
-  pub last_snoc : (l : List A) (a : A) → last (l ++ a ∷ []) ≡ some a
+  pub last_snoc : (l : List A) (a : A) → last (l ++ a ∷ []) ≡ Some a
   last_snoc [] a = refl
   last_snoc (x ∷ []) a = refl
   last_snoc (x ∷ y ∷ l) a = last_snoc (y ∷ l) a
@@ -76,4 +76,4 @@ module _ {A B : Type 0} (f : A → B) where
   first-map [] [] e = refl
   first-map [] (y ∷ l) e = let z : ◌≡◌ {A = ℕ} 0 1 = cc in absurd (omega arith)
   first-map (x ∷ m) [] e = let z : ◌≡◌ {A = ℕ} 0 1 = cc in absurd (omega arith)
-  first-map (x ∷ m) (y ∷ l) e = let i : x ≡ y = cc in ap (λ z. some (f z)) i
+  first-map (x ∷ m) (y ∷ l) e = let i : x ≡ y = cc in ap (λ z. Some (f z)) i

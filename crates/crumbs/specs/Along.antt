@@ -1,6 +1,5 @@
 -- The line of crumbs, from its first: document 01, "Crumb", and homing.rs's `recorded_m`, `start` and, behind a thinning, `thin`.
-use Rattle.std.specs.Prelude.{List, [], ◌∷◌, Float}
-use Rattle.std.proofs.Math.Option.{Option, none, some}
+use Rattle.std.specs.Prelude.{List, [], ◌∷◌, Float, Option, Some, None}
 use Rattle.binary32.specs.Arithmetic.{◌⊕◌}
 use Rattle.binary32.specs.Limits.{plus_zero}
 use Rattle.plane.specs.declared.Point.{Point}
@@ -17,8 +16,8 @@ unfoldable pub along_to : Crumb → Point → Float
 along_to a p = a.along ⊕ distance (point a) p
 
 unfoldable pub along_behind : Option Crumb → Point → Float
-along_behind none p = plus_zero
-along_behind (some a) p = along_to a p
+along_behind None p = plus_zero
+along_behind (Some a) p = along_to a p
 
 -- `recorded_m`: how long the line is from its first crumb to p behind its last; 0 where none is held
 unfoldable pub recorded_m : List Crumb → Point → Float

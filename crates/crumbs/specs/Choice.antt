@@ -1,7 +1,6 @@
 -- Document 01, "Journal": "A choice strikes out any of the kept and leaves the rest in order; a place kept twice is two. It begins with the
 -- first".
-use Rattle.std.specs.Prelude.{List, [], ◌∷◌}
-use Rattle.std.proofs.Math.Option.{Option, none, some}
+use Rattle.std.specs.Prelude.{List, [], ◌∷◌, Option, Some, None}
 
 -- `Choice m l`: m is what is left of l
 pub data Choice {A : Type 0} : List A → List A → Type 0 where
@@ -11,11 +10,11 @@ pub data Choice {A : Type 0} : List A → List A → Type 0 where
 
 -- the first of a list, where there is one
 abbrev pub first : {A : Type 0} → List A → Option A
-first [] = none
-first (a ∷ l) = some a
+first [] = None
+first (a ∷ l) = Some a
 
 -- the last of a list, where there is one
 abbrev pub last : {A : Type 0} → List A → Option A
-last [] = none
-last (a ∷ []) = some a
+last [] = None
+last (a ∷ []) = Some a
 last (a ∷ b ∷ l) = last (b ∷ l)

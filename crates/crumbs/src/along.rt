@@ -1,7 +1,6 @@
 // The line of crumbs in a buffer: its ends, how long it is, and how far along it each crumb lies.
 
-ghost use Rattle.std.specs.Prelude.{◌≡◌, ◌<◌, ◌≤◌, length};
-ghost use Rattle.std.proofs.Math.Option.{some, map};
+ghost use Rattle.std.specs.Prelude.{◌≡◌, ◌<◌, ◌≤◌, length, option_map};
 ghost use Rattle.crumbs.specs.Crumb.{capacity, point, crumbs as held};
 ghost use Rattle.crumbs.specs.Choice.{last};
 ghost use Rattle.crumbs.specs.Along.{start_of, along_to, recorded_m};
@@ -13,7 +12,7 @@ use plane::Point;
 // Where the breadcrumb ends: its last crumb.
 pub fn end(crumbs: &[f32], len: usize) -> Point
     requires { (0 < len) × (len ≤ capacity (length crumbs.now)) }
-    ensures { some result ≡ map point (last (held len crumbs.now)) }
+    ensures { Some result ≡ option_map point (last (held len crumbs.now)) }
 {
     crate::point_at(crumbs, len - 1)
 }

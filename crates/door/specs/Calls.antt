@@ -1,10 +1,9 @@
 -- What each export promises that changes the guide: the promise of the call of its name, on the state that the slices hold.
-use Rattle.std.specs.Prelude.{ℕ, ◌≡◌, List, length, Float}
+use Rattle.std.specs.Prelude.{ℕ, ◌≡◌, List, length, Float, Option}
 use Rattle.state.specs.declared.Event.{Event}
 use Rattle.state.specs.declared.Event.TheVariants as event
 use Rattle.state.specs.declared.Homing.{Homing}
-use Rattle.state.specs.declared.Place.{Place}
-use Rattle.course.specs.Fix.{Fix}
+use Rattle.plane.specs.declared.Fix.{Fix}
 use Rattle.calls.specs.Questions.{question1, unless, ◌or_else◌}
 use Rattle.calls.specs.Promises.{Answer}
 use Rattle.answers.specs.Answers.{says_verdict}
@@ -63,7 +62,7 @@ abbrev pub SetAutoFollow : ℕ → List Float → List Float → List ℕ → Li
 SetAutoFollow on b b' = ChangesStored (no_state_with (length b)) (λ h. Gives (λ c. SetsAuto (is_set on) h b c b')) (b' ≡ b)
 
 -- `cittumay_observe` and `cittumay_observe_missing`: the fix x, lent the crumb buffer b and the line
-abbrev pub Observe : List Float → Place → ℕ → List Float → ℕ → List Float → ℕ → List ℕ → List Float → ℕ → List ℕ → List Float → Type 0
+abbrev pub Observe : List Float → Option Fix → ℕ → List Float → ℕ → List Float → ℕ → List ℕ → List Float → ℕ → List ℕ → List Float → Type 0
 Observe line x now b event b' event' =
     ChangesStored (no_state_with (length b))
     (λ h. Tells (λ c. Observes line x now h b c b') (λ c. c.homing) (λ c. says_sight c.answer) (λ e _. number_of_event e) event event')

@@ -1,7 +1,6 @@
 -- A guide as ten words: mode, following, course, course_near, direct_m, track_m, off_m, bearing, whether a heading is known, and the
 -- heading, 0 where it is not. They are written as in a stored state (`guide_words`).
-use Rattle.std.specs.Prelude.{ℕ, ◌≡◌, Bool, true, ◌&&◌, cond, List, ◌++◌, leb, length}
-use Rattle.std.proofs.Math.Option.{Option, none, some}
+use Rattle.std.specs.Prelude.{ℕ, ◌≡◌, Bool, true, ◌&&◌, cond, List, ◌++◌, leb, length, Option, Some, None}
 use Rattle.state.specs.declared.Guide.{Guide}
 use Rattle.stored.specs.Fields.{most16, within, word_at}
 use Rattle.stored.specs.Parts.{guide_mosts, guide_read, guide_words}
@@ -21,8 +20,8 @@ are_guide w =
 
 -- the guide that words are, if they are one; what lies behind the ten is not read
 unfoldable pub guide_of : List ℕ → Option Guide
-guide_of w = cond (are_guide w) (some (guide_read w 0)) none
+guide_of w = cond (are_guide w) (Some (guide_read w 0)) None
 
 -- Reading back what was written gives the same guide, where each field fits its type, whatever lies behind.
 abbrev pub GuideReadBack : Type 0
-GuideReadBack = (g : Guide) → within guide_mosts (guide_words g) ≡ true → (ws : List ℕ) → guide_of (guide_words g ++ ws) ≡ some g
+GuideReadBack = (g : Guide) → within guide_mosts (guide_words g) ≡ true → (ws : List ℕ) → guide_of (guide_words g ++ ws) ≡ Some g

@@ -1,11 +1,9 @@
 -- What each export of a rebuild promises: what the call of its name does, on the rebuild and the state that the slices hold.
-use Rattle.std.specs.Prelude.{ℕ, ◌≡◌, ◌≢◌, List, leb, length, Float}
-use Rattle.std.proofs.Math.Option.{none, some}
+use Rattle.std.specs.Prelude.{ℕ, ◌≡◌, ◌≢◌, List, leb, length, Float, Option, Some, None}
 use Rattle.state.specs.declared.Homing.{Homing}
 use Rattle.calls.specs.Questions.{unless}
 use Rattle.answers.specs.Answers.{says_verdict}
 use Rattle.homing.specs.Answers.{says_reply}
-use Rattle.ride_log.specs.declared.Utc.{Utc}
 use Rattle.rebuild.specs.declared.Rebuild.{Rebuild}
 use Rattle.rebuild.specs.Rebuild.{new_rebuild, caught_up}
 use Rattle.restart.specs.declared.Stepped.{Stepped}
@@ -31,8 +29,8 @@ pub record RebuildNew (recovered : ℕ) (v : List ℕ) (number : ℕ) (v' : List
 
 -- `cittumay_rebuild_caught_up`: its flag becomes `is`, and was `was`
 pub record RebuildCaughtUp (upper : ℕ) (v : List ℕ) (number was is : ℕ) : Type 0 where
-  pub nothing : stored_rebuild v ≡ none → (number ≡ no_state) × (is ≡ was)
-  pub rebuild : (r : Rebuild) → stored_rebuild v ≡ some r → (number ≡ 0) × (is ≡ flag_of (caught_up upper r))
+  pub nothing : stored_rebuild v ≡ None → (number ≡ no_state) × (is ≡ was)
+  pub rebuild : (r : Rebuild) → stored_rebuild v ≡ Some r → (number ≡ 0) × (is ≡ flag_of (caught_up upper r))
 
 -- ---- a rebuild and a guide
 -- the words of a rebuild, and the words and numbers of a guide
@@ -47,9 +45,9 @@ slices v w n = record { rebuild = v; words = w; numbers = n }
 -- `does r h`: what a call does on the rebuild r and the state h. Where the words hold no rebuild or the slices no state, the number is
 -- `unread`, and `untouched` says that all that is lent is as it was.
 pub record OnBoth (unread : ℕ) (untouched : Type 0) (does : Rebuild → Homing → Type 0) (s : Slices) (number : ℕ) : Type 0 where
-  pub no_rebuild : stored_rebuild s.rebuild ≡ none → (number ≡ unread) × untouched
-  pub no_guide : stored s.words s.numbers ≡ none → (number ≡ unread) × untouched
-  pub both : (r : Rebuild) (h : Homing) → stored_rebuild s.rebuild ≡ some r → stored s.words s.numbers ≡ some h → does r h
+  pub no_rebuild : stored_rebuild s.rebuild ≡ None → (number ≡ unread) × untouched
+  pub no_guide : stored s.words s.numbers ≡ None → (number ≡ unread) × untouched
+  pub both : (r : Rebuild) (h : Homing) → stored_rebuild s.rebuild ≡ Some r → stored s.words s.numbers ≡ Some h → does r h
 
 -- `step` on the crumb buffer b, whose flag becomes `is`
 pub record StepDone (budget upper : ℕ) (file : List ℕ) (b : List Float) (was : ℕ) (s : Slices) (r : Rebuild) (h : Homing) (number : ℕ)
@@ -65,7 +63,7 @@ RebuildStep budget upper file b was s number b' is s' =
     (λ r h. StepDone budget upper file b was s r h number b' is s') s number
 
 -- `settle` at the time t
-pub record SettleDone (t : Utc) (s : Slices) (r : Rebuild) (h : Homing) (number : ℕ) (s' : Slices) : Type 0 where
+pub record SettleDone (t : Option ℕ) (s : Slices) (r : Rebuild) (h : Homing) (number : ℕ) (s' : Slices) : Type 0 where
   pub call : Settled
   pub promised : SettlesBreadcrumb t r h call
   pub refusal : number ≡ number_of (says_reply call.answer)
@@ -73,5 +71,5 @@ pub record SettleDone (t : Utc) (s : Slices) (r : Rebuild) (h : Homing) (number 
   pub state : Leaves number call.homing s.words s.numbers s'.words s'.numbers
 
 -- `cittumay_rebuild_settle`
-abbrev pub RebuildSettle : Utc → Slices → ℕ → Slices → Type 0
+abbrev pub RebuildSettle : Option ℕ → Slices → ℕ → Slices → Type 0
 RebuildSettle t s number s' = OnBoth no_state (s' ≡ s) (λ r h. SettleDone t s r h number s') s number

@@ -1,6 +1,5 @@
 -- What an export does with what it is lent: it does what the call does on the state it reads.
-use Rattle.std.specs.Prelude.{ℕ, ◌≡◌, ◌≢◌, Bool, not, List, eqb, Float}
-use Rattle.std.proofs.Math.Option.{none, some}
+use Rattle.std.specs.Prelude.{ℕ, ◌≡◌, ◌≢◌, Bool, not, List, eqb, Float, Some, None}
 use Rattle.state.specs.declared.Homing.{Homing}
 use Rattle.calls.specs.Questions.{question1, unless, ◌or_else◌}
 use Rattle.calls.specs.Promises.{Answer, refused, gives}
@@ -42,5 +41,5 @@ pub record Leaves (number : ℕ) (h : Homing) (w : List ℕ) (n : List Float) (w
 -- number where the slices hold no state, and `untouched` says that what else is lent is as it was.
 pub record ChangesStored (unread : ℕ) (does : Homing → Homing → ℕ → Type 0) (untouched : Type 0) (w : List ℕ) (n : List Float) (number : ℕ)
     (w' : List ℕ) (n' : List Float) : Type 0 where
-  pub nothing : stored w n ≡ none → (number ≡ unread) × ((w' ≡ w) × ((n' ≡ n) × untouched))
-  pub state : (h : Homing) → stored w n ≡ some h → (r : Homing) × (does h r number × Leaves number r w n w' n')
+  pub nothing : stored w n ≡ None → (number ≡ unread) × ((w' ≡ w) × ((n' ≡ n) × untouched))
+  pub state : (h : Homing) → stored w n ≡ Some h → (r : Homing) × (does h r number × Leaves number r w n w' n')

@@ -17,7 +17,7 @@ ghost use Rattle.door.specs.Answers.{spot_values, guide_values, with_room, retur
 use crate::numbering;
 use crate::numbering::NO_STATE;
 use answers::{Ahead, Angle, Back, Count, Riding, Showing};
-use plane::{Heading, Spot};
+use plane::Point;
 use state::{Guide, Mode};
 
 // How many words a guide takes.
@@ -72,11 +72,11 @@ pub fn cittumay_following_course(words: &[u64], numbers: &[f32], yes: &mut u8) -
     numbering::put_verdict(answer, yes)
 }
 
-fn put_spot(point: Spot, matched: &mut u8, east: &mut f32, north: &mut f32)
+fn put_spot(point: Option<Point>, matched: &mut u8, east: &mut f32, north: &mut f32)
     ensures { spot_values matched.new east.new north.new
         ≡ spotted point (spot_values matched.old east.old north.old) }
 {
-    let Spot::At(p) = point else {
+    let Some(p) = point else {
         *matched = 0;
         return;
     };
@@ -161,11 +161,11 @@ pub fn cittumay_route_home(
     put_ahead(answer, known, count, matched, east, north)
 }
 
-fn put_heading(way: Heading, known: &mut u8, heading: &mut u16)
+fn put_heading(way: Option<u16>, known: &mut u8, heading: &mut u16)
     ensures { heading_values known.new heading.new
         ≡ riding way (heading_values known.old heading.old) }
 {
-    let Heading::Known(angle) = way else {
+    let Some(angle) = way else {
         *known = 0;
         return;
     };
@@ -205,21 +205,21 @@ fn mode_word(mode: Mode) -> u32
     }
 }
 
-fn known_word(way: Heading) -> u32
+fn known_word(way: Option<u16>) -> u32
     ensures { result ≡ heading_flag way }
 {
     match way {
-        Heading::Known(_) => 1,
-        Heading::Unknown => 0,
+        Some(_) => 1,
+        None => 0,
     }
 }
 
-fn heading_word(way: Heading) -> u32
+fn heading_word(way: Option<u16>) -> u32
     ensures { result ≡ heading_in way }
 {
     match way {
-        Heading::Known(angle) => angle as u32,
-        Heading::Unknown => 0,
+        Some(angle) => angle as u32,
+        None => 0,
     }
 }
 
@@ -369,13 +369,13 @@ fn mode_of(word: u32) -> Mode
     }
 }
 
-fn heading_of(known: bool, angle: u16) -> Heading
+fn heading_of(known: bool, angle: u16) -> Option<u16>
     ensures { result ≡ heading_of known angle }
 {
     if known {
-        return Heading::Known(angle);
+        return Some(angle);
     }
-    Heading::Unknown
+    None
 }
 
 fn guide_at(words: &[u32]) -> Guide

@@ -1,7 +1,6 @@
 // The calls that change the guide.
 
 ghost use Rattle.std.specs.Prelude.{◌≡◌, ◌≤◌, length};
-ghost use Rattle.state.specs.declared.Place.TheVariants as places;
 ghost use Rattle.course.specs.Course.{fixes};
 ghost use Rattle.homing.specs.Answers.{says_reply, says_sight};
 ghost use Rattle.stored.specs.Stored.{word_count, number_count};
@@ -11,7 +10,8 @@ ghost use Rattle.door.specs.Calls.{number_of_event, New, Reset, EndReplay, SetCo
 use crate::numbering;
 use crate::numbering::NO_STATE;
 use homing::{Changed, Sight};
-use state::{Event, Homing, Place};
+use plane::Fix;
+use state::{Event, Homing};
 
 // ---- answers as numbers
 
@@ -137,7 +137,7 @@ fn observe_place(
     numbers: &mut [f32],
     crumbs: &mut [f32],
     line: &[f32],
-    place: Place,
+    place: Option<Fix>,
     now_ms: u64,
     event: &mut u8,
 ) -> u8
@@ -165,7 +165,7 @@ pub fn cittumay_observe(
     now_ms: u64,
     event: &mut u8,
 ) -> u8
-    ensures { Observe line.now (places.At lat lon) now_ms crumbs.old event.old
+    ensures { Observe line.now (Some (record { lat = lat; lon = lon })) now_ms crumbs.old event.old
         crumbs.new event.new words.old numbers.old result words.new numbers.new }
 {
     observe_place(
@@ -173,7 +173,7 @@ pub fn cittumay_observe(
         numbers,
         crumbs,
         line,
-        Place::At(lat, lon),
+        Some(Fix { lat, lon }),
         now_ms,
         event,
     )
@@ -188,10 +188,10 @@ pub fn cittumay_observe_missing(
     now_ms: u64,
     event: &mut u8,
 ) -> u8
-    ensures { Observe line.now places.Missing now_ms crumbs.old event.old crumbs.new
+    ensures { Observe line.now None now_ms crumbs.old event.old crumbs.new
         event.new words.old numbers.old result words.new numbers.new }
 {
-    observe_place(words, numbers, crumbs, line, Place::Missing, now_ms, event)
+    observe_place(words, numbers, crumbs, line, None, now_ms, event)
 }
 
 // A fix from before a restart, `at_ms` into the replay.
@@ -210,7 +210,7 @@ pub fn cittumay_replay(
     if !read.held {
         return numbering::no_state_with(crumbs.len());
     }
-    let c = homing::replay(read.homing, crumbs, lat, lon, at_ms);
+    let c = homing::replay(read.homing, crumbs, Fix { lat, lon }, at_ms);
     keep_changed(c, words, numbers)
 }
 

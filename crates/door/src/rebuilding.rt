@@ -10,7 +10,6 @@ ghost use Rattle.door.specs.Rebuild.{LeavesRebuild, RebuildNew, RebuildCaughtUp,
 use crate::numbering;
 use crate::numbering::NO_STATE;
 use rebuild::Rebuild;
-use ride_log::Utc;
 use state::Homing;
 
 // ---- the rebuild alone
@@ -98,13 +97,13 @@ pub fn cittumay_rebuild_step(
 }
 
 // A time that is known where the flag is set.
-fn utc_of(known: u8, utc: u64) -> Utc
+fn utc_of(known: u8, utc: u64) -> Option<u64>
     ensures { result ≡ utc_of (is_set known) utc }
 {
     if known != 0 {
-        return Utc::At(utc);
+        return Some(utc);
     }
-    Utc::Unknown
+    None
 }
 
 // Settle the breadcrumb on a live fix at `utc`, if that is known, instead of the later ride's first one in

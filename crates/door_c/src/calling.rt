@@ -1,6 +1,5 @@
 // The calls that change the guide.
 
-ghost use Rattle.state.specs.declared.Place.TheVariants as places;
 ghost use Rattle.course.specs.Course.{fixes};
 ghost use Rattle.door.specs.Calls.{New, Reset, EndReplay, SetCourse, SetAutoFollow, Observe, Replay, SetFollowing};
 
@@ -57,7 +56,7 @@ pub extern "C" fn cittumay_observe(
     now_ms: u64,
     event: &mut u8,
 ) -> u8
-    ensures { Observe line.now (places.At lat lon) now_ms crumbs.old event.old
+    ensures { Observe line.now (Some (record { lat = lat; lon = lon })) now_ms crumbs.old event.old
         crumbs.new event.new words.old numbers.old result words.new numbers.new }
 {
     calling::cittumay_observe(words, numbers, crumbs, line, lat, lon, now_ms, event)
@@ -73,7 +72,7 @@ pub extern "C" fn cittumay_observe_missing(
     now_ms: u64,
     event: &mut u8,
 ) -> u8
-    ensures { Observe line.now places.Missing now_ms crumbs.old event.old crumbs.new
+    ensures { Observe line.now None now_ms crumbs.old event.old crumbs.new
         event.new words.old numbers.old result words.new numbers.new }
 {
     calling::cittumay_observe_missing(words, numbers, crumbs, line, now_ms, event)

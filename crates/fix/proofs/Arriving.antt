@@ -20,7 +20,8 @@ use Rattle.motion.specs.Heading.{elapsed}
 use Rattle.state.specs.declared.Frame.{Frame}
 use Rattle.state.specs.declared.Homing.{Homing}
 use Rattle.state.specs.State.{State, state_of, with_frame}
-use Rattle.plane.specs.declared.Heading.{Heading}
+use Rattle.std.specs.Prelude.{ℕ}
+use Rattle.plane.specs.declared.Fix.{Fix}
 use Rattle.motion.specs.declared.Motion.{Motion}
 use Rattle.motion.specs.Heading.{track_heading}
 use Rattle.lap.specs.declared.Lap.{Lap}
@@ -34,7 +35,7 @@ use Rattle.fix.specs.Pass.{passing}
 use Rattle.fix.specs.declared.Ridden.{Ridden}
 use Rattle.fix.specs.Ridden.{ridden, parts}
 use Rattle.follow.specs.View.{HomingFit, Changes, Follows}
-use Rattle.course.specs.Fix.{Fix, located, framed}
+use Rattle.course.specs.Fix.{located, framed}
 use Rattle.calls.specs.Fix.{fix_lost_ms, is_at, cleared, missing, headed, pass_only, replay}
 
 -- ---- a missing fix

@@ -18,8 +18,8 @@ ghost use Rattle.fix.specs.Ridden.{ridden, parts};
 use follow::follow_parts;
 use lap::Lap;
 use motion::Motion;
-use plane::{Heading, Point, Spot};
-use state::{Course, Follow, Frame, Homing, Place, Shown};
+use plane::{Fix, Point};
+use state::{Course, Follow, Frame, Guide, Homing};
 use trail::Trail;
 
 // A fix missing for longer than this leaves the guide without a position.
@@ -27,10 +27,10 @@ const FIX_LOST_MS: u64 = 5_000;
 
 // ---- a missing fix
 
-fn is_at(s: Spot) -> bool
+fn is_at(s: Option<Point>) -> bool
     ensures { result ≡ is_at s }
 {
-    if let Spot::At(_) = s { true } else { false }
+    if let Some(_) = s { true } else { false }
 }
 
 fn cleared(h: Homing) -> Homing
@@ -38,13 +38,13 @@ fn cleared(h: Homing) -> Homing
 {
     let c = h.course;
     let course = Course {
-        fix: Spot::Nowhere,
+        fix: None,
         ..c
     };
     Homing {
-        here: Spot::Nowhere,
-        fed: Place::Missing,
-        guide: Shown::Nothing,
+        here: None,
+        fed: None,
+        guide: None,
         course,
         ..h
     }
@@ -72,7 +72,7 @@ pub fn missing(h: Homing, now_ms: u64) -> Homing
 // ---- a fix from before a restart
 
 // The start pass is moved on, but no lap is taken.
-fn passing(l: Lap, p: Point, heading: Heading) -> Lap
+fn passing(l: Lap, p: Point, heading: Option<u16>) -> Lap
     ensures { result ≡ passing p heading l }
 {
     let passed = l.passed;
@@ -135,19 +135,18 @@ pub fn replay_parts(
     g: Ridden,
     window: &mut [f32; 96],
     crumbs: &mut [f32],
-    lat: i32,
-    lon: i32,
+    fix: Fix,
     now_ms: u64,
 ) -> Ridden
     requires { (length window.old ≡ 96) × (trail.TrailFit g.trail (length crumbs.old)) }
     ensures follows { (h : Homing)
-        → Follows (λ C. replay C (record { lat = lat; lon = lon }) now_ms) (ridden g window.old h) crumbs.old
+        → Follows (λ C. replay C fix now_ms) (ridden g window.old h) crumbs.old
         (ridden result window.new h) crumbs.new }
     ensures window_len { length window.new ≡ 96 }
 {
     let was = g.frame;
-    let frame = course::located(was, lat, lon);
-    let p = course::framed(frame, lat, lon);
+    let frame = course::located(was, fix);
+    let p = course::framed(frame, fix);
     let m = g.motion;
     let motion = motion::track_heading(m, p, now_ms);
     let heading = motion.heading;
@@ -168,13 +167,13 @@ pub fn replay_parts(
     }
 }
 
-pub fn replay(h: Homing, crumbs: &mut [f32], lat: i32, lon: i32, now_ms: u64) -> Homing
+pub fn replay(h: Homing, crumbs: &mut [f32], fix: Fix, now_ms: u64) -> Homing
     requires { trail.TrailFit h.trail (length crumbs.old) }
-    ensures { Follows (λ C. replay C (record { lat = lat; lon = lon }) now_ms) h crumbs.old result crumbs.new }
+    ensures { Follows (λ C. replay C fix now_ms) h crumbs.old result crumbs.new }
 {
     let g = taken_apart(h);
     let mut next = h;
-    let after = replay_parts(g, &mut next.window, crumbs, lat, lon, now_ms);
+    let after = replay_parts(g, &mut next.window, crumbs, fix, now_ms);
     put_together(next, after)
 }
 
@@ -184,8 +183,8 @@ pub fn end_replay(h: Homing) -> Homing
 {
     let m = h.motion;
     let motion = Motion {
-        from: Spot::Nowhere,
-        heading: Heading::Unknown,
+        from: None,
+        heading: None,
         heading_ms: m.heading_ms,
     };
     let mut next = h;

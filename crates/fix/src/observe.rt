@@ -9,8 +9,8 @@ ghost use Rattle.calls.specs.Fix.{same_fix, still_at, new_fix, seen};
 ghost use Rattle.fix.specs.Ready.{Ready};
 
 use guide::Told;
-use plane::Spot;
-use state::{Event, Guided, Homing, Place};
+use plane::{Fix, Point};
+use state::{Event, Guided, Homing};
 use update::Updated;
 
 // A repeated fix is acted on this long after the last update.
@@ -18,25 +18,25 @@ const STILL_MS: u64 = 1_000;
 
 // ---- a repeated fix
 
-fn same_fix(fed: Place, lat: i32, lon: i32) -> bool
-    ensures { result ≡ same_fix fed (record { lat = lat; lon = lon }) }
+fn same_fix(fed: Option<Fix>, fix: Fix) -> bool
+    ensures { result ≡ same_fix fed fix }
 {
-    let Place::At(fed_lat, fed_lon) = fed else {
+    let Some(last) = fed else {
         return false;
     };
-    if fed_lat == lat {
-        return fed_lon == lon;
+    if last.lat == fix.lat {
+        return last.lon == fix.lon;
     }
     false
 }
 
 // Time still passes, for the heading and the reminders, but nothing is recorded.
-fn still_at(h: Guided, crumbs: &mut [f32], line: &[f32], here: Spot, now_ms: u64) -> Updated
+fn still_at(h: Guided, crumbs: &mut [f32], line: &[f32], here: Option<Point>, now_ms: u64) -> Updated
     requires { GuidedFit h (length crumbs.old) (length line.now) }
     ensures { (w : List Float) → Updates (λ C. still_at here C (course_of (whole h w) line.now) now_ms) (whole h w)
         crumbs.old (told_in result w) crumbs.new }
 {
-    let Spot::At(p) = here else {
+    let Some(p) = here else {
         return Updated {
             guided: h,
             event: Event::Nothing,
@@ -60,25 +60,24 @@ fn new_fix(
     window: &mut [f32; 96],
     crumbs: &mut [f32],
     line: &[f32],
-    lat: i32,
-    lon: i32,
+    fix: Fix,
     now_ms: u64,
 ) -> Updated
     requires { (length window.old ≡ 96) × (Ready (whole h window.old) (length crumbs.old) (length line.now)) }
     ensures { Updates
-        (λ C s. new_fix C (course_of (whole h window.old) line.now) (record { lat = lat; lon = lon }) now_ms
+        (λ C s. new_fix C (course_of (whole h window.old) line.now) fix now_ms
         (with_here_ms now_ms s)) (whole h window.old) crumbs.old (told_in result window.new)
         crumbs.new }
 {
     let was = h.frame;
-    let frame = course::located(was, lat, lon);
-    let p = course::framed(frame, lat, lon);
+    let frame = course::located(was, fix);
+    let p = course::framed(frame, fix);
     let m = h.motion;
     let motion = motion::track_heading(m, p, now_ms);
     let there = Guided {
-        here: Spot::At(p),
+        here: Some(p),
         here_ms: now_ms,
-        fed: Place::At(lat, lon),
+        fed: Some(fix),
         frame,
         motion,
         ..h
@@ -92,34 +91,33 @@ fn seen_on(
     window: &mut [f32; 96],
     crumbs: &mut [f32],
     line: &[f32],
-    lat: i32,
-    lon: i32,
+    fix: Fix,
     now_ms: u64,
 ) -> Updated
     requires { (length window.old ≡ 96) × (Ready (whole h window.old) (length crumbs.old) (length line.now)) }
     ensures { Updates
-        (λ C. seen C (course_of (whole h window.old) line.now) (record { lat = lat; lon = lon }) now_ms)
+        (λ C. seen C (course_of (whole h window.old) line.now) fix now_ms)
         (whole h window.old) crumbs.old (told_in result window.new) crumbs.new }
 {
     let fed = h.fed;
-    if same_fix(fed, lat, lon) {
+    if same_fix(fed, fix) {
         let here = h.here;
         let mut on = h;
         on.here_ms = now_ms;
         return still_at(on, crumbs, line, here, now_ms);
     }
-    new_fix(h, window, crumbs, line, lat, lon, now_ms)
+    new_fix(h, window, crumbs, line, fix, now_ms)
 }
 
 // The window is lent on the way of the fix, and the state put together behind it.
-pub fn seen(h: Homing, crumbs: &mut [f32], line: &[f32], lat: i32, lon: i32, now_ms: u64) -> Told
+pub fn seen(h: Homing, crumbs: &mut [f32], line: &[f32], fix: Fix, now_ms: u64) -> Told
     requires { Ready h (length crumbs.old) (length line.now) }
-    ensures { Updates (λ C. seen C (course_of h line.now) (record { lat = lat; lon = lon }) now_ms) h
+    ensures { Updates (λ C. seen C (course_of h line.now) fix now_ms) h
         crumbs.old result crumbs.new }
 {
     let g = state::without_window(h);
     let mut window = h.window;
-    let u = seen_on(g, &mut window, crumbs, line, lat, lon, now_ms);
+    let u = seen_on(g, &mut window, crumbs, line, fix, now_ms);
     let guided = u.guided;
     let event = u.event;
     Told {

@@ -7,8 +7,7 @@ use mathlib.Core.List.{List}
 use lib.ListN.{length}
 use lib.Ieee.{Float}
 use Rattle.plane.specs.declared.Point.{Point}
-use Rattle.plane.specs.declared.Spot.{Spot}
-use Rattle.plane.specs.declared.Spot.TheVariants.{At, Nowhere}
+use Rattle.std.specs.Prelude.{Option, Some, None}
 use Rattle.crumbs.specs.declared.Crumb.{Crumb}
 use Rattle.crumbs.specs.Crumb.{capacity, crumbs, behind}
 use Rattle.crumbs.proofs.Crumbs.{take-crumbs, behind_more}
@@ -74,7 +73,7 @@ max-le a b c h = omega arith
 -- a state whose breadcrumb is cut to its first crumbs, and then a crumb kept
 module _ (h cut r : Homing) (p : Point) (segment : ℕ) (entry exit : List Float) where
   pub left_at : state_of cut entry ≡ cut_to segment (state_of h entry) → cut.trail.len ≤ h.trail.len
-      → Follows (λ C. keep_in C p) cut entry r exit → Follows (λ C. leave_at C (At p) segment) h entry r exit
+      → Follows (λ C. keep_in C p) cut entry r exit → Follows (λ C. leave_at C (Some p) segment) h entry r exit
   unfolding leave_at
   left_at e l f =
       record {
@@ -103,15 +102,15 @@ unmoved rule h r b f c =
     }
 
 -- ---- following ends
-pub left-nowhere : (h : Homing) (matched : Spot) (segment : ℕ) (b : List Float) → matched ≡ Nowhere → trail.TrailFit h.trail (length b)
+pub left-nowhere : (h : Homing) (matched : Option Point) (segment : ℕ) (b : List Float) → matched ≡ None → trail.TrailFit h.trail (length b)
     → Follows (λ C. leave_at C matched segment) h b h b
 unfolding leave_at
 left-nowhere h matched segment b told f =
-    subst (λ (m : Spot). Follows (λ C. leave_at C m segment) h b h b) (sym told)
+    subst (λ (m : Option Point). Follows (λ C. leave_at C m segment) h b h b) (sym told)
     (record { same = refl; fit = f; size = refl; beyond = refl })
 
 module _ (h f r : Homing) (entry exit : List Float) where
-  pub stops_at : state_of f entry ≡ with_follow (stopped Nowhere h.follow)
+  pub stops_at : state_of f entry ≡ with_follow (stopped None h.follow)
       (with_track (forgotten (track h.trail h.window entry)) (state_of h entry)) → f.trail.len ≡ h.trail.len
       → Follows (λ C. leave_at C h.follow.matched h.follow.segment) f entry r exit → Follows stop_breadcrumb h entry r exit
   unfolding stop_breadcrumb

@@ -5,7 +5,7 @@ ghost use Rattle.crumbs.specs.Crumb.{capacity, crumbs as held_crumbs};
 ghost use Rattle.follow.specs.Record.{after_thinning};
 ghost use Rattle.follow.specs.Parts.{ended_by_thinning, stopped, held_off, along_at, course_from, leads};
 
-use plane::Spot;
+use plane::Point;
 use state::{Course, Follow, Line};
 
 // ---- what is followed
@@ -19,7 +19,7 @@ fn left(f: Follow) -> Follow
         Line::Breadcrumb => Follow {
             line: Line::Nothing,
             segment: 0,
-            matched: Spot::Nowhere,
+            matched: None,
             off: false,
             reminded_ms: f.reminded_ms,
         },
@@ -38,7 +38,7 @@ pub fn after_thinning(thinned: bool, f: Follow) -> Follow
     f
 }
 
-pub fn stopped(f: Follow, matched: Spot) -> Follow
+pub fn stopped(f: Follow, matched: Option<Point>) -> Follow
     ensures { result ≡ stopped matched f }
 {
     Follow {
@@ -82,7 +82,7 @@ pub fn course_from(c: Course, line: &[f32], end: usize) -> Course
         join_fixes: 0,
         along,
         reached: along,
-        fix: Spot::Nowhere,
+        fix: None,
         ..c
     }
 }

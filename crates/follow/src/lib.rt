@@ -12,7 +12,7 @@ ghost use Rattle.follow.specs.Record.{keep_in, add_in, flush_in};
 ghost use Rattle.follow.specs.Engage.{engage_at, engage, leave_at, stop_nothing, stop_course, stop_breadcrumb, stop};
 ghost use Rattle.follow.specs.View.{course_of, Changes, Follows, Asks, decided_in};
 
-use plane::{Point, Spot};
+use plane::Point;
 use state::{Follow, Guided, Homing, Line};
 
 // A state, and a yes or no beside it.
@@ -87,7 +87,7 @@ pub fn engage_at(h: Guided, line: &[f32], on: Line, end: usize, now_ms: u64) -> 
     let follow = Follow {
         line: on,
         segment: end,
-        matched: Spot::Nowhere,
+        matched: None,
         off: false,
         reminded_ms: now_ms,
     };
@@ -123,7 +123,7 @@ fn stop_course(h: Guided) -> Guided
     let f = h.follow;
     let c = h.course;
     let mut next = h;
-    next.follow = follow_parts::stopped(f, Spot::Nowhere);
+    next.follow = follow_parts::stopped(f, None);
     next.course = follow_parts::held_off(c);
     next
 }
@@ -139,12 +139,12 @@ fn stop_nothing(h: Guided) -> Guided
 }
 
 // The breadcrumb ends where the rider left it.
-fn leave_at(h: Guided, crumbs: &mut [f32], matched: Spot, segment: usize) -> Guided
+fn leave_at(h: Guided, crumbs: &mut [f32], matched: Option<Point>, segment: usize) -> Guided
     requires { (trail.TrailFit h.trail (length crumbs.old)) × (segment ≤ h.trail.len) }
     ensures { (w : List Float)
         → Follows (λ C. leave_at C matched segment) (whole h w) crumbs.old (whole result w) crumbs.new }
 {
-    let Spot::At(p) = matched else {
+    let Some(p) = matched else {
         return h;
     };
     let mut cut = h;
@@ -160,7 +160,7 @@ fn stop_breadcrumb(h: Guided, crumbs: &mut [f32]) -> Guided
     let matched = f.matched;
     let segment = f.segment;
     let mut forgotten = h;
-    forgotten.follow = follow_parts::stopped(f, Spot::Nowhere);
+    forgotten.follow = follow_parts::stopped(f, None);
     forgotten.trail.window_len = 0;
     forgotten.trail.retrace = 0;
     leave_at(forgotten, crumbs, matched, segment)

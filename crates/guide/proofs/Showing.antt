@@ -14,7 +14,7 @@ use Rattle.state.specs.declared.Event.TheVariants as event
 use Rattle.state.specs.declared.Follow.{Follow}
 use Rattle.state.specs.declared.Guide.{Guide}
 use Rattle.state.specs.declared.Mode.TheVariants as mode
-use Rattle.state.specs.declared.Shown.TheVariants as shown
+use Rattle.std.specs.Prelude.{Some}
 use Rattle.state.specs.State.{State, with_follow, with_arrived, with_guide}
 use Rattle.state.specs.Rule.{Done, done}
 use Rattle.matching.specs.declared.followed.Way.{Way}
@@ -59,7 +59,7 @@ module _ {x : Standing} {b : List Float} {s : State} (stands : Stands x b s) (co
 
   -- the guide by its goal, how far that is, and who has arrived
   abbrev shown_by : Point → Float → Done Event → Done Event
-  shown_by goal direct a = done a.answer (with_guide (shown.Guide (guide_at course p goal direct w a.state)) a.state)
+  shown_by goal direct a = done a.answer (with_guide (Some (guide_at course p goal direct w a.state)) a.state)
 
   pub shows : {start goal : Point} {direct : Float} {on long : Bool} {a : Arrival} {g : Guide} → start ≡ start_of (crumbs x.held b) p
       → goal ≡ goal_on x.follow.line course start → direct ≡ distance p goal
@@ -72,7 +72,7 @@ module _ {x : Standing} {b : List Float} {s : State} (stands : Stands x b s) (co
       ∙ sym (ap (λ (d : Float). shown_by goal d (arrival_here d long_here)) ed)
       ∙ sym (ap (λ (l : Bool). shown_by goal direct (arrival_here direct l)) (long-here eo el))
       ∙ ap (λ (d : Done Event). shown_by goal direct d) (arrival-here direct long ea)
-      ∙ sym (ap (λ (y : Guide). done a.event (with_guide (shown.Guide y) (arriving a s).state)) guide)
+      ∙ sym (ap (λ (y : Guide). done a.event (with_guide (Some y) (arriving a s).state)) guide)
 
 -- ---- nothing to follow
 module _ {x : Standing} {b : List Float} {s : State} (stands : Stands x b s) (course : List Crumb) (p : Point) where

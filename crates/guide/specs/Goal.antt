@@ -1,5 +1,5 @@
 -- Where the rider is to arrive, and what the guide shows by it. Document 01, "Guide and event"; homing.rs, `update`.
-use Rattle.std.specs.Prelude.{◌-◌, Bool, true, false, ◌&&◌, not, cond, List, [], ◌∷◌, leb, length, Float}
+use Rattle.std.specs.Prelude.{◌-◌, Bool, true, false, ◌&&◌, not, cond, List, [], ◌∷◌, leb, length, Float, Option, Some, None}
 use Rattle.std.specs.Float.Ieee.{lt, le}
 use Rattle.binary32.specs.Arithmetic.{constant}
 use Rattle.binary32.specs.Limits.{one}
@@ -7,8 +7,7 @@ use Rattle.plane.specs.declared.Point.{Point}
 use Rattle.plane.specs.Plane.{distance}
 use Rattle.crumbs.specs.declared.Crumb.{Crumb}
 use Rattle.crumbs.specs.Crumb.{point}
-use Rattle.segments.specs.declared.Best.{Best}
-use Rattle.segments.specs.declared.Best.TheVariants.{Nothing, Found}
+use Rattle.segments.specs.declared.costs.Nearest.{Nearest}
 use Rattle.segments.specs.Line.{at}
 use Rattle.search.specs.Course.{course_near}
 use Rattle.state.specs.declared.Line.{Line}
@@ -43,9 +42,9 @@ mode_of false m = m
 unfoldable pub aim : Point → Point → Point → Point
 aim p goal target = cond (lt (distance p target) one) goal target
 
-unfoldable pub found_any : Best → Bool
-found_any Nothing = false
-found_any (Found near) = true
+unfoldable pub found_any : Option Nearest → Bool
+found_any None = false
+found_any (Some near) = true
 
 -- the course is near where nothing is followed and it lies within 500 m
 unfoldable pub near_course : Line → List Crumb → Point → Bool

@@ -1,18 +1,16 @@
 -- The guide shown. Document 01, "Guide and event"; homing.rs, `update`.
-use Rattle.std.specs.Prelude.{Bool, true, false, ◌&&◌, List, Float}
+use Rattle.std.specs.Prelude.{Bool, true, false, ◌&&◌, List, Float, Some}
 use Rattle.std.specs.Float.Ieee.{lt}
 use Rattle.binary32.specs.Arithmetic.{constant}
 use Rattle.binary32.specs.Limits.{plus_zero}
 use Rattle.plane.specs.declared.Point.{Point}
 use Rattle.plane.specs.Plane.{distance, bearing, metres}
 use Rattle.crumbs.specs.declared.Crumb.{Crumb}
-use Rattle.segments.specs.declared.Best.TheVariants.{Nothing}
 use Rattle.crumbs.specs.Along.{recorded_m, start_of}
 use Rattle.state.specs.declared.Mode.TheVariants as mode
 use Rattle.state.specs.declared.Event.{Event}
 use Rattle.state.specs.declared.Event.TheVariants as event
 use Rattle.state.specs.declared.Guide.{Guide}
-use Rattle.state.specs.declared.Shown.TheVariants as shown
 use Rattle.state.specs.declared.Follow.{Follow}
 use Rattle.state.specs.State.{State, with_follow, with_arrived, with_guide}
 use Rattle.state.specs.Rule.{Done, done}
@@ -61,7 +59,7 @@ finished course p w e s =
     let direct = distance p goal in
     let long = long_enough (on_course s.follow.line) s.track.crumbs in
     let a = arrival_from s.arrived long direct e s in
-    done a.answer (with_guide (shown.Guide (guide_at course p goal direct w a.state)) a.state)
+    done a.answer (with_guide (Some (guide_at course p goal direct w a.state)) a.state)
 
 -- nothing to follow: straight to the start
 unfoldable pub direct : List Crumb → Point → State → Done Event

@@ -1,10 +1,9 @@
 -- For the functions inside: what a function that shows a guide promises.
-use Rattle.std.specs.Prelude.{◌≡◌, List, Float}
+use Rattle.std.specs.Prelude.{◌≡◌, List, Float, Some}
 use Rattle.crumbs.specs.declared.Crumb.{Crumb}
 use Rattle.crumbs.specs.Crumb.{crumbs}
 use Rattle.state.specs.declared.Event.{Event}
 use Rattle.state.specs.declared.Homing.{Homing}
-use Rattle.state.specs.declared.Shown.TheVariants as shown
 use Rattle.state.specs.State.{State, state_of, with_follow, with_arrived, with_guide}
 use Rattle.state.specs.Rule.{Done, done}
 use Rattle.guide.specs.declared.Told.{Told}
@@ -24,7 +23,7 @@ arriving a s = done a.event (with_arrived a.arrived (with_follow a.follow s))
 
 -- a state with the guide shown, and what changes with it
 abbrev pub displaying : Display → State → Done Event
-displaying d s = let a = arriving d.arrival s in done a.answer (with_guide (shown.Guide d.guide) a.state)
+displaying d s = let a = arriving d.arrival s in done a.answer (with_guide (Some d.guide) a.state)
 
 -- x is what the guide is made of in a state, whose breadcrumb lies in b
 pub record Stands (x : Standing) (b : List Float) (s : State) : Type 0 where

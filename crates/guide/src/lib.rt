@@ -12,7 +12,7 @@ ghost use Rattle.guide.specs.View.{arriving, displaying, course_held, WhereStand
 
 use crumbs::along;
 use matching::followed::Way;
-use plane::{Heading, Point};
+use plane::Point;
 use state::{Event, Follow, Guide, Homing, Mode};
 
 // At the start, or the course's end, within this; at the start again only after leaving by `LEAVE_M`.
@@ -33,7 +33,7 @@ pub struct Told {
 pub struct Standing {
     pub follow: Follow,
     pub arrived: bool,
-    pub heading: Heading,
+    pub heading: Option<u16>,
     pub held: usize,
     pub placed: usize,
 }

@@ -16,14 +16,13 @@ use mir.ValLaws.{to_z-of_z}
 use Rattle.crumbs.specs.declared.Crumb.{Crumb}
 use Rattle.crumbs.specs.Crumb.{capacity, crumbs, behind}
 use Rattle.crumbs.proofs.Crumbs.{length-crumbs}
-use Rattle.state.specs.declared.Place.{Place}
-use Rattle.state.specs.declared.Place.TheVariants as place
+use Rattle.std.specs.Prelude.{Some}
+use Rattle.plane.specs.declared.Fix.{Fix}
 use Rattle.state.specs.declared.Homing.{Homing}
 use Rattle.state.specs.State.{State, state_of}
 use Rattle.state.specs.Rule.{Done, done}
 use Rattle.follow.specs.View.{Follows}
 use Rattle.matching.proofs.Choosing.{picked, passed-by}
-use Rattle.course.specs.Fix.{Fix}
 use Rattle.course.specs.Course.{line_of}
 use Rattle.course.specs.View.{Places}
 use Rattle.course.proofs.Fixes.{handed}
@@ -89,9 +88,9 @@ module _ (c : Call) (h r : Homing) (entry exit : List Float) where
   takes-rule rule e is f = takes e (f.same ∙ is) f.size f.beyond
 
 -- ---- a fix handed on by its bits is the same
-pub same_at : (lat lon : ℤ) → mag lat < 2 ^ 31 → mag lon < 2 ^ 31 → place.At (handed lat) (handed lon) ≡ place.At lat lon
-same_at lat lon a b = ap (λ (c : ℤ). place.At c (handed lon)) (to_z-of_z w32 lat (record { sfits = a }))
-    ∙ ap (λ (d : ℤ). place.At lat d) (to_z-of_z w32 lon (record { sfits = b }))
+pub same_at : (lat lon : ℤ) → mag lat < 2 ^ 31 → mag lon < 2 ^ 31 → Some (handed lat) (handed lon) ≡ Some lat lon
+same_at lat lon a b = ap (λ (c : ℤ). Some c (handed lon)) (to_z-of_z w32 lat (record { sfits = a }))
+    ∙ ap (λ (d : ℤ). Some lat d) (to_z-of_z w32 lon (record { sfits = b }))
 
 -- ---- what the inner functions require
 pub ready : (size : ℕ) (line : List Float) (h : Homing) (b : List Float) → asks_both size line (state_of h b) ≡ 0

@@ -1,12 +1,11 @@
 -- What each call that changes the guide promises. `Called` says what becomes of the state and the crumb buffer, and that a refusal changes
 -- nothing.
-use Rattle.std.specs.Prelude.{ℕ, ◌≡◌, Bool, List, length, Float}
+use Rattle.std.specs.Prelude.{ℕ, ◌≡◌, Bool, List, length, Float, Option}
 use Rattle.crumbs.specs.Crumb.{capacity}
 use Rattle.trail.specs.View.{empty_window}
-use Rattle.state.specs.declared.Place.{Place}
+use Rattle.plane.specs.declared.Fix.{Fix}
 use Rattle.state.specs.declared.Homing.{Homing}
 use Rattle.state.specs.State.{state_of}
-use Rattle.course.specs.Fix.{Fix}
 use Rattle.course.specs.Course.{line_of}
 use Rattle.course.specs.View.{Places}
 use Rattle.calls.specs.Questions.{question1, unless}
@@ -55,7 +54,7 @@ pub record SetsAuto (on : Bool) (h : Homing) (entry : List Float) (r : Changed) 
   pub called : Called (call.SetAutoFollow on) h entry r.homing exit
 
 -- `observe`, lent the line
-pub record Observes (line : List Float) (x : Place) (now : ℕ) (h : Homing) (entry : List Float) (r : Observed) (exit : List Float) :
+pub record Observes (line : List Float) (x : Option Fix) (now : ℕ) (h : Homing) (entry : List Float) (r : Observed) (exit : List Float) :
     Type 0 where
   pub answered : says_sight r.answer
       ≡ answer (asks (length entry) (call.Observe line x now) (state_of h entry))

@@ -5,7 +5,6 @@
 ghost use Rattle.std.specs.Prelude.{◌≡◌, List, ℕ, Float, length};
 ghost use Rattle.homing.specs.declared.Reply.TheVariants as reply;
 ghost use Rattle.state.specs.State.{state_of};
-ghost use Rattle.state.specs.declared.Place.TheVariants as places;
 ghost use Rattle.course.specs.Course.{fixes};
 ghost use Rattle.calls.specs.Calls as call;
 ghost use Rattle.calls.specs.Calls.{asks};
@@ -13,7 +12,8 @@ ghost use Rattle.homing.specs.Promises.{MakesNew, DoesReset, EndsReplay, SetsCou
 
 use answers::Verdict;
 use questions::{counts, globe};
-use state::{Event, Homing, Place};
+use plane::Fix;
+use state::{Event, Homing};
 use steer::following;
 
 // The answer of a call that has nothing to tell.
@@ -129,28 +129,28 @@ pub fn set_course(h: Homing, line: &mut [f32], lats: &[i32], lons: &[i32]) -> Ch
 // ---- a fix
 
 // The questions put to a fix: the state and the two buffers, then the place.
-fn asks_seen(h: Homing, crumbs: &[f32], line: &[f32], lat: i32, lon: i32) -> u8
-    ensures { (at : ℕ) → result ≡ asks (length crumbs.now) (call.Observe line.now (places.At lat lon) at)
+fn asks_seen(h: Homing, crumbs: &[f32], line: &[f32], fix: Fix) -> u8
+    ensures { (at : ℕ) → result ≡ asks (length crumbs.now) (call.Observe line.now (Some fix) at)
         (state_of h crumbs.now) }
 {
     let number = questions::asks_both(h, crumbs, line);
     if number != 0 {
         return number;
     }
-    globe::asks_fix(lat, lon)
+    globe::asks_fix(fix)
 }
 
-fn seen(h: Homing, crumbs: &mut [f32], line: &[f32], lat: i32, lon: i32, now_ms: u64) -> Observed
-    ensures { Observes line.now (places.At lat lon) now_ms h crumbs.old result crumbs.new }
+fn seen(h: Homing, crumbs: &mut [f32], line: &[f32], fix: Fix, now_ms: u64) -> Observed
+    ensures { Observes line.now (Some fix) now_ms h crumbs.old result crumbs.new }
 {
-    let number = asks_seen(h, crumbs, line, lat, lon);
+    let number = asks_seen(h, crumbs, line, fix);
     if number != 0 {
         return Observed {
             homing: h,
             answer: Sight::Refused(number),
         };
     }
-    let t = fix::observe::seen(h, crumbs, line, lat, lon, now_ms);
+    let t = fix::observe::seen(h, crumbs, line, fix, now_ms);
     let homing = t.homing;
     let event = t.event;
     Observed {
@@ -160,7 +160,7 @@ fn seen(h: Homing, crumbs: &mut [f32], line: &[f32], lat: i32, lon: i32, now_ms:
 }
 
 fn missing(h: Homing, crumbs: &[f32], line: &[f32], now_ms: u64) -> Observed
-    ensures { Observes line.now places.Missing now_ms h crumbs.now result crumbs.now }
+    ensures { Observes line.now None now_ms h crumbs.now result crumbs.now }
 {
     let number = questions::asks_both(h, crumbs, line);
     if number != 0 {
@@ -177,36 +177,36 @@ fn missing(h: Homing, crumbs: &[f32], line: &[f32], now_ms: u64) -> Observed
 }
 
 // The ride's position, if fresh.
-pub fn observe(h: Homing, crumbs: &mut [f32], line: &[f32], place: Place, now_ms: u64) -> Observed
+pub fn observe(h: Homing, crumbs: &mut [f32], line: &[f32], place: Option<Fix>, now_ms: u64) -> Observed
     ensures { Observes line.now place now_ms h crumbs.old result crumbs.new }
 {
-    let Place::At(lat, lon) = place else {
+    let Some(fix) = place else {
         return missing(h, crumbs, line, now_ms);
     };
-    seen(h, crumbs, line, lat, lon, now_ms)
+    seen(h, crumbs, line, fix, now_ms)
 }
 
 // The questions put to a fix from before a restart.
-fn asks_replay(h: Homing, crumbs: &[f32], lat: i32, lon: i32) -> u8
+fn asks_replay(h: Homing, crumbs: &[f32], fix: Fix) -> u8
     ensures { (at : ℕ)
-        → result ≡ asks (length crumbs.now) (call.Replay (record { lat = lat; lon = lon }) at) (state_of h crumbs.now) }
+        → result ≡ asks (length crumbs.now) (call.Replay fix at) (state_of h crumbs.now) }
 {
     let number = questions::asks_crumbs(h, crumbs);
     if number != 0 {
         return number;
     }
-    globe::asks_fix(lat, lon)
+    globe::asks_fix(fix)
 }
 
 // A fix from before a restart, `at_ms` into the replay: it grows the breadcrumb, but follows nothing.
-pub fn replay(h: Homing, crumbs: &mut [f32], lat: i32, lon: i32, at_ms: u64) -> Changed
-    ensures { Replays (record { lat = lat; lon = lon }) at_ms h crumbs.old result crumbs.new }
+pub fn replay(h: Homing, crumbs: &mut [f32], fix: Fix, at_ms: u64) -> Changed
+    ensures { Replays fix at_ms h crumbs.old result crumbs.new }
 {
-    let number = asks_replay(h, crumbs, lat, lon);
+    let number = asks_replay(h, crumbs, fix);
     if number != 0 {
         return refused(h, number);
     }
-    let grown = fix::replay(h, crumbs, lat, lon, at_ms);
+    let grown = fix::replay(h, crumbs, fix, at_ms);
     taken(grown)
 }
 

@@ -1,11 +1,7 @@
 -- Following begins by itself: fixes in a row along the course, or back along the breadcrumb. homing.rs, `joining`, `retracing`.
-use Rattle.std.specs.Prelude.{ℕ, ◌+◌, min, Bool, false, ◌&&◌, not, cond, List, leb, length}
+use Rattle.std.specs.Prelude.{ℕ, ◌+◌, min, Bool, false, ◌&&◌, not, cond, List, leb, length, Option, Some, None}
 use Rattle.plane.specs.declared.Point.{Point}
-use Rattle.plane.specs.declared.Heading.{Heading}
-use Rattle.plane.specs.declared.Heading.TheVariants.{Known, Unknown}
 use Rattle.crumbs.specs.declared.Crumb.{Crumb}
-use Rattle.search.specs.declared.Join.{Join}
-use Rattle.search.specs.declared.Join.TheVariants.{Segment, NoSegment}
 use Rattle.search.specs.Course.{joined}
 use Rattle.trail.specs.Trail.{retrace_fixes, Track}
 use Rattle.state.specs.declared.Course.{Course}
@@ -22,9 +18,9 @@ unfoldable pub joined_to : ℕ → ℕ → Course → Course
 joined_to fixes end c = course_with c.line_len c.unplaced c.held fixes end c.along c.reached c.fix
 
 -- a fix on the course, or one that is not; the count stops at the largest u8
-unfoldable pub join_on : Join → State → Done Bool
-join_on NoSegment s = done false (with_course (joined_to 0 s.course.join_end s.course) s)
-join_on (Segment end) s =
+unfoldable pub join_on : Option ℕ → State → Done Bool
+join_on None s = done false (with_course (joined_to 0 s.course.join_end s.course) s)
+join_on (Some end) s =
     let fixes = min (s.course.join_fixes + 1) 255 in
     done (leb join_fixes fixes) (with_course (joined_to fixes end s.course) s)
 
@@ -32,9 +28,9 @@ join_on (Segment end) s =
 unfoldable pub may_join : List Crumb → State → Bool
 may_join course s = s.auto_follow && not s.course.held && leb 2 (length course)
 
-unfoldable pub join_with : Heading → List Crumb → Point → State → Join
-join_with Unknown course p s = NoSegment
-join_with (Known heading) course p s = cond (may_join course s) (joined course p heading) NoSegment
+unfoldable pub join_with : Option ℕ → List Crumb → Point → State → Option ℕ
+join_with None course p s = None
+join_with (Some heading) course p s = cond (may_join course s) (joined course p heading) None
 
 -- whether the fix at p continues a ride along the course for long enough to follow it
 unfoldable pub joining : List Crumb → Point → State → Done Bool

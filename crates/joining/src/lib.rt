@@ -9,8 +9,7 @@ ghost use Rattle.state.specs.State.{State, with_course, with_auto_follow};
 ghost use Rattle.joining.specs.Join.{join_on, join_with, joining, retracing};
 ghost use Rattle.joining.specs.View.{Joins, Retraces};
 
-use plane::{Heading, Point};
-use search::Join;
+use plane::Point;
 use state::Course;
 use trail::Trail;
 
@@ -39,11 +38,11 @@ fn one_more(n: u8) -> u8
     if n < 255 { n + 1 } else { 255 }
 }
 
-fn join_on(c: Course, join: Join) -> Joined
+fn join_on(c: Course, join: Option<usize>) -> Joined
     ensures { (s : State) → Joins (join_on join) (with_course c s) result }
 {
     match join {
-        Join::Segment(end) => {
+        Some(end) => {
             let fixes = one_more(c.join_fixes);
             let mut course = c;
             course.join_fixes = fixes;
@@ -53,7 +52,7 @@ fn join_on(c: Course, join: Join) -> Joined
                 yes: JOIN_FIXES <= fixes,
             }
         }
-        Join::NoSegment => {
+        None => {
             let mut course = c;
             course.join_fixes = 0;
             Joined { course, yes: false }
@@ -73,22 +72,22 @@ fn may_join(auto_follow: bool, c: Course) -> bool
     false
 }
 
-fn join_with(auto_follow: bool, c: Course, heading: Heading, line: &[f32], p: Point) -> Join
+fn join_with(auto_follow: bool, c: Course, heading: Option<u16>, line: &[f32], p: Point) -> Option<usize>
     requires { c.line_len ≤ capacity (length line.now) }
     ensures { (s : State) → result ≡ join_with heading (held c.line_len line.now) p
         (with_course c (with_auto_follow auto_follow s)) }
 {
-    let Heading::Known(known) = heading else {
-        return Join::NoSegment;
+    let Some(known) = heading else {
+        return None;
     };
     if may_join(auto_follow, c) {
         return search::joined(line, c.line_len, p, known);
     }
-    Join::NoSegment
+    None
 }
 
 // Whether this fix continues a ride along the course, its way, for long enough to follow it.
-pub fn joining(auto_follow: bool, c: Course, heading: Heading, line: &[f32], p: Point) -> Joined
+pub fn joining(auto_follow: bool, c: Course, heading: Option<u16>, line: &[f32], p: Point) -> Joined
     requires { c.line_len ≤ capacity (length line.now) }
     ensures { (s : State) → s.motion.heading ≡ heading
         → Joins (joining (held c.line_len line.now) p) (with_course c (with_auto_follow auto_follow s)) result }
@@ -98,7 +97,7 @@ pub fn joining(auto_follow: bool, c: Course, heading: Heading, line: &[f32], p: 
 }
 
 // Whether this fix continues a ride back along the breadcrumb for long enough to follow it.
-pub fn retracing(t: Trail, heading: Heading, crumbs: &[f32], p: Point) -> Retraced
+pub fn retracing(t: Trail, heading: Option<u16>, crumbs: &[f32], p: Point) -> Retraced
     requires { (t.len ≤ capacity (length crumbs.now)) × (t.retrace < 255) }
     ensures { (w : List Float) (s : State) → s.motion.heading ≡ heading
         → Retraces (retracing p) t w crumbs.now s result }

@@ -7,9 +7,10 @@ ghost use Rattle.joining.specs.Retrace.{backwards, against_near, nearest_before,
 ghost use Rattle.segments.specs.Inner.{InLine};
 
 use crumbs::Crumb;
-use plane::{Heading, Point};
+use plane::Point;
 use search::{Range, rows};
-use segments::{Best, turns};
+use segments::costs::Nearest;
+use segments::turns;
 use trail::Trail;
 
 // Riding back along the breadcrumb: this close to it, away from its newest `RETRACE_SKIP_M`.
@@ -28,12 +29,12 @@ fn backwards(heading: u16, a: Crumb, b: Crumb) -> bool
 }
 
 // The breadcrumb's nearest segment to p among those up to the crumb `n`.
-fn nearest_before(crumbs: &[f32], len: usize, p: Point, n: usize) -> Best
+fn nearest_before(crumbs: &[f32], len: usize, p: Point, n: usize) -> Option<Nearest>
     requires { (n ≤ len) × (len ≤ capacity (length crumbs.now)) }
     ensures { result ≡ nearest_before (held_crumbs len crumbs.now) p n }
 {
     if n < 2 {
-        return Best::Nothing;
+        return None;
     }
     let ends = Range { from: 1, to: n - 1 };
     rows::nearest_on_breadcrumb(crumbs, len, p, ends)
@@ -47,11 +48,11 @@ pub fn len_before(t: Trail) -> usize
 }
 
 // Whether the nearest segment is close, and ridden against.
-fn against_near(crumbs: &[f32], len: usize, heading: u16, best: Best) -> bool
+fn against_near(crumbs: &[f32], len: usize, heading: u16, best: Option<Nearest>) -> bool
     requires { (len ≤ capacity (length crumbs.now)) × InLine len best }
     ensures { result ≡ against_near (held_crumbs len crumbs.now) heading best }
 {
-    let Best::Found(near) = best else {
+    let Some(near) = best else {
         return false;
     };
     if near.off < RETRACE_M {
@@ -63,11 +64,11 @@ fn against_near(crumbs: &[f32], len: usize, heading: u16, best: Best) -> bool
 }
 
 // Whether a fix with this heading runs back over the breadcrumb.
-pub fn rides_back(crumbs: &[f32], len: usize, p: Point, heading: Heading) -> bool
+pub fn rides_back(crumbs: &[f32], len: usize, p: Point, heading: Option<u16>) -> bool
     requires { len ≤ capacity (length crumbs.now) }
     ensures { result ≡ rides_back heading (held_crumbs len crumbs.now) p }
 {
-    let Heading::Known(known) = heading else {
+    let Some(known) = heading else {
         return false;
     };
     if len < 2 {

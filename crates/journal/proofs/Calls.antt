@@ -8,12 +8,12 @@ use lib.Dec.{eqb}
 use lib.Ieee.{le}
 use Rattle.binary32.specs.Arithmetic.{constant}
 use Rattle.binary32.specs.Limits.{plus_zero}
-use Rattle.plane.specs.declared.Spot.{Spot}
-use Rattle.plane.specs.declared.Spot.TheVariants as spot
+use Rattle.std.specs.Prelude.{Option, Some, None}
+use Rattle.segments.specs.declared.costs.Nearest.{Nearest}
+use Rattle.plane.specs.declared.Fix.{Fix}
+use Rattle.plane.specs.declared.Point.{Point}
 use Rattle.crumbs.specs.declared.Crumb.{Crumb}
 use Rattle.crumbs.specs.Crumb.{capacity}
-use Rattle.segments.specs.declared.Best.{Best}
-use Rattle.segments.specs.declared.Best.TheVariants.{Nothing, Found}
 use Rattle.trail.specs.Trail.{tolerance_m}
 use Rattle.trail.specs.Trail as trail
 use Rattle.trail.proofs.Theorems.{Holding, holding}
@@ -21,7 +21,6 @@ use Rattle.state.specs.declared.Line.{Line}
 use Rattle.state.specs.declared.Line.TheVariants as line
 use Rattle.state.specs.State.{State, with_auto_follow}
 use Rattle.state.specs.Rule.{Done}
-use Rattle.course.specs.Fix.{Fix}
 use Rattle.calls.specs.Follow.{update_here, brought, engaged_or, way_home, follow, near_here, follow_from, set_following, auto_off}
 use Rattle.calls.specs.Follow.{set_auto_follow}
 use Rattle.calls.specs.Line.{reset, off_course, set_course}
@@ -37,10 +36,10 @@ use Rattle.journal.proofs.Fixes.{observe-good, replay-good, end-replay-good}
 -- ---- following, by the rider
 module _ (C : ℕ) (least : 3 ≤ C) where
   module _ (course : List Crumb) (now : ℕ) where
-    update_here_lem : (here : Spot) → Good C (update_here here C course now)
+    update_here_lem : (here : Option Point) → Good C (update_here here C course now)
     unfolding update_here
-    update_here_lem spot.Nowhere s h = still true s h
-    update_here_lem (spot.At p) s h = then (update-good C least course p now s h) λ _ after k. still true after k
+    update_here_lem None s h = still true s h
+    update_here_lem (Some p) s h = then (update-good C least course p now s h) λ _ after k. still true after k
 
     brought-good : Good C (brought C course now)
     unfolding brought
@@ -56,11 +55,11 @@ module _ (C : ℕ) (least : 3 ≤ C) where
     way_home_lem s h =
         then (flush-good C least s h) λ _ flushed k. then (engage-good course now flushed k) λ b after l. engaged-or b after l
 
-    follow-good : (best : Best) → Good C (follow best C course now)
+    follow-good : (best : Option Nearest) → Good C (follow best C course now)
     unfolding follow
-    follow-good (Found near) s h = let q = engaged course line.Course near.end now s h course-followed in
+    follow-good (Some near) s h = let q = engaged course line.Course near.end now s h course-followed in
         resumed q.same (brought-good _ q.sound)
-    follow-good Nothing s h = way_home_lem s h
+    follow-good None s h = way_home_lem s h
 
     follow-from : (l : Line) → Good C (follow_from l C course now)
     unfolding follow_from

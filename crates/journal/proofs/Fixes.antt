@@ -6,13 +6,11 @@ use mathlib.Core.List.{List}
 use native.Mathlib.Omega.{arith}
 use lib.Dec.{ltb}
 use Rattle.plane.specs.declared.Point.{Point}
-use Rattle.plane.specs.declared.Spot.{Spot}
-use Rattle.plane.specs.declared.Spot.TheVariants as spot
+use Rattle.std.specs.Prelude.{Option, Some, None}
+use Rattle.plane.specs.declared.Fix.{Fix}
 use Rattle.crumbs.specs.declared.Crumb.{Crumb}
 use Rattle.motion.specs.Heading.{elapsed}
 use Rattle.trail.proofs.Theorems.{Holding, holding}
-use Rattle.state.specs.declared.Place.{Place}
-use Rattle.state.specs.declared.Place.TheVariants as place
 use Rattle.state.specs.declared.Line.{Line}
 use Rattle.state.specs.declared.Line.TheVariants as line
 use Rattle.state.specs.declared.Event.{Event}
@@ -20,7 +18,7 @@ use Rattle.state.specs.declared.Event.TheVariants as event
 use Rattle.state.specs.State.{State, with_frame, with_here_ms, with_motion}
 use Rattle.state.specs.Rule.{Done, done}
 use Rattle.follow.specs.Engage.{cut_to, forgotten}
-use Rattle.course.specs.Fix.{Fix, located, framed}
+use Rattle.course.specs.Fix.{located, framed}
 use Rattle.calls.specs.Fix.{fix_lost_ms, still_ms, is_at, cleared, missing, same_fix, headed, still_at, add_update, tell_following}
 use Rattle.calls.specs.Fix.{joined_course}
 use Rattle.calls.specs.Fix.{turned_back, engaged_back, retraced, may_retrace, joined_or_not, fix_on, arrived_at, new_fix, seen, observe}
@@ -53,10 +51,10 @@ module _ {C : ℕ} where
 
 -- ---- observed
 module _ (C : ℕ) (least : 3 ≤ C) (course : List Crumb) (now : ℕ) where
-  still-good : (here : Spot) → Good C (still_at here C course now)
+  still-good : (here : Option Point) → Good C (still_at here C course now)
   unfolding still_at headed
-  still-good spot.Nowhere s h = still event.Nothing s h
-  still-good (spot.At p) s h =
+  still-good None s h = still event.Nothing s h
+  still-good (Some p) s h =
       either (ltb (elapsed now s.updated_ms) still_ms) (still event.Nothing s h) (update-good C least course p now (headed p now s) h)
 
   module _ (p : Point) where
@@ -117,10 +115,10 @@ module _ (C : ℕ) (least : 3 ≤ C) (course : List Crumb) (now : ℕ) where
   unfolding seen
   seen-good x s h = either (same_fix s.fed x) (still-good s.here (with_here_ms now s) h) (new-fix x (with_here_ms now s) h)
 
-  pub observe-good : (x : Place) → Good C (observe C course x now)
+  pub observe-good : (x : Option Fix) → Good C (observe C course x now)
   unfolding observe
-  observe-good (place.At lat lon) s h = seen-good (record { lat = lat; lon = lon }) s h
-  observe-good place.Missing s h = missing-good now s h
+  observe-good (Some x) s h = seen-good x s h
+  observe-good None s h = missing-good now s h
 
 -- ---- replayed
 module _ (C : ℕ) (least : 3 ≤ C) where

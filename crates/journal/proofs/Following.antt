@@ -6,8 +6,8 @@ use mathlib.Core.List.{List}
 use native.Mathlib.Omega.{arith}
 use borrow.Author.Tests.{leb-true}
 use lib.ListN.{length, length-take}
-use Rattle.plane.specs.declared.Spot.{Spot}
-use Rattle.plane.specs.declared.Spot.TheVariants.{At, Nowhere}
+use Rattle.std.specs.Prelude.{Option, Some, None}
+use Rattle.plane.specs.declared.Point.{Point}
 use Rattle.crumbs.specs.declared.Crumb.{Crumb}
 use Rattle.trail.specs.Trail.{Track}
 use Rattle.trail.proofs.Theorems as track
@@ -85,10 +85,10 @@ module _ {C : ℕ} where
   cut-then n x d some r = record { trace = cut n some r.trace; sound = r.sound }
 
 module _ (C : ℕ) (least : 3 ≤ C) where
-  leave-good : (matched : Spot) (segment : ℕ) → 1 ≤ segment → Good C (leave_at C matched segment)
+  leave-good : (matched : Option Point) (segment : ℕ) → 1 ≤ segment → Good C (leave_at C matched segment)
   unfolding leave_at cut_to
-  leave-good Nowhere segment some s h = still tt s h
-  leave-good (At p) segment some s h =
+  leave-good None segment some s h = still tt s h
+  leave-good (Some p) segment some s h =
       cut-then segment (holding s.track) _ some (keep-good C least p (cut_to segment s) (cut-sound segment s h))
 
   stop-breadcrumb : (s : State) → Holds C s → 1 ≤ s.follow.segment → Ran C (holding s.track) (stop_breadcrumb C s)

@@ -8,11 +8,8 @@ use borrow.Author.Tests.{eqb-false, leb-true}
 use lib.Dec.{leb, eqb}
 use lib.ListN.{length}
 use Rattle.plane.specs.declared.Point.{Point}
-use Rattle.plane.specs.declared.Heading.{Heading}
-use Rattle.plane.specs.declared.Heading.TheVariants.{Known, Unknown}
+use Rattle.std.specs.Prelude.{Option, Some, None, ℕ}
 use Rattle.crumbs.specs.declared.Crumb.{Crumb}
-use Rattle.search.specs.declared.Join.{Join}
-use Rattle.search.specs.declared.Join.TheVariants.{Segment, NoSegment}
 use Rattle.trail.specs.Trail.{retrace_fixes, Track}
 use Rattle.trail.proofs.Theorems.{Holding, holding}
 use Rattle.state.specs.State.{State, with_track}
@@ -24,10 +21,10 @@ use Rattle.journal.proofs.Sound.{Holds, Ran, Good}
 
 -- ---- along the course
 module _ {C : ℕ} where
-  join-on : (j : Join) → Good C (join_on j)
+  join-on : (j : Option ℕ) → Good C (join_on j)
   unfolding join_on
-  join-on NoSegment s h = record { trace = over; sound = h }
-  join-on (Segment end) s h = record { trace = over; sound = h }
+  join-on None s h = record { trace = over; sound = h }
+  join-on (Some end) s h = record { trace = over; sound = h }
 
   pub joining-good : (course : List Crumb) (p : Point) → Good C (joining course p)
   unfolding joining
@@ -39,10 +36,10 @@ only-there : (b answer : Bool) → cond b answer false ≡ true → b ≡ true
 only-there true answer e = refl
 only-there false answer e = e
 
-rides-crumbs : (way : Heading) (l : List Crumb) (p : Point) → rides_back way l p ≡ true → 2 ≤ length l
+rides-crumbs : (way : Option ℕ) (l : List Crumb) (p : Point) → rides_back way l p ≡ true → 2 ≤ length l
 unfolding rides_back
-rides-crumbs Unknown l p e = absurd (true≢false (sym e))
-rides-crumbs (Known heading) l p e = leb-true 2 (length l) (only-there _ _ e)
+rides-crumbs None l p e = absurd (true≢false (sym e))
+rides-crumbs (Some heading) l p e = leb-true 2 (length l) (only-there _ _ e)
 
 len-before : (t : Track) → 2 ≤ length t.crumbs → (1 ≤ t.retrace → 1 ≤ t.retrace_len) → 1 ≤ len_before t
 unfolding len_before

@@ -10,8 +10,7 @@ use lib.Ieee.{Float, lt}
 use Rattle.plane.specs.declared.Point.{Point}
 use Rattle.crumbs.specs.declared.Crumb.{Crumb}
 use Rattle.segments.specs.declared.costs.Nearest.{Nearest}
-use Rattle.segments.specs.declared.Best.{Best}
-use Rattle.segments.specs.declared.Best.TheVariants.{Nothing, Found}
+use Rattle.std.specs.Prelude.{Option, Some, None}
 use Rattle.search.specs.declared.Range.{Range}
 use Rattle.matching.specs.Distances.{off_m, drop_m}
 use Rattle.trail.proofs.Theorems.{holding}
@@ -33,7 +32,7 @@ use Rattle.journal.proofs.Following.{stop-good}
 
 -- ---- what is found is a segment
 nearest-end : (l : Line) (course : List Crumb) (p : Point) (ends : Range) (s : State) → 1 ≤ ends.from → (near : Nearest)
-    → nearest l course p ends s ≡ Found near → 1 ≤ near.end
+    → nearest l course p ends s ≡ Some near → 1 ≤ near.end
 unfolding nearest
 nearest-end line.Course course p ends s h near e = omega (arith, (course-met course p ends h (progress s) near e).from)
 nearest-end line.Nothing course p ends s h near e = omega (arith, (breadcrumb-met s.track.crumbs p ends near e).from)
@@ -43,11 +42,11 @@ around-from : (segment len : ℕ) → 1 ≤ (around_segment segment len).from
 unfolding around_segment
 around-from segment len = omega arith
 
-nearer-end : (near : Nearest) (best : Best) → 1 ≤ near.end → ((other : Nearest) → best ≡ Found other → 1 ≤ other.end)
+nearer-end : (near : Nearest) (best : Option Nearest) → 1 ≤ near.end → ((other : Nearest) → best ≡ Some other → 1 ≤ other.end)
     → 1 ≤ (nearer near best).end
 unfolding nearer
-nearer-end near Nothing h k = h
-nearer-end near (Found other) h k = by (lt other.off near.off)
+nearer-end near None h k = h
+nearer-end near (Some other) h k = by (lt other.off near.off)
   where
     by : (b : Bool) → 1 ≤ (elim b as (λ _. Nearest) [ true ↦ other | false ↦ near ]).end
     by true = k other refl
@@ -113,10 +112,10 @@ module _ (C : ℕ) (least : 3 ≤ C) (course : List Crumb) (p : Point) (now : �
       either (lt drop_m near.off) (ended-good event.Dropped s h)
       (either (at_course_end s near) (ended-good event.CourseEnd s h) (matched-good course p now near some s h))
 
-  match-from : (best : Best) → ((near : Nearest) → best ≡ Found near → 1 ≤ near.end) → Good C (match_from best C course p now)
+  match-from : (best : Option Nearest) → ((near : Nearest) → best ≡ Some near → 1 ≤ near.end) → Good C (match_from best C course p now)
   unfolding match_from
-  match-from Nothing found s h = still event.Nothing s h
-  match-from (Found near) found s h = matched_to_lem (widened course p near s) (widened-end course p near s (found near refl)) s h
+  match-from None found s h = still event.Nothing s h
+  match-from (Some near) found s h = matched_to_lem (widened course p near s) (widened-end course p near s (found near refl)) s h
 
   follow-good : Good C (follow_on C course p now)
   unfolding follow_on

@@ -3,7 +3,7 @@ use Prim.Native.Nat.{ℕ}
 use mathlib.Core.Path.{◌≡◌, refl}
 use mathlib.Core.Bool.{Bool, true, false}
 use mathlib.Core.List.{[]}
-use mathlib.Core.Option.{Option, none, some}
+use Rattle.std.specs.Prelude.{Option, Some, None}
 use native.Mathlib.Decide.{ℕ_discrete}
 use lib.ListN.{length}
 use Rattle.plane.specs.declared.Point.{Point}
@@ -21,7 +21,7 @@ pub record Steps (C : ℕ) (At : Point → Type 0) (Before After : Track → Typ
   pub stays : (t : Track) → Before t → After t
   pub empties : (t : Track) → After t → After (with_window [] t)
   pub waits : (p : Point) (t : Track) → At p → After t → After (wait p t).track
-  pub waited : (t : Track) (p : Point) → Before t → last t.window ≡ some p → At p
+  pub waited : (t : Track) (p : Point) → Before t → last t.window ≡ Some p → At p
 
 module _ {C : ℕ} {At : Point → Type 0} {Before After : Track → Type 0} (steps : Steps C At Before After) where
   pub keeps : (p : Point) (t : Track) → At p → Before t → After (keep C p t).track
@@ -35,8 +35,8 @@ module _ {C : ℕ} {At : Point → Type 0} {Before After : Track → Type 0} (st
   flushes t b = by (last t.window) refl
     where
       by : (o : Option Point) → last t.window ≡ o → After (flush C t).track
-      by none e = rw (flush-none C t e) (steps.stays t b)
-      by (some p) e = rw (flush-some C p t e) (steps.empties _ (keeps p t (steps.waited t p b e) b))
+      by None e = rw (flush-none C t e) (steps.stays t b)
+      by (Some p) e = rw (flush-some C p t e) (steps.empties _ (keeps p t (steps.waited t p b e) b))
 
   simplifies : (anchor p : Point) (t : Track) → At p → Before t → After (simplify C anchor p t).track
   simplifies anchor p t a b = by (bends C p t anchor) refl
@@ -48,10 +48,10 @@ module _ {C : ℕ} {At : Point → Type 0} {Before After : Track → Type 0} (st
   pub adds : (p : Point) (t : Track) → At p → Before t → After (add C p t).track
   adds p t a b = by (last t.crumbs) refl
     where
-      far : (c : Crumb) → last t.crumbs ≡ some c → (k : Bool) → near C p t c ≡ k → After (add C p t).track
+      far : (c : Crumb) → last t.crumbs ≡ Some c → (k : Bool) → near C p t c ≡ k → After (add C p t).track
       far c e true f = rw (add-near C p t c e f) (steps.stays t b)
       far c e false f = rw (add-far C p t c e f) (simplifies (point c) p t a b)
 
       by : (o : Option Crumb) → last t.crumbs ≡ o → After (add C p t).track
-      by none e = rw (add-first C p t e) (keeps p t a b)
-      by (some c) e = far c e (near C p t c) refl
+      by None e = rw (add-first C p t e) (keeps p t a b)
+      by (Some c) e = far c e (near C p t c) refl

@@ -6,7 +6,7 @@ ghost use Rattle.lap.specs.Pass.{step_of};
 ghost use Rattle.lap.specs.Lap.{moving_at, lap_start, step_pass};
 ghost use Rattle.lap.specs.Inner.{lap_step_of};
 
-use plane::{Heading, Point, Spot};
+use plane::Point;
 
 // Another pass counts only after being this far from the start.
 const PASS_ARM_M: f32 = 100.0;
@@ -103,7 +103,7 @@ impl StartPass {
 #[derive(Clone, Copy)]
 pub struct Lap {
     pub pass: StartPass,
-    pub start: Spot,
+    pub start: Option<Point>,
     // Whether the rider rode past the start.
     pub passed: bool,
 }
@@ -125,31 +125,27 @@ impl Lap {
     }
 }
 
-fn moving(heading: Heading) -> bool
+fn moving(heading: Option<u16>) -> bool
     ensures { result ≡ moving_at heading }
 {
-    if let Heading::Known(_) = heading {
-        true
-    } else {
-        false
-    }
+    if let Some(_) = heading { true } else { false }
 }
 
 // The start for laps is where the rider first moves.
-fn lap_start(start: Spot, p: Point, moving: bool) -> Spot
+fn lap_start(start: Option<Point>, p: Point, moving: bool) -> Option<Point>
     ensures { result ≡ lap_start moving start p }
 {
-    if let Spot::At(from) = start {
-        return Spot::At(from);
+    if let Some(from) = start {
+        return Some(from);
     }
     if moving {
-        return Spot::At(p);
+        return Some(p);
     }
-    Spot::Nowhere
+    None
 }
 
 // The lap after a position, with a completed pass noted in it.
-pub fn step_pass(l: Lap, p: Point, heading: Heading) -> Lap
+pub fn step_pass(l: Lap, p: Point, heading: Option<u16>) -> Lap
     ensures { result ≡ step_pass l p heading }
 {
     let is_moving = moving(heading);
@@ -161,7 +157,7 @@ pub fn step_pass(l: Lap, p: Point, heading: Heading) -> Lap
         start,
         passed: l.passed,
     };
-    let Spot::At(from) = start else {
+    let Some(from) = start else {
         return lap;
     };
     let s = lap.step_by(plane::distance(p, from), is_moving);

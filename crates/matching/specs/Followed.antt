@@ -1,5 +1,5 @@
 -- The followed line, and the way on along it. Document 01, "Guide and event"; homing.rs, `nearest`, `update`.
-use Rattle.std.specs.Prelude.{◌-◌, Bool, true, false, ◌||◌, List, length, Float}
+use Rattle.std.specs.Prelude.{◌-◌, Bool, true, false, ◌||◌, List, length, Float, Option}
 use Rattle.std.specs.Float.Ieee.{lt}
 use Rattle.binary32.specs.Arithmetic.{◌⊕◌, ◌⊖◌}
 use Rattle.binary32.specs.Limits.{max_zero}
@@ -7,8 +7,6 @@ use Rattle.plane.specs.declared.Point.{Point}
 use Rattle.crumbs.specs.declared.Crumb.{Crumb}
 use Rattle.crumbs.specs.Crumb.{point}
 use Rattle.segments.specs.declared.costs.Nearest.{Nearest}
-use Rattle.segments.specs.declared.Best.{Best}
-use Rattle.segments.specs.declared.Best.TheVariants.{Nothing}
 use Rattle.search.specs.declared.Range.{Range}
 use Rattle.search.specs.declared.course_match.Progress.{Progress}
 use Rattle.search.specs.Search.{nearest_on_breadcrumb}
@@ -35,7 +33,7 @@ followed course s = followed_on s.follow.line course s.track.crumbs
 unfoldable pub progress : State → Progress
 progress s = record { along = s.course.along; reached = s.course.reached; fix = s.course.fix; heading = s.motion.heading }
 
-unfoldable pub nearest : Line → List Crumb → Point → Range → State → Best
+unfoldable pub nearest : Line → List Crumb → Point → Range → State → Option Nearest
 nearest line.Course course p ends s = nearest_on_course course p ends (progress s)
 nearest line.Nothing course p ends s = nearest_on_breadcrumb s.track.crumbs p ends
 nearest line.Breadcrumb course p ends s = nearest_on_breadcrumb s.track.crumbs p ends

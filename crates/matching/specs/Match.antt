@@ -1,14 +1,11 @@
 -- A match on the followed line. Document 01, "Guide and event"; homing.rs, `update`.
-use Rattle.std.specs.Prelude.{ℕ, ◌+◌, ◌-◌, min, max, Bool, true, false, ◌&&◌, not, cond, leb, Float}
+use Rattle.std.specs.Prelude.{ℕ, ◌+◌, ◌-◌, min, max, Bool, true, false, ◌&&◌, not, cond, leb, Float, Option, Some, None}
 use Rattle.std.specs.Float.{nan, inf, fin}
 use Rattle.std.specs.Float.Ieee.{lt, le}
 use Rattle.plane.specs.declared.Point.{Point}
-use Rattle.plane.specs.declared.Spot.TheVariants.{At}
 use Rattle.crumbs.specs.Crumb.{point}
 use Rattle.motion.specs.Heading.{elapsed}
 use Rattle.segments.specs.declared.costs.Nearest.{Nearest}
-use Rattle.segments.specs.declared.Best.{Best}
-use Rattle.segments.specs.declared.Best.TheVariants.{Nothing, Found}
 use Rattle.search.specs.declared.Range.{Range}
 use Rattle.state.specs.declared.Line.{Line}
 use Rattle.state.specs.declared.Line.TheVariants as line
@@ -46,9 +43,9 @@ unfoldable pub around_segment : ℕ → ℕ → Range
 around_segment segment len = record { from = max (segment - search_back) 1; to = min (segment + search_ahead) (len - 1) }
 
 -- a match elsewhere on the line, if it is nearer
-unfoldable pub nearer : Nearest → Best → Nearest
-nearer near Nothing = near
-nearer near (Found anywhere) = elim (lt anywhere.off near.off) [ true ↦ anywhere | false ↦ near ]
+unfoldable pub nearer : Nearest → Option Nearest → Nearest
+nearer near None = near
+nearer near (Some anywhere) = elim (lt anywhere.off near.off) [ true ↦ anywhere | false ↦ near ]
 
 -- "Off sets above 50 m and clears at 25 m or less."
 unfoldable pub off_now : Bool → Float → Bool
@@ -88,9 +85,9 @@ reminded_at event.CourseEnd now was = was
 unfoldable pub follow_matched : Nearest → Bool → Event → ℕ → Follow → Follow
 follow_matched near off e now f =
     let reminded = reminded_at e now f.reminded_ms in
-    record { line = f.line; segment = near.end; matched = At near.point; off = off; reminded_ms = reminded }
+    record { line = f.line; segment = near.end; matched = Some near.point; off = off; reminded_ms = reminded }
 
 unfoldable pub course_matched : Nearest → Point → Course → Course
 course_matched near p c =
     course_with c.line_len c.unplaced c.held c.join_fixes c.join_end near.along
-    (minimum c.reached near.along) (At p)
+    (minimum c.reached near.along) (Some p)

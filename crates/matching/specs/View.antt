@@ -1,11 +1,9 @@
 -- For the functions inside: what is followed, as a part of the state; in which of the lent buffers its line lies; the match of a fix.
-use Rattle.std.specs.Prelude.{ℕ, ◌≤◌, ◌≡◌, List, length, Float}
-use Rattle.plane.specs.declared.Heading.{Heading}
+use Rattle.std.specs.Prelude.{ℕ, ◌≤◌, ◌≡◌, List, length, Float, Option, Some, None}
+use Rattle.segments.specs.declared.costs.Nearest.{Nearest}
 use Rattle.plane.specs.declared.Point.{Point}
 use Rattle.crumbs.specs.declared.Crumb.{Crumb}
 use Rattle.crumbs.specs.Crumb.{capacity, crumbs}
-use Rattle.segments.specs.declared.Best.{Best}
-use Rattle.segments.specs.declared.Best.TheVariants.{Nothing, Found}
 use Rattle.state.specs.declared.Line.{Line}
 use Rattle.state.specs.declared.Line.TheVariants as line
 use Rattle.state.specs.declared.Follow.{Follow}
@@ -22,7 +20,7 @@ len_on line.Nothing course held = held
 len_on line.Breadcrumb course held = held
 
 -- what is followed, by the groups of the state and how many crumbs are held
-abbrev pub followed_by : Follow → Course → Heading → ℕ → Followed
+abbrev pub followed_by : Follow → Course → Option ℕ → ℕ → Followed
 followed_by f c heading held =
     record {
       on = f.line;
@@ -61,11 +59,11 @@ abbrev pub WhereFollowed : Followed → List Float → List Float → (List Crum
 WhereFollowed f b line fact = (course : List Crumb) (s : State) → IsFollowed f (line_in f b line) course s → fact course s
 
 -- the match of a fix: the nearest segment around the last match; off the line, on the whole of it
-unfoldable pub widened_from : Best → List Crumb → Point → State → Best
-widened_from Nothing course p s = Nothing
-widened_from (Found near) course p s = Found (widened course p near s)
+unfoldable pub widened_from : Option Nearest → List Crumb → Point → State → Option Nearest
+widened_from None course p s = None
+widened_from (Some near) course p s = Some (widened course p near s)
 
-unfoldable pub match_in : List Crumb → Point → State → Best
+unfoldable pub match_in : List Crumb → Point → State → Option Nearest
 match_in course p s =
     let ends = around_segment s.follow.segment (length (followed course s)) in
     widened_from (nearest s.follow.line course p ends s) course p s

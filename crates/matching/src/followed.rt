@@ -9,10 +9,10 @@ ghost use Rattle.matching.specs.Followed.{nearest, widened, way_on};
 ghost use Rattle.matching.specs.View.{len_on, followed_by, line_in, Lent, WhereFollowed, match_in};
 
 use crate::distances;
-use plane::{Heading, Point};
+use plane::Point;
 use search::course_match::Progress;
 use search::{Range, course_match, rows};
-use segments::Best;
+use segments::costs::Nearest;
 use segments::costs::Nearest;
 use state::{Course, Follow, Line, Mode};
 
@@ -48,7 +48,7 @@ fn followed_len(on: Line, placed: usize, held: usize) -> usize
 }
 
 // What is followed, by the groups of the state and how many crumbs are held.
-pub fn followed_by(f: Follow, c: Course, heading: Heading, held: usize) -> Followed
+pub fn followed_by(f: Follow, c: Course, heading: Option<u16>, held: usize) -> Followed
     ensures { result ≡ followed_by f c heading held }
 {
     let on = f.line;
@@ -69,7 +69,7 @@ pub fn followed_by(f: Follow, c: Course, heading: Heading, held: usize) -> Follo
 }
 
 // The followed line's nearest segment to p.
-fn nearest(f: Followed, crumbs: &[f32], line: &[f32], p: Point, ends: Range) -> Best
+fn nearest(f: Followed, crumbs: &[f32], line: &[f32], p: Point, ends: Range) -> Option<Nearest>
     requires lent { Lent f (length crumbs.now) (length line.now) }
     requires le_from { (1 ≤ ends.from) × (ends.to < f.len) }
     ensures { WhereFollowed f crumbs.now line.now
@@ -105,7 +105,7 @@ fn widened(f: Followed, crumbs: &[f32], line: &[f32], p: Point, near: Nearest) -
 }
 
 // The match of a fix at p: around the last one, or off the line on the whole of it.
-pub fn matched(f: Followed, crumbs: &[f32], line: &[f32], p: Point) -> Best
+pub fn matched(f: Followed, crumbs: &[f32], line: &[f32], p: Point) -> Option<Nearest>
     requires lent { Lent f (length crumbs.now) (length line.now) }
     requires le_len { (2 ≤ f.len) × (f.segment < f.len) }
     ensures { WhereFollowed f crumbs.now line.now (λ course s. result ≡ match_in course p s) }
@@ -115,10 +115,10 @@ pub fn matched(f: Followed, crumbs: &[f32], line: &[f32], p: Point) -> Best
         to: crate::search_to(f.segment, f.len),
     };
     let best = nearest(f, crumbs, line, p, ends);
-    let Best::Found(near) = best else {
-        return Best::Nothing;
+    let Some(near) = best else {
+        return None;
     };
-    Best::Found(widened(f, crumbs, line, p, near))
+    Some(widened(f, crumbs, line, p, near))
 }
 
 // The point ahead on the followed line.

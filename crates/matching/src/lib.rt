@@ -12,8 +12,8 @@ ghost use Rattle.matching.specs.Distances.{off_m};
 ghost use Rattle.matching.specs.Match.{on_course, on_line, search_back, search_ahead, nearer, off_now, minimum, off_event, due};
 ghost use Rattle.matching.specs.Match.{reminded_at, follow_matched, course_matched};
 
-use plane::{Point, Spot};
-use segments::Best;
+use plane::Point;
+use segments::costs::Nearest;
 use segments::costs::Nearest;
 use state::{Course, Event, Follow, Line};
 
@@ -132,7 +132,7 @@ pub fn follow_matched(near: Nearest, off: bool, e: Event, now_ms: u64, f: Follow
     Follow {
         line,
         segment: near.end,
-        matched: Spot::At(point),
+        matched: Some(point),
         off,
         reminded_ms,
     }
@@ -144,7 +144,7 @@ pub fn course_matched(near: Nearest, p: Point, c: Course) -> Course
     Course {
         along: near.along,
         reached: smaller(c.reached, near.along),
-        fix: Spot::At(p),
+        fix: Some(p),
         ..c
     }
 }
@@ -171,10 +171,10 @@ pub fn search_to(segment: usize, len: usize) -> usize
 }
 
 // A match elsewhere on the line, if it is nearer.
-pub fn nearer(near: Nearest, best: Best) -> Nearest
+pub fn nearer(near: Nearest, best: Option<Nearest>) -> Nearest
     ensures { result ≡ nearer near best }
 {
-    let Best::Found(anywhere) = best else {
+    let Some(anywhere) = best else {
         return near;
     };
     if anywhere.off < near.off {

@@ -4,7 +4,7 @@
 ghost use Rattle.std.specs.Prelude.{◌≡◌};
 ghost use Rattle.motion.specs.Heading.{elapsed, spot_or, renewed, aged, track_heading};
 
-use plane::{Heading, Point, Spot};
+use plane::Point;
 
 // The heading is the way from the fix this far back.
 const HEADING_STEP_M: f32 = 15.0;
@@ -15,8 +15,8 @@ const HEADING_STALE_MS: u64 = 15_000;
 // From where the heading is taken, the heading, and when it was last renewed.
 #[derive(Clone, Copy)]
 pub struct Motion {
-    pub from: Spot,
-    pub heading: Heading,
+    pub from: Option<Point>,
+    pub heading: Option<u16>,
     pub heading_ms: u64,
 }
 
@@ -31,10 +31,10 @@ pub fn elapsed(now_ms: u64, then_ms: u64) -> u64
     }
 }
 
-pub fn spot_or(s: Spot, p: Point) -> Point
+pub fn spot_or(s: Option<Point>, p: Point) -> Point
     ensures { result ≡ spot_or s p }
 {
-    let Spot::At(q) = s else {
+    let Some(q) = s else {
         return p;
     };
     q
@@ -44,8 +44,8 @@ fn renewed(from: Point, p: Point, now_ms: u64) -> Motion
     ensures { result ≡ renewed from p now_ms }
 {
     Motion {
-        from: Spot::At(p),
-        heading: Heading::Known(plane::bearing(from, p)),
+        from: Some(p),
+        heading: Some(plane::bearing(from, p)),
         heading_ms: now_ms,
     }
 }
@@ -55,14 +55,14 @@ fn aged(m: Motion, from: Point, now_ms: u64) -> Motion
 {
     if elapsed(now_ms, m.heading_ms) > HEADING_STALE_MS {
         return Motion {
-            from: Spot::At(from),
-            heading: Heading::Unknown,
+            from: Some(from),
+            heading: None,
             heading_ms: m.heading_ms,
         };
     }
     let heading = m.heading;
     Motion {
-        from: Spot::At(from),
+        from: Some(from),
         heading,
         heading_ms: m.heading_ms,
     }

@@ -13,7 +13,7 @@ ghost use Rattle.plane.specs.Plane.{distance, project, off_segment, bearing, met
 ghost use Rattle.plane.specs.Fix.{east_per_e7, frame};
 ghost use Rattle.numbers_door.specs.Points.{point_of};
 
-use plane::Point;
+use plane::{Fix, Point};
 
 #[unsafe(no_mangle)]
 pub extern "C" fn cittumay_sqrtf(x: f32) -> f32
@@ -183,9 +183,14 @@ pub extern "C" fn cittumay_frame(
     east: &mut f32,
     north: &mut f32,
 )
-    ensures { point_of east.new north.new ≡ frame lat0 lon0 east_per_e7 lat lon }
+    ensures { point_of east.new north.new
+        ≡ frame (record { lat = lat0; lon = lon0 }) east_per_e7 (record { lat = lat; lon = lon }) }
 {
-    let place = plane::frame(lat0, lon0, east_per_e7, lat, lon);
+    let origin = Fix {
+        lat: lat0,
+        lon: lon0,
+    };
+    let place = plane::frame(origin, east_per_e7, Fix { lat, lon });
     *east = place.east;
     *north = place.north;
 }

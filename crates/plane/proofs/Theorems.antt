@@ -9,6 +9,7 @@ use Rattle.binary32.proofs.magnitude.More.{div-within}
 use Rattle.binary32.proofs.magnitude.Tests.{within→le}
 use Rattle.trig.specs.Fix.{pi, cos}
 use Rattle.trig.proofs.Magnitude.{part, cos-within}
+use Rattle.plane.specs.declared.Fix.{Fix}
 use Rattle.plane.specs.declared.Point.{Point}
 use Rattle.plane.specs.Plane.{turn, bearing}
 use Rattle.plane.specs.Fix.{m_per_e7, east_per_e7, wrapped, frame}
@@ -53,16 +54,16 @@ east-factor-ok lat h =
     (widen (frac 5) (fin false 5368709 (negsuc 27)) (size_of k) tt (within-trans (frac 5) k (size_of k) w s.0))).0
 
 -- the place of a fix on the globe, seen from an origin on the globe
-pub frame-place : (lat0 lon0 lat lon : ℤ) (factor : Float) → OnGlobe lat0 lon0 → OnGlobe lat lon → Within (frac 5) factor
-    → Place (frame lat0 lon0 factor lat lon)
+pub frame-place : (origin x : Fix) (factor : Float) → OnGlobe origin.lat origin.lon → OnGlobe x.lat x.lon → Within (frac 5) factor
+    → Place (frame origin factor x)
 unfolding frame m_per_e7 constant
-frame-place lat0 lon0 lat lon factor O G w =
+frame-place origin x factor O G w =
     record {
-      east = factor-coordinate (wrapped (lon -ℤ lon0)) factor
-          (wrapped-half (lon -ℤ lon0) (minus-within lon lon0 1800000000 G.longitude O.longitude)) w;
-      north = factor-coordinate (lat -ℤ lat0) m_per_e7 (minus-within lat lat0 900000000 G.latitude O.latitude) (lit≤ tt);
+      east = factor-coordinate (wrapped (x.lon -ℤ origin.lon)) factor
+          (wrapped-half (x.lon -ℤ origin.lon) (minus-within x.lon origin.lon 1800000000 G.longitude O.longitude)) w;
+      north = factor-coordinate (x.lat -ℤ origin.lat) m_per_e7 (minus-within x.lat origin.lat 900000000 G.latitude O.latitude) (lit≤ tt);
     }
 
 -- within ±2^25 for every fix, the factor being that of the origin
-pub framed : (lat0 lon0 lat lon : ℤ) → OnGlobe lat0 lon0 → OnGlobe lat lon → Place (frame lat0 lon0 (east_per_e7 lat0) lat lon)
-framed lat0 lon0 lat lon O G = frame-place lat0 lon0 lat lon (east_per_e7 lat0) O G (east-factor lat0 O.latitude)
+pub framed : (origin x : Fix) → OnGlobe origin.lat origin.lon → OnGlobe x.lat x.lon → Place (frame origin (east_per_e7 origin.lat) x)
+framed origin x O G = frame-place origin x (east_per_e7 origin.lat) O G (east-factor origin.lat O.latitude)

@@ -4,6 +4,7 @@ use Rattle.std.specs.Float.{binary32}
 use Rattle.std.specs.Float.Ieee.{of_int}
 use Rattle.binary32.specs.Arithmetic.{◌⊗◌, ◌⊘◌, constant}
 use Rattle.trig.specs.Fix.{pi, cos}
+use Rattle.plane.specs.declared.Fix.{Fix}
 use Rattle.plane.specs.declared.Point.{Point}
 
 -- metres per 1e-7 degree of latitude: 0.011119508
@@ -20,7 +21,7 @@ wrapped d =
     cond (int_lt (pos 1800000000) d) (d -ℤ pos 3600000000)
     (cond (int_lt d (negsuc 1799999999)) (d +ℤ pos 3600000000) d)
 
--- the place of a fix, seen from the origin at lat0 and lon0: each difference rounded once, then times its factor
-unfoldable pub frame : ℤ → ℤ → Float → ℤ → ℤ → Point
-frame lat0 lon0 factor lat lon =
-    record { east = of_int binary32 (wrapped (lon -ℤ lon0)) ⊗ factor; north = of_int binary32 (lat -ℤ lat0) ⊗ m_per_e7 }
+-- the place of the fix x, seen from the origin: each difference rounded once, then times its factor
+unfoldable pub frame : Fix → Float → Fix → Point
+frame origin factor x =
+    record { east = of_int binary32 (wrapped (x.lon -ℤ origin.lon)) ⊗ factor; north = of_int binary32 (x.lat -ℤ origin.lat) ⊗ m_per_e7 }

@@ -22,18 +22,11 @@ pub struct Point {
     pub north: f32,
 }
 
-// A place that may be missing.
-#[derive(Clone, Copy)]
-pub enum Spot {
-    At(Point),
-    Nowhere,
-}
-
-// A heading that may be unknown, in 4096ths of a turn.
-#[derive(Clone, Copy)]
-pub enum Heading {
-    Known(u16),
-    Unknown,
+// A place on the globe: latitude and longitude in 1e-7 degree.
+#[derive(Clone, Copy, PartialEq, Eq)]
+pub struct Fix {
+    pub lat: i32,
+    pub lon: i32,
 }
 
 // A point of a segment, and how far along the segment it is, 0 to 1.
@@ -133,12 +126,12 @@ fn wrapped(d: i64) -> i64
     d
 }
 
-// Metres east and north of the origin, which stands at lat0 and lon0.
-pub fn frame(lat0: i32, lon0: i32, east_per_e7: f32, lat: i32, lon: i32) -> Point
-    ensures { result ≡ frame lat0 lon0 east_per_e7 lat lon }
+// Metres east and north of the origin.
+pub fn frame(origin: Fix, east_per_e7: f32, fix: Fix) -> Point
+    ensures { result ≡ frame origin east_per_e7 fix }
 {
     Point {
-        east: binary32::as_f32(wrapped(difference(lon, lon0))) * east_per_e7,
-        north: binary32::as_f32(difference(lat, lat0)) * M_PER_E7,
+        east: binary32::as_f32(wrapped(difference(fix.lon, origin.lon))) * east_per_e7,
+        north: binary32::as_f32(difference(fix.lat, origin.lat)) * M_PER_E7,
     }
 }

@@ -11,8 +11,8 @@ use lib.IntN.{nat_abs}
 use lib.ListN.{length}
 use lib.Ieee.{Float, le}
 use Rattle.binary32.specs.Limits.{plus_zero}
-use Rattle.plane.specs.declared.Heading.{Heading}
-use Rattle.plane.specs.declared.Heading.TheVariants.{Known}
+use Rattle.std.specs.Prelude.{Option, Some, ℕ}
+use Rattle.plane.specs.declared.Fix.{Fix}
 use Rattle.plane.specs.Plane.{turn}
 use Rattle.crumbs.specs.Crumb.{whole, capacity, crumbs}
 use Rattle.trail.specs.Trail.{retrace_fixes, window_places}
@@ -21,12 +21,9 @@ use Rattle.trail.specs.View.{places, track}
 use Rattle.state.specs.declared.Line.{Line}
 use Rattle.state.specs.declared.Line.TheVariants as line
 use Rattle.state.specs.declared.Guide.{Guide}
-use Rattle.state.specs.declared.Shown.{Shown}
-use Rattle.state.specs.declared.Shown.TheVariants as shown
 use Rattle.state.specs.declared.Homing.{Homing}
 use Rattle.state.specs.State.{state_of}
 use Rattle.follow.specs.View as follow
-use Rattle.course.specs.Fix.{Fix}
 use Rattle.course.specs.Course.{points}
 use Rattle.calls.specs.Questions.{question1, question4, places_fit, spots_fit, along_fits, factor_fits, heading_fits, guide_fits}
 use Rattle.calls.specs.Questions.{shown_fits}
@@ -49,7 +46,7 @@ neither (suc a) b e = absurd (omega (arith, rw (eqb-suc-zero a) at e))
 -- ---- a guide
 pub record Pointed (g : Guide) : Type 0 where
   pub bearing : g.bearing < turn
-  pub heading : (d : ℕ) → g.heading ≡ Known d → d < turn
+  pub heading : (d : ℕ) → g.heading ≡ Some d → d < turn
 
 -- ---- the state alone
 pub record Counted (h : Homing) : Type 0 where
@@ -59,8 +56,8 @@ pub record Counted (h : Homing) : Type 0 where
   pub retrace : h.trail.retrace < retrace_fixes
   pub retrace_len : h.trail.retrace ≢ 0 → h.trail.retrace_len ≤ h.trail.len
   pub tolerance : le plus_zero h.trail.tolerance ≡ true
-  pub heading : (d : ℕ) → h.motion.heading ≡ Known d → d < turn
-  pub guide : (g : Guide) → h.guide ≡ shown.Guide g → Pointed g
+  pub heading : (d : ℕ) → h.motion.heading ≡ Some d → d < turn
+  pub guide : (g : Guide) → h.guide ≡ Some g → Pointed g
 
 segment-given : (segment len : ℕ) → segment_fits segment len ≡ true → (1 ≤ segment) × (segment < len)
 unfolding segment_fits
@@ -81,7 +78,7 @@ course-given on segment len line_len e told = segment-given segment line_len (rw
 retrace-given : (retrace retrace_len len : ℕ) → (eqb retrace 0 || leb retrace_len len) ≡ true → retrace ≢ 0 → retrace_len ≤ len
 retrace-given retrace retrace_len len e ne = leb-true retrace_len len (rw (ne_eqb retrace 0 ne) at e)
 
-heading-given : (x : Heading) → heading_fits x ≡ true → (d : ℕ) → x ≡ Known d → d < turn
+heading-given : (x : Option ℕ) → heading_fits x ≡ true → (d : ℕ) → x ≡ Some d → d < turn
 unfolding heading_fits
 heading-given x e d known = ltb-true d turn (rw known at e)
 
@@ -91,7 +88,7 @@ guide-fits g e =
     let both = (and-eq-true_iff (ltb g.bearing turn) (heading_fits g.heading)).0 e in
     record { bearing = ltb-true g.bearing turn both.0; heading = heading-given g.heading both.1 }
 
-shown-given : (x : Shown) → shown_fits x ≡ true → (g : Guide) → x ≡ shown.Guide g → Pointed g
+shown-given : (x : Option Guide) → shown_fits x ≡ true → (g : Guide) → x ≡ Some g → Pointed g
 unfolding shown_fits
 shown-given x e g told = guide-fits g (rw told at e)
 

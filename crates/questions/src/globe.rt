@@ -20,11 +20,11 @@ fn longitude_fits(lon: i32) -> bool
     (-LONGITUDE_MOST <= lon) & (lon <= LONGITUDE_MOST)
 }
 
-pub fn asks_fix(lat: i32, lon: i32) -> u8
-    ensures { result ≡ asks_fix (record { lat = lat; lon = lon }) }
+pub fn asks_fix(fix: Fix) -> u8
+    ensures { result ≡ asks_fix fix }
 {
-    let latitude = latitude_fits(lat);
-    let longitude = longitude_fits(lon);
+    let latitude = latitude_fits(fix.lat);
+    let longitude = longitude_fits(fix.lon);
     if !latitude {
         return 2;
     }
@@ -40,7 +40,11 @@ pub fn asks_fixes(lats: &[i32], lons: &[i32]) -> u8
 {
     let mut i = 0;
     while i < lats.len() && i < lons.len() {
-        let asked = asks_fix(lats[i], lons[i]);
+        let fix = Fix {
+            lat: lats[i],
+            lon: lons[i],
+        };
+        let asked = asks_fix(fix);
         if asked != 0 {
             return asked;
         }

@@ -13,7 +13,7 @@ ghost use Rattle.questions.specs.Counted.{counted};
 
 use lap::Lap;
 use motion::Motion;
-use plane::Spot;
+use plane::Point;
 use state::{Course, Follow, Homing};
 use trail::Trail;
 
@@ -28,7 +28,7 @@ fn counts_fit(t: Trail, f: Follow, line_len: usize) -> bool
         & counts::retrace_fits(t)
 }
 
-fn spots_fit(here: Spot, m: Motion, f: Follow, c: Course, l: Lap) -> bool
+fn spots_fit(here: Option<Point>, m: Motion, f: Follow, c: Course, l: Lap) -> bool
     ensures { result ≡ (spot_fits here && spot_fits m.from && spot_fits f.matched && spot_fits c.fix && spot_fits l.start) }
 {
     let from = m.from;

@@ -9,8 +9,8 @@ ghost use Rattle.calls.specs.Questions.{asks_guide};
 ghost use Rattle.questions.specs.Sure.{least_sure, most_sure};
 
 use crumbs::Crumb;
-use plane::{Heading, Point, Spot};
-use state::{Guide, Shown};
+use plane::Point;
+use state::Guide;
 
 // A place is at most this far from the origin, east or west, north or south.
 const PLACE_MOST_M: f32 = 100000000.0;
@@ -51,12 +51,12 @@ pub fn tolerance_fits(x: f32) -> bool
     0.0 <= x
 }
 
-pub fn heading_fits(heading: Heading) -> bool
+pub fn heading_fits(heading: Option<u16>) -> bool
     ensures { result ≡ heading_fits heading }
 {
     match heading {
-        Heading::Known(known) => known < plane::TURN,
-        Heading::Unknown => true,
+        Some(known) => known < plane::TURN,
+        None => true,
     }
 }
 
@@ -68,12 +68,12 @@ pub fn place_fits(p: Point) -> bool
     sized(p.east) & sized(p.north)
 }
 
-pub fn spot_fits(spot: Spot) -> bool
+pub fn spot_fits(spot: Option<Point>) -> bool
     ensures { result ≡ spot_fits spot }
 {
     match spot {
-        Spot::At(p) => place_fits(p),
-        Spot::Nowhere => true,
+        Some(p) => place_fits(p),
+        None => true,
     }
 }
 
@@ -114,12 +114,12 @@ fn guide_fits(g: Guide) -> bool
     (g.bearing < plane::TURN) & heading_fits(heading)
 }
 
-pub fn shown_fits(shown: Shown) -> bool
+pub fn shown_fits(shown: Option<Guide>) -> bool
     ensures { result ≡ shown_fits shown }
 {
     match shown {
-        Shown::Guide(g) => guide_fits(g),
-        Shown::Nothing => true,
+        Some(g) => guide_fits(g),
+        None => true,
     }
 }
 

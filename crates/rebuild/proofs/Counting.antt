@@ -4,14 +4,12 @@ use mathlib.Core.Path.{◌≡◌, refl}
 use Prim.Native.Nat.{ℕ, zero, suc}
 use mathlib.Core.Bool.{Bool, true, false, cond}
 use mathlib.Core.List.{List, [], ◌∷◌, ◌++◌}
-use mathlib.Core.Option.{Option, none, some}
 use lib.Dec.{leb}
 use Rattle.crumbs.specs.declared.Crumb.{Crumb}
 use Rattle.crumbs.specs.Crumb.{capacity}
-use Rattle.state.specs.declared.Place.{Place}
-use Rattle.state.specs.declared.Place.TheVariants as place
+use Rattle.std.specs.Prelude.{Option, Some, None, ℕ}
+use Rattle.plane.specs.declared.Fix.{Fix}
 use Rattle.state.specs.State.{State}
-use Rattle.course.specs.Fix.{Fix}
 use Rattle.calls.specs.Questions.{question1}
 use Rattle.calls.specs.Calls.{Call, point_of, Reset, Replay, after_call}
 use Rattle.taken.specs.Taken.{FixOnGlobe, FixesOnGlobe, Own, called}
@@ -20,7 +18,6 @@ use Rattle.taken.proofs.Taken.{taken}
 use Rattle.journal.specs.Journal.{run}
 use Rattle.ride_log.specs.declared.Kind.{Kind}
 use Rattle.ride_log.specs.declared.Kind.TheVariants as kind
-use Rattle.ride_log.specs.declared.Utc.{Utc}
 use Rattle.ride_log.specs.declared.Sample.{Sample}
 use Rattle.ride_log.specs.declared.Entry.{Entry}
 use Rattle.rebuild.specs.declared.Stage.{Stage}
@@ -64,10 +61,10 @@ SamplesOnGlobe [] = Unit {0}
 SamplesOnGlobe (x ∷ xs) = FixesOnGlobe (point_of x.place) × SamplesOnGlobe xs
 
 abbrev pub SlotOnGlobe : Option Entry → Type 0
-SlotOnGlobe none = Unit {0}
-SlotOnGlobe (some e) = SamplesOnGlobe (used e)
+SlotOnGlobe None = Unit {0}
+SlotOnGlobe (Some e) = SamplesOnGlobe (used e)
 
-decide-makes : (last first : Utc) (r : Rebuild) → Rebuilding (decide last first r).calls
+decide-makes : (last first : Option ℕ) (r : Rebuild) → Rebuilding (decide last first r).calls
 unfolding decide
 decide-makes last first r = by (carries_on last first)
   where
@@ -75,13 +72,13 @@ decide-makes last first r = by (carries_on last first)
     by true = nothing
     by false = reset nothing
 
-meets-makes : (was : Stage) (later : Bool) (t : Utc) (r : Rebuild) → Rebuilding (before_replay was later t r).calls
+meets-makes : (was : Stage) (later : Bool) (t : Option ℕ) (r : Rebuild) → Rebuilding (before_replay was later t r).calls
 unfolding before_replay
 meets-makes (stage.Pending last) true t r = decide-makes last t r
 meets-makes (stage.Pending last) false t r = nothing
 meets-makes stage.Decided later t r = nothing
 
-fix-makes : (x : Fix) (later : Bool) (t : Utc) (r : Rebuild) → FixOnGlobe x → Rebuilding (visit_fix x later t r).calls
+fix-makes : (x : Fix) (later : Bool) (t : Option ℕ) (r : Rebuild) → FixOnGlobe x → Rebuilding (visit_fix x later t r).calls
 unfolding visit_fix replays
 fix-makes x later t r on = by (skips r.stage later)
   where
@@ -89,10 +86,10 @@ fix-makes x later t r on = by (skips r.stage later)
     by true = nothing
     by false = both (meets-makes r.stage later t r) (replay x _ on nothing)
 
-place-makes : (p : Place) (later : Bool) (t : Utc) (r : Rebuild) → FixesOnGlobe (point_of p) → Rebuilding (visit_place p later t r).calls
+place-makes : (p : Option Fix) (later : Bool) (t : Option ℕ) (r : Rebuild) → FixesOnGlobe (point_of p) → Rebuilding (visit_place p later t r).calls
 unfolding visit_place
-place-makes (place.At lat lon) later t r on = fix-makes (record { lat = lat; lon = lon }) later t r on.0
-place-makes place.Missing later t r on = nothing
+place-makes (Some x) later t r on = fix-makes x later t r on.0
+place-makes None later t r on = nothing
 
 samples-make : (later : Bool) (xs : List Sample) (r : Rebuild) → SamplesOnGlobe xs → Rebuilding (visit_samples later xs r).calls
 unfolding visit_samples visit_sample
@@ -115,8 +112,8 @@ visit-makes e r on = kind-makes e.kind e r on
 
 look-makes : (slot : Option Entry) (r : Rebuild) → SlotOnGlobe slot → Rebuilding (look slot r).calls
 unfolding look
-look-makes none r on = nothing
-look-makes (some e) r on = by (leb r.recovered e.ride)
+look-makes None r on = nothing
+look-makes (Some e) r on = by (leb r.recovered e.ride)
   where
     by : (b : Bool) → Rebuilding (one_of b (visit e r) (quiet r)).calls
     by true = visit-makes e r on
@@ -135,12 +132,12 @@ walk-makes (suc budget) upper slots r on =
     by true rest = nothing
     by false rest = both (look-makes (slots r.walk.slot) r (on r.walk.slot)) rest
 
-settle-from-makes : (was : Stage) (t : Utc) (r : Rebuild) → Rebuilding (settle_from was t r).calls
+settle-from-makes : (was : Stage) (t : Option ℕ) (r : Rebuild) → Rebuilding (settle_from was t r).calls
 unfolding settle_from
 settle-from-makes (stage.Pending last) t r = decide-makes last t r
 settle-from-makes stage.Decided t r = nothing
 
-pub settle-makes : (t : Utc) (r : Rebuild) → Rebuilding (settle t r).calls
+pub settle-makes : (t : Option ℕ) (r : Rebuild) → Rebuilding (settle t r).calls
 unfolding settle
 settle-makes t r = settle-from-makes r.stage t r
 
@@ -151,5 +148,5 @@ module _ (size : ℕ) (room : question1 size ≡ true) {s : State} {l : List Cru
   walk-counts budget upper slots r on =
       journal-same size (walk budget upper slots r).calls s (none-refused size room own (walk-makes budget upper slots r on))
 
-  pub settle-counts : (t : Utc) (r : Rebuild) → run size (settle t r).calls s ≡ perform (capacity size) (settle t r).calls s
+  pub settle-counts : (t : Option ℕ) (r : Rebuild) → run size (settle t r).calls s ≡ perform (capacity size) (settle t r).calls s
   settle-counts t r = journal-same size (settle t r).calls s (none-refused size room own (settle-makes t r))

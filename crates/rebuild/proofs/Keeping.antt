@@ -2,14 +2,11 @@
 use mathlib.Core.Path.{◌≡◌, refl, ◌∙◌}
 use mathlib.Core.Bool.{Bool, true, false}
 use mathlib.Core.List.{List, [], ◌∷◌}
-use mathlib.Core.Option.{Option, none, some}
 use lib.Dec.{leb}
-use Rattle.state.specs.declared.Place.{Place}
-use Rattle.state.specs.declared.Place.TheVariants as place
-use Rattle.course.specs.Fix.{Fix}
+use Rattle.std.specs.Prelude.{Option, Some, None, ℕ}
+use Rattle.plane.specs.declared.Fix.{Fix}
 use Rattle.ride_log.specs.declared.Kind.{Kind}
 use Rattle.ride_log.specs.declared.Kind.TheVariants as kind
-use Rattle.ride_log.specs.declared.Utc.{Utc}
 use Rattle.ride_log.specs.declared.Sample.{Sample}
 use Rattle.ride_log.specs.declared.Entry.{Entry}
 use Rattle.rebuild.specs.declared.Stage.{Stage}
@@ -38,13 +35,13 @@ ticked-keeps : (r : Rebuild) → Keeps r (ticked r)
 unfolding ticked
 ticked-keeps r = record { walk = refl; recovered = refl }
 
-meets-keeps : (was : Stage) (later : Bool) (t : Utc) (r : Rebuild) → Keeps r (before_replay was later t r).rebuild
+meets-keeps : (was : Stage) (later : Bool) (t : Option ℕ) (r : Rebuild) → Keeps r (before_replay was later t r).rebuild
 unfolding before_replay decide
 meets-keeps (stage.Pending last) true t r = record { walk = refl; recovered = refl }
 meets-keeps (stage.Pending last) false t r = record { walk = refl; recovered = refl }
 meets-keeps stage.Decided later t r = kept r
 
-fix-keeps : (x : Fix) (later : Bool) (t : Utc) (r : Rebuild) → Keeps r (visit_fix x later t r).rebuild
+fix-keeps : (x : Fix) (later : Bool) (t : Option ℕ) (r : Rebuild) → Keeps r (visit_fix x later t r).rebuild
 unfolding visit_fix replays
 fix-keeps x later t r = by (skips r.stage later)
   where
@@ -52,10 +49,10 @@ fix-keeps x later t r = by (skips r.stage later)
     by true = kept r
     by false = meets-keeps r.stage later t r
 
-place-keeps : (p : Place) (later : Bool) (t : Utc) (r : Rebuild) → Keeps r (visit_place p later t r).rebuild
+place-keeps : (p : Option Fix) (later : Bool) (t : Option ℕ) (r : Rebuild) → Keeps r (visit_place p later t r).rebuild
 unfolding visit_place
-place-keeps (place.At lat lon) later t r = fix-keeps (record { lat = lat; lon = lon }) later t r
-place-keeps place.Missing later t r = kept r
+place-keeps (Some x) later t r = fix-keeps x later t r
+place-keeps None later t r = kept r
 
 sample-keeps : (later : Bool) (x : Sample) (r : Rebuild) → Keeps r (visit_sample later x r).rebuild
 unfolding visit_sample
@@ -82,8 +79,8 @@ visit-keeps e r = kind-keeps e.kind e r
 
 pub look-keeps : (slot : Option Entry) (r : Rebuild) → Keeps r (look slot r).rebuild
 unfolding look
-look-keeps none r = kept r
-look-keeps (some e) r = by (leb r.recovered e.ride)
+look-keeps None r = kept r
+look-keeps (Some e) r = by (leb r.recovered e.ride)
   where
     by : (b : Bool) → Keeps r (one_of b (visit e r) (quiet r)).rebuild
     by true = visit-keeps e r

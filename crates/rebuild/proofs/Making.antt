@@ -13,11 +13,11 @@ use Rattle.state.specs.declared.Homing.{Homing}
 use Rattle.state.specs.State.{State, state_of}
 use Rattle.state.specs.Rule.{Done}
 use Rattle.follow.specs.View.{Follows}
-use Rattle.course.specs.Fix.{Fix}
+use Rattle.std.specs.Prelude.{Option, ℕ}
+use Rattle.plane.specs.declared.Fix.{Fix}
 use Rattle.calls.specs.Fix.{replay}
 use Rattle.calls.specs.Calls.{Call, Reset, Replay, performs}
 use Rattle.steer.specs.View.{Resets}
-use Rattle.ride_log.specs.declared.Utc.{Utc}
 use Rattle.rebuild.specs.declared.Stage.{Stage}
 use Rattle.rebuild.specs.declared.Stage.TheVariants as stage
 use Rattle.rebuild.specs.declared.Rebuild.{Rebuild}
@@ -50,7 +50,7 @@ turned_round : (t : Bool) → cond t [] (Reset ∷ []) ≡ reset_if (not t)
 turned_round true = refl
 turned_round false = refl
 
-decides-so : (s : Stage) (later : Bool) (t : Utc) (r : Rebuild) → r.stage ≡ s
+decides-so : (s : Stage) (later : Bool) (t : Option ℕ) (r : Rebuild) → r.stage ≡ s
     → before_replay s later t r ≡ making (reset_if (starts_anew s later t)) (with_stage (stage_behind s later t) r)
 unfolding before_replay decide starts_anew stage_behind
 decides-so (stage.Pending last) true t r e =
@@ -58,13 +58,13 @@ decides-so (stage.Pending last) true t r e =
 decides-so (stage.Pending last) false t r e = refl
 decides-so stage.Decided later t r e = ap (λ (s : Stage). quiet (with_stage s r)) e
 
-pub decides : (later : Bool) (t : Utc) (r : Rebuild) {behind : Stage} → behind ≡ stage_behind r.stage later t
+pub decides : (later : Bool) (t : Option ℕ) (r : Rebuild) {behind : Stage} → behind ≡ stage_behind r.stage later t
     → before_replay r.stage later t r ≡ making (reset_if (starts_anew r.stage later t)) (with_stage behind r)
 decides later t r e =
     decides-so r.stage later t r refl ∙ ap (λ (s : Stage). making (reset_if (starts_anew r.stage later t)) (with_stage s r)) (sym e)
 
 -- a live fix decides as the later ride's first does
-pub decides-live : (s : Stage) (t : Utc) (r : Rebuild) → r.stage ≡ s
+pub decides-live : (s : Stage) (t : Option ℕ) (r : Rebuild) → r.stage ≡ s
     → settle_from s t r ≡ making (reset_if (starts_anew s true t)) (with_stage stage.Decided r)
 unfolding settle_from decide starts_anew
 decides-live (stage.Pending last) t r e = ap (λ (l : List Call). making l (with_stage stage.Decided r)) (turned_round (carries_on last t))

@@ -7,11 +7,10 @@ use mathlib.Core.List.{[], ◌∷◌}
 use lib.Dec.{leb}
 use lib.IntN.{pos}
 use borrow.Author.Tests.{lt-leb, le-leb}
-use Rattle.state.specs.declared.Place.TheVariants as place
-use Rattle.course.specs.Fix.{Fix}
+use Rattle.std.specs.Prelude.{Some, None}
+use Rattle.plane.specs.declared.Fix.{Fix}
 use Rattle.calls.specs.Calls.{Reset, Replay}
 use Rattle.ride_log.specs.declared.Kind.TheVariants as kind
-use Rattle.ride_log.specs.declared.Utc.TheVariants as utc
 use Rattle.ride_log.specs.declared.Sample.{Sample}
 use Rattle.ride_log.specs.declared.Entry.{Entry}
 use Rattle.rebuild.specs.declared.Stage.TheVariants as stage
@@ -22,7 +21,7 @@ use Rattle.rebuild.specs.Rebuild.{visit_fix, visit_place, visit_sample, visit_sa
 
 -- ---- "UTC 1,800,000 ms apart carries on; 1,800,001 resets", whichever of the two is the later
 called : (r : Rebuild) (last first : ℕ) (b : Bool) → leb (apart last first) continue_ms ≡ b
-    → (decide (utc.At last) (utc.At first) r).calls ≡ cond b [] (Reset ∷ [])
+    → (decide (Some last) (Some first) r).calls ≡ cond b [] (Reset ∷ [])
 unfolding decide carries_on
 called r last first b e = ap (λ (t : Bool). cond t [] (Reset ∷ [])) e
 
@@ -39,21 +38,21 @@ far-back : (t : ℕ) → continue_ms < apart (t + 1800001) t
 far-back t = omega arith
 
 module _ (t : ℕ) (r : Rebuild) where
-  pub carries-on : (decide (utc.At t) (utc.At (t + 1800000)) r).calls ≡ []
+  pub carries-on : (decide (Some t) (Some (t + 1800000)) r).calls ≡ []
   carries-on = called r t (t + 1800000) true (le-leb _ _ (close t))
 
-  pub carries-on-back : (decide (utc.At (t + 1800000)) (utc.At t) r).calls ≡ []
+  pub carries-on-back : (decide (Some (t + 1800000)) (Some t) r).calls ≡ []
   carries-on-back = called r (t + 1800000) t true (le-leb _ _ (close-back t))
 
-  pub resets : (decide (utc.At t) (utc.At (t + 1800001)) r).calls ≡ Reset ∷ []
+  pub resets : (decide (Some t) (Some (t + 1800001)) r).calls ≡ Reset ∷ []
   resets = called r t (t + 1800001) false (lt-leb _ _ (far t))
 
-  pub resets-back : (decide (utc.At (t + 1800001)) (utc.At t) r).calls ≡ Reset ∷ []
+  pub resets-back : (decide (Some (t + 1800001)) (Some t) r).calls ≡ Reset ∷ []
   resets-back = called r (t + 1800001) t false (lt-leb _ _ (far-back t))
 
 -- ---- "recovered 5, one Samples entry of ride 5 with (0, 0) twice": "clock 2000 stage pending"
 abbrev pub at-origin : Sample
-at-origin = record { place = place.At (pos 0) (pos 0); utc = utc.Unknown }
+at-origin = record { place = Some (record { lat = pos 0; lon = pos 0 }); utc = None }
 
 abbrev pub twice : Entry
 twice = record { ride = 5; kind = kind.Samples; count = 2; samples = at-origin ∷ at-origin ∷ at-origin ∷ at-origin ∷ [] }
@@ -62,7 +61,7 @@ abbrev pub origin : Fix
 origin = record { lat = pos 0; lon = pos 0 }
 
 pub clock-2000 : (visit twice (new_rebuild 5)).rebuild
-    ≡ record { recovered = 5; walk = record { slot = 0 }; stage = stage.Pending utc.Unknown; clock_ms = 2000 }
+    ≡ record { recovered = 5; walk = record { slot = 0 }; stage = stage.Pending None; clock_ms = 2000 }
 unfolding new_rebuild ticked known_or skips before_replay replays visit_fix visit_place visit_sample visit_samples used is_later visit_kind
     visit
 clock-2000 = refl

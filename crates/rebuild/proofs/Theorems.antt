@@ -5,19 +5,18 @@ use Prim.Native.Nat.{ℕ, zero, suc, ◌+◌, ◌≤◌, ◌<◌, min}
 use native.Mathlib.Omega.{arith}
 use mathlib.Core.Bool.{Bool, true, false, cond}
 use mathlib.Core.List.{List, [], ◌∷◌, ◌++◌, append-nil}
-use mathlib.Core.Option.{Option}
 use borrow.Author.Tests.{eq-eqb, leb-true, leb-false, lt-leb, le-leb}
 use Rattle.crumbs.specs.Crumb.{capacity}
 use Rattle.state.specs.State.{State}
 use Rattle.state.specs.Rule.{Done, done, and_then}
 use Rattle.update.proofs.Choosing.{picked}
-use Rattle.course.specs.Fix.{Fix}
+use Rattle.std.specs.Prelude.{Option, ℕ}
+use Rattle.plane.specs.declared.Fix.{Fix}
 use Rattle.calls.specs.Fix.{replay}
 use Rattle.calls.specs.Line.{reset}
 use Rattle.calls.specs.Calls.{Call, Reset, asks, performs, after_call}
 use Rattle.taken.proofs.Refusals.{NoneRefused}
 use Rattle.journal.specs.Journal.{run}
-use Rattle.ride_log.specs.declared.Utc.{Utc}
 use Rattle.ride_log.specs.declared.Entry.{Entry}
 use Rattle.rebuild.specs.declared.Stage.TheVariants as stage
 use Rattle.rebuild.specs.declared.Walk.{Walk}
@@ -37,7 +36,7 @@ effect-then m next C s =
     (performed-both C m.calls n.calls s)
 
 -- the guide is reset where the later ride does not carry on
-pub effect-decide : (last first : Utc) (r : Rebuild) (C : ℕ) (s : State)
+pub effect-decide : (last first : Option ℕ) (r : Rebuild) (C : ℕ) (s : State)
     → effect (decide last first r) C s
     ≡ elim (carries_on last first) [
       | true ↦ done (with_stage stage.Decided r) s

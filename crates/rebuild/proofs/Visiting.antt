@@ -12,12 +12,11 @@ use mir.ValLaws.{to_z-of_z}
 use lib.ListN.{length, take, get_or}
 use lib.Ieee.{Float}
 use Rattle.trail.specs.View as trail
-use Rattle.state.specs.declared.Place.{Place}
-use Rattle.state.specs.declared.Place.TheVariants as place
+use Rattle.std.specs.Prelude.{Option, Some, None}
+use Rattle.plane.specs.declared.Fix.{Fix}
 use Rattle.state.specs.declared.Homing.{Homing}
 use Rattle.update.proofs.Choosing.{picked, passed-by}
 use Rattle.follow.specs.View.{Follows}
-use Rattle.course.specs.Fix.{Fix}
 use Rattle.course.proofs.Fixes.{handed}
 use Rattle.calls.specs.Fix.{replay}
 use Rattle.calls.specs.Calls.{Call}
@@ -38,27 +37,27 @@ use Rattle.rebuild.proofs.Making.{visited, settled, makes-quiet, decides, carrie
 
 -- ---- what a sample says, by its place and by whether it is skipped
 module _ (later : Bool) (x : Sample) (r on : Rebuild) (ticks : on ≡ ticked r) where
-  from : Place → Rebuild → Made
+  from : Option Fix → Rebuild → Made
   from p n = visit_place p later x.utc n
 
-  at_place : (p : Place) → x.place ≡ p → visit_sample later x r ≡ from p on
+  at_place : (p : Option Fix) → x.place ≡ p → visit_sample later x r ≡ from p on
   unfolding visit_sample from
   at_place p e = ap₂ from e (sym ticks)
 
   abbrev nothing : Heard
-  nothing = record { rebuild = on; anew = false; place = place.Missing }
+  nothing = record { rebuild = on; anew = false; place = None }
 
-  pub unlocated : x.place ≡ place.Missing → visit_sample later x r ≡ heard_makes nothing
+  pub unlocated : x.place ≡ None → visit_sample later x r ≡ heard_makes nothing
   unfolding from visit_place replays_at
-  unlocated e = at_place place.Missing e
+  unlocated e = at_place None e
 
-  module _ (f : Fix) (e : x.place ≡ place.At f.lat f.lon) where
+  module _ (f : Fix) (e : x.place ≡ Some f.lat f.lon) where
     abbrev taken : Made
     taken = before_replay on.stage later x.utc on then replays f
 
     located : visit_sample later x r ≡ visit_fix f later x.utc on
     unfolding from visit_place
-    located = at_place (place.At f.lat f.lon) e
+    located = at_place (Some f.lat f.lon) e
 
     pub skipped : skips on.stage later ≡ true → visit_sample later x r ≡ heard_makes nothing
     unfolding visit_fix replays_at
@@ -73,23 +72,23 @@ module _ (later : Bool) (x : Sample) (r on : Rebuild) (ticks : on ≡ ticked r) 
         ∙ passed-by (quiet on) taken _ s
         ∙ ap (λ (m : Made). m then replays f) (decides later x.utc on b)
         ∙ ap (λ (t : Bool). making (reset_if t) (with_stage behind on) then replays f) (sym a)
-        ∙ ap (λ (p : Place). making (reset_if anew) (with_stage behind on) then λ n. replays_at p n) (sym e)
+        ∙ ap (λ (p : Option Fix). making (reset_if anew) (with_stage behind on) then λ n. replays_at p n) (sym e)
 
 -- ---- the fix of a sample replayed
 module _ (x : Heard) {h : Homing} {entry : List Float} where
-  pub none-replayed : x.place ≡ place.Missing → trail.TrailFit h.trail (length entry)
+  pub none-replayed : x.place ≡ None → trail.TrailFit h.trail (length entry)
       → Makes (replays_at x.place x.rebuild) h entry (visited x.rebuild h) entry
   unfolding replays_at
   none-replayed e fit =
-      subst (λ (p : Place). Makes (replays_at p x.rebuild) h entry (visited x.rebuild h) entry) (sym e)
+      subst (λ (p : Option Fix). Makes (replays_at p x.rebuild) h entry (visited x.rebuild h) entry) (sym e)
       (makes-quiet x.rebuild h entry fit)
 
-  pub one-replayed : {n : Homing} {exit : List Float} {handed-on : Fix} (f : Fix) → x.place ≡ place.At f.lat f.lon → handed-on ≡ f
+  pub one-replayed : {n : Homing} {exit : List Float} {handed-on : Fix} (f : Fix) → x.place ≡ Some f.lat f.lon → handed-on ≡ f
       → Follows (λ C. replay C handed-on x.rebuild.clock_ms) h entry n exit
       → Makes (replays_at x.place x.rebuild) h entry (visited x.rebuild n) exit
   unfolding replays_at
   one-replayed {n = n} {exit = exit} f e same k =
-      subst (λ (p : Place). Makes (replays_at p x.rebuild) h entry (visited x.rebuild n) exit) (sym e)
+      subst (λ (p : Option Fix). Makes (replays_at p x.rebuild) h entry (visited x.rebuild n) exit) (sym e)
       (replayed f x.rebuild h n entry exit
       (subst (λ (y : Fix). Follows (λ C. replay C y x.rebuild.clock_ms) h entry n exit) same k))
 

@@ -1,10 +1,8 @@
 -- For the functions inside: what a fix decides before it is replayed (`before_replay`), as a yes or no and a stage; and what a sample makes
 -- by that.
-use Rattle.std.specs.Prelude.{Bool, true, false, not, cond, List, [], ◌∷◌}
-use Rattle.state.specs.declared.Place.{Place}
-use Rattle.state.specs.declared.Place.TheVariants as place
+use Rattle.std.specs.Prelude.{Bool, true, false, not, cond, List, [], ◌∷◌, Option, Some, None, ℕ}
+use Rattle.plane.specs.declared.Fix.{Fix}
 use Rattle.calls.specs.Calls.{Call, Reset}
-use Rattle.ride_log.specs.declared.Utc.{Utc}
 use Rattle.rebuild.specs.declared.Stage.{Stage}
 use Rattle.rebuild.specs.declared.Stage.TheVariants as stage
 use Rattle.rebuild.specs.declared.Rebuild.{Rebuild}
@@ -13,13 +11,13 @@ use Rattle.rebuild.specs.Made.{Made, making, quiet, ◌then◌}
 use Rattle.rebuild.specs.Rebuild.{carries_on, known_or, replays}
 
 -- whether the guide is reset
-unfoldable pub starts_anew : Stage → Bool → Utc → Bool
+unfoldable pub starts_anew : Stage → Bool → Option ℕ → Bool
 starts_anew (stage.Pending last) true t = not (carries_on last t)
 starts_anew (stage.Pending last) false t = false
 starts_anew stage.Decided later t = false
 
 -- the stage behind the fix
-unfoldable pub stage_behind : Stage → Bool → Utc → Stage
+unfoldable pub stage_behind : Stage → Bool → Option ℕ → Stage
 stage_behind (stage.Pending last) true t = stage.Decided
 stage_behind (stage.Pending last) false t = stage.Pending (known_or t last)
 stage_behind stage.Decided later t = stage.Decided
@@ -29,9 +27,9 @@ abbrev pub reset_if : Bool → List Call
 reset_if anew = cond anew (Reset ∷ []) []
 
 -- a fix is replayed, where there is one
-unfoldable pub replays_at : Place → Rebuild → Made
-replays_at (place.At lat lon) r = replays (record { lat = lat; lon = lon }) r
-replays_at place.Missing r = quiet r
+unfoldable pub replays_at : Option Fix → Rebuild → Made
+replays_at (Some x) r = replays x r
+replays_at None r = quiet r
 
 abbrev pub heard_makes : Heard → Made
 heard_makes x = making (reset_if x.anew) x.rebuild then λ on. replays_at x.place on

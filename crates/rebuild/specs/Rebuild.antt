@@ -1,16 +1,12 @@
 -- A ride that a restart cut short, read back from the log for the ride that carries on from it. Document 01, "Entry"; rebuild.rs.
 use Rattle.std.specs.Prelude.{ℕ, zero, suc, ◌+◌, ◌-◌, ◌^◌, min, Bool, true, false, ◌&&◌, not, cond, List, [], ◌∷◌, leb, eqb}
-use Rattle.std.proofs.Math.Option.{Option, none, some}
-use Rattle.state.specs.declared.Place.{Place}
-use Rattle.state.specs.declared.Place.TheVariants as place
+use Rattle.std.specs.Prelude.{Option, Some, None}
+use Rattle.plane.specs.declared.Fix.{Fix}
 use Rattle.ride_log.specs.declared.Kind.{Kind}
 use Rattle.ride_log.specs.declared.Kind.TheVariants as kind
-use Rattle.ride_log.specs.declared.Utc.{Utc}
-use Rattle.ride_log.specs.declared.Utc.TheVariants as utc
 use Rattle.ride_log.specs.declared.Sample.{Sample}
 use Rattle.ride_log.specs.declared.Entry.{Entry}
 use Rattle.ride_log.specs.Entry.{used}
-use Rattle.course.specs.Fix.{Fix}
 use Rattle.calls.specs.Calls.{Reset, Replay}
 use Rattle.rebuild.specs.declared.Stage.{Stage}
 use Rattle.rebuild.specs.declared.Stage.TheVariants as stage
@@ -33,7 +29,7 @@ clock_most = 2 ^ 64 - 1
 -- ---- the rebuild
 -- `new`: "slot k is the k-th record after record 0 along the chain below, from 0". No fix of the recovered ride is read yet.
 unfoldable pub new_rebuild : ℕ → Rebuild
-new_rebuild recovered = record { recovered = recovered; walk = record { slot = 0 }; stage = stage.Pending utc.Unknown; clock_ms = 0 }
+new_rebuild recovered = record { recovered = recovered; walk = record { slot = 0 }; stage = stage.Pending None; clock_ms = 0 }
 
 abbrev pub with_stage : Stage → Rebuild → Rebuild
 with_stage x r = record { recovered = r.recovered; walk = r.walk; stage = x; clock_ms = r.clock_ms }
@@ -53,20 +49,20 @@ apart a b = (a - b) + (b - a)
 
 -- "The later ride carries on if both UTC times are known and at most 1,800,000 ms apart": the recovered ride's last and the later ride's
 -- first
-unfoldable pub carries_on : Utc → Utc → Bool
-carries_on (utc.At last) (utc.At first) = leb (apart last first) continue_ms
-carries_on (utc.At last) utc.Unknown = false
-carries_on utc.Unknown first = false
+unfoldable pub carries_on : Option ℕ → Option ℕ → Bool
+carries_on (Some last) (Some first) = leb (apart last first) continue_ms
+carries_on (Some last) None = false
+carries_on None first = false
 
 -- `decide`: "else reset"
-unfoldable pub decide : Utc → Utc → Rebuild → Made
+unfoldable pub decide : Option ℕ → Option ℕ → Rebuild → Made
 decide last first r = making (cond (carries_on last first) [] (Reset ∷ [])) (with_stage stage.Decided r)
 
 -- ---- a sample
 -- a time, or the one before it where it is not known
-unfoldable pub known_or : Utc → Utc → Utc
-known_or (utc.At t) before = utc.At t
-known_or utc.Unknown before = before
+unfoldable pub known_or : Option ℕ → Option ℕ → Option ℕ
+known_or (Some t) before = Some t
+known_or None before = before
 
 -- once the later ride's first fix came, the recovered ride's fixes are read no more
 unfoldable pub skips : Stage → Bool → Bool
@@ -75,7 +71,7 @@ skips stage.Decided later = not later
 
 -- what a fix decides before it is replayed: the later ride's first whether that ride carries on, one of the recovered ride when it was last
 -- fixed
-unfoldable pub before_replay : Stage → Bool → Utc → Rebuild → Made
+unfoldable pub before_replay : Stage → Bool → Option ℕ → Rebuild → Made
 before_replay (stage.Pending last) true t r = decide last t r
 before_replay (stage.Pending last) false t r = quiet (with_stage (stage.Pending (known_or t last)) r)
 before_replay stage.Decided later t r = quiet r
@@ -84,12 +80,12 @@ before_replay stage.Decided later t r = quiet r
 unfoldable pub replays : Fix → Rebuild → Made
 replays x r = making (Replay x r.clock_ms ∷ []) r
 
-unfoldable pub visit_fix : Fix → Bool → Utc → Rebuild → Made
+unfoldable pub visit_fix : Fix → Bool → Option ℕ → Rebuild → Made
 visit_fix x later t r = elim (skips r.stage later) [ true ↦ quiet r | false ↦ before_replay r.stage later t r then replays x ]
 
-unfoldable pub visit_place : Place → Bool → Utc → Rebuild → Made
-visit_place (place.At lat lon) later t r = visit_fix (record { lat = lat; lon = lon }) later t r
-visit_place place.Missing later t r = quiet r
+unfoldable pub visit_place : Option Fix → Bool → Option ℕ → Rebuild → Made
+visit_place (Some x) later t r = visit_fix x later t r
+visit_place None later t r = quiet r
 
 unfoldable pub visit_sample : Bool → Sample → Rebuild → Made
 visit_sample later x r = visit_place x.place later x.utc (ticked r)
@@ -122,8 +118,8 @@ caught_up upper r = leb upper r.walk.slot
 
 -- "an entry with ride_id ≥ recovered is visited"
 unfoldable pub look : Option Entry → Rebuild → Made
-look none r = quiet r
-look (some e) r = elim (leb r.recovered e.ride) [ true ↦ visit e r | false ↦ quiet r ]
+look None r = quiet r
+look (Some e) r = elim (leb r.recovered e.ride) [ true ↦ visit e r | false ↦ quiet r ]
 
 abbrev pub past_slot : Rebuild → Rebuild
 past_slot r = with_walk (record { slot = suc r.walk.slot }) r
@@ -155,9 +151,9 @@ step budget upper slots r = let m = walk budget upper slots r in record { made =
 
 -- ---- a live fix
 -- `settle`: it decides as well, where none of the log did
-unfoldable pub settle_from : Stage → Utc → Rebuild → Made
+unfoldable pub settle_from : Stage → Option ℕ → Rebuild → Made
 settle_from (stage.Pending last) t r = decide last t r
 settle_from stage.Decided t r = quiet r
 
-unfoldable pub settle : Utc → Rebuild → Made
+unfoldable pub settle : Option ℕ → Rebuild → Made
 settle t r = settle_from r.stage t r

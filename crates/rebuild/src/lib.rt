@@ -17,8 +17,9 @@ ghost use Rattle.rebuild.specs.Inner.{starts_anew, stage_behind, replays_at, hea
 ghost use Rattle.rebuild.specs.View.{Makes, Settles};
 
 use fix::Ridden;
-use ride_log::{Entry, Kind, Sample, Utc};
-use state::{Homing, Place};
+use ride_log::{Entry, Kind, Sample};
+use plane::Fix;
+use state::Homing;
 
 // The later ride carries on if its first fix is this soon after the recovered ride's last.
 const CONTINUE_MS: u64 = 30 * 60_000;
@@ -30,7 +31,7 @@ const CLOCK_MOST: u64 = 0xFFFF_FFFF_FFFF_FFFF;
 #[derive(Clone, Copy)]
 pub enum Stage {
     // Before the later ride's first fix: when the recovered ride's latest fix was, if known.
-    Pending(Utc),
+    Pending(Option<u64>),
     // That fix came: the breadcrumb is settled.
     Decided,
 }
@@ -70,7 +71,7 @@ pub struct Visited {
 struct Heard {
     rebuild: Rebuild,
     anew: bool,
-    place: Place,
+    place: Option<Fix>,
 }
 
 // Read ride `recovered` and the ride after it back from a log whose slots below `_upper` are written. The
@@ -81,7 +82,7 @@ pub fn new(recovered: u32, _upper: usize) -> Rebuild
     Rebuild {
         recovered,
         walk: Walk { slot: 0 },
-        stage: Stage::Pending(Utc::Unknown),
+        stage: Stage::Pending(None),
         clock_ms: 0,
     }
 }
@@ -97,13 +98,13 @@ fn apart(a: u64, b: u64) -> u64
     a - b
 }
 
-fn carries_on(last: Utc, first: Utc) -> bool
+fn carries_on(last: Option<u64>, first: Option<u64>) -> bool
     ensures { result ≡ carries_on last first }
 {
-    let Utc::At(a) = last else {
+    let Some(a) = last else {
         return false;
     };
-    let Utc::At(b) = first else {
+    let Some(b) = first else {
         return false;
     };
     apart(a, b) <= CONTINUE_MS
@@ -111,7 +112,7 @@ fn carries_on(last: Utc, first: Utc) -> bool
 
 // Whether a fix makes the breadcrumb start again: the later ride's first, where that ride does not
 // carry on.
-fn starts_anew(stage: Stage, later: bool, utc: Utc) -> bool
+fn starts_anew(stage: Stage, later: bool, utc: Option<u64>) -> bool
     ensures { result ≡ starts_anew stage later utc }
 {
     let Stage::Pending(last) = stage else {
@@ -125,7 +126,7 @@ fn starts_anew(stage: Stage, later: bool, utc: Utc) -> bool
 
 // Settle the breadcrumb on a live fix at `utc` instead of the later ride's first one in the log, which a
 // paused ride or a failing medium may never write.
-pub fn settle(r: Rebuild, h: Homing, utc: Utc) -> Visited
+pub fn settle(r: Rebuild, h: Homing, utc: Option<u64>) -> Visited
     ensures { Settles (settle utc r) h result }
 {
     let was = r.stage;
@@ -157,12 +158,12 @@ fn ticked(r: Rebuild) -> Rebuild
     }
 }
 
-fn or_else(utc: Utc, before: Utc) -> Utc
+fn or_else(utc: Option<u64>, before: Option<u64>) -> Option<u64>
     ensures { result ≡ known_or utc before }
 {
     match utc {
-        Utc::At(_) => utc,
-        Utc::Unknown => before,
+        Some(_) => utc,
+        None => before,
     }
 }
 
@@ -177,7 +178,7 @@ fn skips(stage: Stage, later: bool) -> bool
 }
 
 // The stage behind a fix.
-fn stage_behind(stage: Stage, later: bool, utc: Utc) -> Stage
+fn stage_behind(stage: Stage, later: bool, utc: Option<u64>) -> Stage
     ensures { result ≡ stage_behind stage later utc }
 {
     let Stage::Pending(last) = stage else {
@@ -198,10 +199,10 @@ fn hear(r: Rebuild, later: bool, sample: Sample) -> Heard
     let nothing = Heard {
         rebuild: on,
         anew: false,
-        place: Place::Missing,
+        place: None,
     };
     let place = sample.place;
-    let Place::At(_, _) = place else {
+    let Some(_) = place else {
         return nothing;
     };
     let was = on.stage;
@@ -227,11 +228,11 @@ fn replay_heard(x: Heard, g: Ridden, window: &mut [f32; 96], crumbs: &mut [f32])
     ensures window_len { length window.new ≡ 96 }
 {
     let place = x.place;
-    let Place::At(lat, lon) = place else {
+    let Some(fix) = place else {
         return g;
     };
     let clock_ms = x.rebuild.clock_ms;
-    fix::replay_parts(g, window, crumbs, lat, lon, clock_ms)
+    fix::replay_parts(g, window, crumbs, fix, clock_ms)
 }
 
 // ---- an entry

@@ -5,7 +5,6 @@ ghost use Rattle.std.specs.Prelude.{◌≤◌};
 use door::answering;
 use rebuild::Stage;
 use records::ANSWERS;
-use ride_log::Utc;
 
 // The questions' numbers among the calls; any from the last on is `course`'s.
 const LEN: u64 = 14;
@@ -250,7 +249,7 @@ fn tell_stage(stage: Stage, told: &mut [u64; ANSWERS]) {
         return;
     };
     told[records::PENDING] = 1;
-    let Utc::At(utc) = last else {
+    let Some(utc) = last else {
         return;
     };
     told[records::UTC_KNOWN] = 1;

@@ -14,7 +14,7 @@ use Rattle.answers.specs.Answers.{says_verdict}
 use Rattle.answers.proofs.Answering.{no, yes}
 use Rattle.homing.specs.declared.Reply.TheVariants as reply
 use Rattle.homing.specs.Answers.{says_reply}
-use Rattle.ride_log.specs.declared.Utc.{Utc}
+use Rattle.std.specs.Prelude.{Option, ℕ}
 use Rattle.ride_log.specs.Entry.{slot}
 use Rattle.ride_log.specs.Questions.{asks_file}
 use Rattle.rebuild.specs.declared.Rebuild.{Rebuild}
@@ -54,7 +54,7 @@ module _ (budget upper : ℕ) (file : List ℕ) (r : Rebuild) (h : Homing) (b : 
       }
 
 -- ---- `settle`
-module _ (t : Utc) (r : Rebuild) (h : Homing) {n : ℕ} (asked : (b : List Float) → n ≡ asks_state (state_of h b)) where
+module _ (t : Option ℕ) (r : Rebuild) (h : Homing) {n : ℕ} (asked : (b : List Float) → n ≡ asks_state (state_of h b)) where
   pub settle-refused : n ≢ 0 → SettlesBreadcrumb t r h (record { rebuild = r; homing = h; answer = reply.Refused n })
   unfolding says_reply
   settle-refused ne =

@@ -3,15 +3,14 @@ use Prim.Native.Nat.{ℕ, zero, suc, ◌*◌, ◌≤◌}
 use mathlib.Core.Path.{◌≡◌, refl, sym, ap, ap₂, ◌∙◌, subst}
 use mathlib.Core.Logic.{◌≢◌}
 use mathlib.Core.List.{List, [], ◌∷◌, ◌++◌}
-use mathlib.Core.Option.{Option}
 use native.Mathlib.Omega.{arith}
 use borrow.Author.Tests.{eqb-true, eqb-false}
 use lib.Dec.{leb, eqb}
 use lib.ListN.{length}
 use lib.Ieee.{Float}
 use Rattle.crumbs.specs.Crumb.{stride, capacity}
-use Rattle.state.specs.declared.Place.{Place}
-use Rattle.state.specs.declared.Place.TheVariants as place
+use Rattle.std.specs.Prelude.{Option, Some, None, ℕ}
+use Rattle.plane.specs.declared.Fix.{Fix}
 use Rattle.state.specs.declared.Homing.{Homing}
 use Rattle.state.specs.State.{State, state_of}
 use Rattle.state.specs.Rule.{Done}
@@ -31,7 +30,6 @@ use Rattle.homing.specs.Promises.{MakesNew}
 use Rattle.history.specs.History.{Holds, Ran}
 use Rattle.history.specs.History as history
 use Rattle.history.proofs.History.{holds_same, none_yet, one_more}
-use Rattle.ride_log.specs.declared.Utc.{Utc}
 use Rattle.ride_log.specs.declared.Sample.{Sample}
 use Rattle.ride_log.specs.declared.Entry.{Entry}
 use Rattle.ride_log.specs.Entry.{entry_at, slot, used}
@@ -54,12 +52,12 @@ use Rattle.restart.proofs.Slots.{before_at}
 use Rattle.restart.proofs.Calling.{step-crumbs, step-file}
 
 -- ---- a file that no question refuses has its places in range
-place-globe : (p : Place) → asks_place p ≡ 0 → FixesOnGlobe (point_of p)
+place-globe : (p : Option Fix) → asks_place p ≡ 0 → FixesOnGlobe (point_of p)
 unfolding asks_place
-place-globe (place.At lat lon) e =
-    let l = fix-given (record { lat = lat; lon = lon }) e in
+place-globe (Some x) e =
+    let l = fix-given x e in
     (record { latitude = l.latitude; longitude = l.longitude }, tt)
-place-globe place.Missing e = tt
+place-globe None e = tt
 
 samples-globe : (xs : List Sample) → asks_samples xs ≡ 0 → SamplesOnGlobe xs
 unfolding asks_samples
@@ -100,16 +98,16 @@ module _ (size : ℕ) (least : 3 ≤ capacity size) where
 
 module _ (size : ℕ) (s : State) (e : asks_state s ≡ 0) where
   -- and the reset of `settle`, which is asked question 10
-  decide-asked : (last first : Utc) (r : Rebuild) → NoneRefused size s (decide last first r).calls
+  decide-asked : (last first : Option ℕ) (r : Rebuild) → NoneRefused size s (decide last first r).calls
   unfolding decide asks
   decide-asked last first r = one_of (λ ks. NoneRefused size s ks) (carries_on last first) (λ _. tt) (λ _. (e, tt))
 
-  settle-from-asked : (was : Stage) (t : Utc) (r : Rebuild) → NoneRefused size s (settle_from was t r).calls
+  settle-from-asked : (was : Stage) (t : Option ℕ) (r : Rebuild) → NoneRefused size s (settle_from was t r).calls
   unfolding settle_from
   settle-from-asked (stage.Pending last) t r = decide-asked last t r
   settle-from-asked stage.Decided t r = tt
 
-  settle-asked : (t : Utc) (r : Rebuild) → NoneRefused size s (settle t r).calls
+  settle-asked : (t : Option ℕ) (r : Rebuild) → NoneRefused size s (settle t r).calls
   unfolding settle
   settle-asked t r = settle-from-asked r.stage t r
 
@@ -174,7 +172,7 @@ module _ (C : ℕ) (least : 3 ≤ C) (cs : List Call) (h : Homing) (b : List Flo
       (λ t. let stays = did.refused (eqb-false (asks_step (length b) file (state_of h b)) 0 t) in
       uncounted v.homing b' stays.1 stays.2)
 
-  settle-counts : (t : Utc) (x : Rebuild) {v : Settled} → SettlesBreadcrumb t x h v
+  settle-counts : (t : Option ℕ) (x : Rebuild) {v : Settled} → SettlesBreadcrumb t x h v
       → state_of v.homing b ≡ (journal C (cs ++ settle_calls t x (state_of h b))).state
   unfolding settle_calls
   settle-counts t x {v = v} did =

@@ -3,7 +3,7 @@ use Prim.Native.Nat.{ℕ, zero, suc, ◌+◌, ◌-◌, ◌≤◌, ◌<◌}
 use mathlib.Core.Path.{◌≡◌, refl, sym, ap, ◌∙◌, subst}
 use mathlib.Core.Logic.{◌≢◌}
 use mathlib.Core.List.{List, [], ◌∷◌}
-use mathlib.Core.Option.{none, some}
+use Rattle.std.specs.Prelude.{None}
 use native.Mathlib.Omega.{arith}
 use native.Mathlib.Nat.{add-zero}
 use native.Mathlib.Numerals.{add-one}
@@ -42,7 +42,7 @@ past_to {f = f} {k = k} m b h =
     let e : k + (m - k) ≡ m = omega arith in
     subst (λ (n : ℕ). Before f n 0) e (past_end (m - k) b)
 
-pub none-behind : {f : List ℕ} {k r : ℕ} → Before f k r → r ≡ 0 → (m : ℕ) → k ≤ m → slot f m ≡ none
+pub none-behind : {f : List ℕ} {k r : ℕ} → Before f k r → r ≡ 0 → (m : ℕ) → k ≤ m → slot f m ≡ None
 none-behind {f = f} {k = k} b z m h = slot-none (past_to m (subst (λ (r : ℕ). Before f k r) z b) h) refl
 
 -- of every slot

@@ -3,7 +3,7 @@ use Prim.Native.Nat.{ℕ, zero, suc, ◌+◌, ◌-◌, ◌≤◌, ◌<◌, min, 
 use mathlib.Core.Path.{◌≡◌, refl, sym, ap, ap₂, ◌∙◌, subst}
 use mathlib.Core.Logic.{◌≢◌}
 use mathlib.Core.List.{List}
-use mathlib.Core.Option.{Option, some}
+use Rattle.std.specs.Prelude.{Option, Some}
 use native.Mathlib.Omega.{arith}
 use borrow.Author.Tests.{leb-true, le-leb, lt-leb}
 use lib.Dec.{leb}
@@ -38,7 +38,7 @@ count-few e z = leb-true e.count 4 (passed (leb e.count 4) 4 (neither (unless (l
 
 -- ---- an entry looked at
 pub not-visited : (e : Entry) (r : Rebuild) (h : Homing) (b : List Float) → trail.TrailFit h.trail (length b) → e.ride < r.recovered
-    → Makes (look (some e) r) h b (visited r h) b
+    → Makes (look (Some e) r) h b (visited r h) b
 unfolding look
 not-visited e r h b fit before =
     subst (λ (m : Made). Makes m h b (visited r h) b) (sym (passed-by (visit e r) (quiet r) _ (lt-leb r.recovered e.ride before)))
@@ -46,7 +46,7 @@ not-visited e r h b fit before =
 
 pub looked : (e : Entry) (r : Rebuild) {h : Homing} {entry exit : List Float} {v : Visited} → r.recovered ≤ e.ride
     → Makes (visit e r) h entry v exit
-    → Makes (look (some e) r) h entry v exit
+    → Makes (look (Some e) r) h entry v exit
 unfolding look
 looked e r {h = h} {entry = entry} {exit = exit} {v = v} from m =
     subst (λ (x : Made). Makes x h entry v exit) (sym (picked (visit e r) (quiet r) _ (le-leb r.recovered e.ride from))) m
@@ -108,12 +108,12 @@ module _ {budget upper stop : ℕ} {f : List ℕ} {r : Rebuild} {h : Homing} whe
             count-few e (ap (λ (x : Entry). asks_entry x) is ∙ record-entry f index (slot-asked g.before there (every-accepted f a)))
 
         module _ {e : Entry} (is : e ≡ entry_at f index) {w : Visited} {exit : List Float}
-            (m : Makes (look (some e) v.rebuild) v.homing mid w exit) where
+            (m : Makes (look (Some e) v.rebuild) v.homing mid w exit) where
           -- the slot that is looked at
           stays : w.rebuild.walk.slot ≡ k
           stays =
               ap (λ (x : Rebuild). x.walk.slot) m.rebuilt
-              ∙ ap (λ (x : Walk). x.slot) (look-keeps (some e) v.rebuild).walk
+              ∙ ap (λ (x : Walk). x.slot) (look-keeps (Some e) v.rebuild).walk
               ∙ g.at
 
           past : (n : Rebuild) → n ≡ with_slot (k + 1) w.rebuild → n ≡ past_slot w.rebuild
@@ -121,11 +121,11 @@ module _ {budget upper stop : ℕ} {f : List ℕ} {r : Rebuild} {h : Homing} whe
               let on : k + 1 ≡ suc w.rebuild.walk.slot = omega (arith, stays) in
               put ∙ ap (λ (j : ℕ). with_slot j w.rebuild) on
 
-          one : walk 1 upper (slot f) v.rebuild ≡ (look (some e) v.rebuild then λ next. quiet (past_slot next))
+          one : walk 1 upper (slot f) v.rebuild ≡ (look (Some e) v.rebuild then λ next. quiet (past_slot next))
           one =
               walk-one upper (slot f) v.rebuild inside
               ∙ ap (λ (o : Option Entry). look o v.rebuild then λ next. quiet (past_slot next))
-              (ap (λ (j : ℕ). slot f j) g.at ∙ slot-here g.before there ∙ ap (λ (x : Entry). some x) (sym is))
+              (ap (λ (j : ℕ). slot f j) g.at ∙ slot-here g.before there ∙ ap (λ (x : Entry). Some x) (sym is))
 
           pub going_on : {n : Rebuild} {next : ℕ} → n ≡ with_slot (k + 1) w.rebuild → next ≡ next_of f index
               → Going budget upper stop f r h entry (k + 1) next (visited n w.homing) exit
@@ -134,7 +134,7 @@ module _ {budget upper stop : ℕ} {f : List ℕ} {r : Rebuild} {h : Homing} whe
               let quietly : Makes (quiet (past_slot w.rebuild)) w.homing exit (visited n w.homing) exit =
               subst (λ (x : Rebuild). Makes (quiet x) w.homing exit (visited n w.homing) exit) moved
               (makes-quiet n w.homing exit m.fit) in
-              let both = one_then (look (some e) v.rebuild) (λ x. quiet (past_slot x)) v.homing mid exit exit w
+              let both = one_then (look (Some e) v.rebuild) (λ x. quiet (past_slot x)) v.homing mid exit exit w
               (visited n w.homing) m quietly in
               let walked = subst (λ (x : Made). Makes x v.homing mid (visited n w.homing) exit) (sym one) both in
               record {

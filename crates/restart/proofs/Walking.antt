@@ -6,7 +6,7 @@ use native.Mathlib.Omega.{arith}
 use native.Mathlib.Nat.{zero-add, suc-add, add-zero, add-suc}
 use mathlib.Core.Bool.{Bool, true, false}
 use mathlib.Core.List.{List, ◌++◌, append_assoc, append-nil}
-use mathlib.Core.Option.{Option, none}
+use Rattle.std.specs.Prelude.{Option, None}
 use borrow.Author.Tests.{le-leb, lt-leb, leb-true, leb-false}
 use lib.Dec.{leb}
 use Rattle.calls.specs.Calls.{Call}
@@ -135,7 +135,7 @@ module _ (upper : ℕ) (slots : ℕ → Option Entry) where
         (λ u. enough h (leb-false (from + budget) upper u)))
 
   -- slots without a record
-  pub walk-empty : (n : ℕ) (r : Rebuild) → r.walk.slot + n ≤ upper → ((k : ℕ) → r.walk.slot ≤ k → slots k ≡ none)
+  pub walk-empty : (n : ℕ) (r : Rebuild) → r.walk.slot + n ≤ upper → ((k : ℕ) → r.walk.slot ≤ k → slots k ≡ None)
       → walk n upper slots r ≡ quiet (with_slot (r.walk.slot + n) r)
   unfolding look
   walk-empty zero r h e = walk-zero r ∙ ap (λ (k : ℕ). quiet (with_slot k r)) (sym (add-zero r.walk.slot))

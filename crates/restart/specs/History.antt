@@ -1,6 +1,6 @@
 -- Demand 3 of the program where calls of a rebuild stand among the guide's. Document 01, "Journal": "A call of `Rebuild` counts as the
 -- guide's calls it makes, a refused one as none."
-use Rattle.std.specs.Prelude.{ℕ, ◌*◌, ◌≤◌, ◌≡◌, true, false, List, [], ◌∷◌, ◌++◌, eqb, length, Float}
+use Rattle.std.specs.Prelude.{ℕ, ◌*◌, ◌≤◌, ◌≡◌, true, false, List, [], ◌∷◌, ◌++◌, eqb, length, Float, Option}
 use Rattle.crumbs.specs.Crumb.{stride}
 use Rattle.state.specs.declared.Homing.{Homing}
 use Rattle.state.specs.State.{State, state_of}
@@ -10,7 +10,6 @@ use Rattle.calls.specs.Calls.{Call}
 use Rattle.calls.specs.Promises.{Called}
 use Rattle.journal.specs.Journal.{journal}
 use Rattle.history.specs.History.{Holds}
-use Rattle.ride_log.specs.declared.Utc.{Utc}
 use Rattle.ride_log.specs.Entry.{slot}
 use Rattle.rebuild.specs.declared.Rebuild.{Rebuild}
 use Rattle.rebuild.specs.Rebuild.{step, settle}
@@ -24,7 +23,7 @@ unfoldable pub step_calls : ℕ → ℕ → ℕ → List ℕ → Rebuild → Sta
 step_calls size budget upper file x s =
     elim (eqb (asks_step size file s) 0) [ true ↦ (step budget upper (slot file) x).made.calls | false ↦ [] ]
 
-unfoldable pub settle_calls : Utc → Rebuild → State → List Call
+unfoldable pub settle_calls : Option ℕ → Rebuild → State → List Call
 settle_calls t x s = elim (eqb (asks_state s) 0) [ true ↦ (settle t x).calls | false ↦ [] ]
 
 -- `RanOn C cs h b`: a new guide on a buffer for C crumbs, whatever that held, came to the state h and the buffer b by calls of its own and
@@ -38,7 +37,7 @@ pub data RanOn (C : ℕ) : List Call → Homing → List Float → Type 0 where
   stepped : {cs : List Call} {h : Homing} {b b' : List Float} {v : Stepped} (budget upper : ℕ) (file : List ℕ) (x : Rebuild)
       → RanOn C cs h b
       → Steps budget upper file x h b v b' → RanOn C (cs ++ step_calls (stride * C) budget upper file x (journal C cs).state) v.homing b'
-  settled : {cs : List Call} {h : Homing} {b : List Float} {v : Settled} (t : Utc) (x : Rebuild) → RanOn C cs h b
+  settled : {cs : List Call} {h : Homing} {b : List Float} {v : Settled} (t : Option ℕ) (x : Rebuild) → RanOn C cs h b
       → SettlesBreadcrumb t x h v
       → RanOn C (cs ++ settle_calls t x (journal C cs).state) v.homing b
 

@@ -1,13 +1,12 @@
 -- What each call of a rebuild promises. `new` and `caught_up` are given no state, buffer or file, and are asked nothing: they promise the
 -- rules of these names.
-use Rattle.std.specs.Prelude.{ℕ, ◌≡◌, ◌≢◌, List, length, Float}
+use Rattle.std.specs.Prelude.{ℕ, ◌≡◌, ◌≢◌, List, length, Float, Option}
 use Rattle.state.specs.declared.Homing.{Homing}
 use Rattle.state.specs.State.{State, state_of}
 use Rattle.calls.specs.Questions.{asks_state, asks_crumbs, ◌or_else◌}
 use Rattle.calls.specs.Promises.{answer}
 use Rattle.answers.specs.Answers.{says_verdict}
 use Rattle.homing.specs.Answers.{says_reply}
-use Rattle.ride_log.specs.declared.Utc.{Utc}
 use Rattle.ride_log.specs.Entry.{slot}
 use Rattle.ride_log.specs.Questions.{asks_file}
 use Rattle.rebuild.specs.declared.Rebuild.{Rebuild}
@@ -32,7 +31,7 @@ pub record Steps (budget upper : ℕ) (file : List ℕ) (r : Rebuild) (h : Homin
   pub size : length exit ≡ length entry
 
 -- `settle` at the time t, whatever the crumb buffer b holds, which it is not given
-pub record SettlesBreadcrumb (t : Utc) (r : Rebuild) (h : Homing) (v : Settled) : Type 0 where
+pub record SettlesBreadcrumb (t : Option ℕ) (r : Rebuild) (h : Homing) (v : Settled) : Type 0 where
   pub answered : (b : List Float) → says_reply v.answer ≡ answer (asks_state (state_of h b)) (tt {0})
   pub taken : (b : List Float) → asks_state (state_of h b) ≡ 0 → Settles (settle t r) h (record { rebuild = v.rebuild; homing = v.homing })
   pub refused : (b : List Float) → asks_state (state_of h b) ≢ 0 → (v.rebuild ≡ r) × (v.homing ≡ h)

@@ -1,11 +1,11 @@
 -- Demand 1 of the program: the states, buffers and placed lines that a guide's own calls and those of rebuilds make, and that none of these
 -- calls is refused there. Document 01, "Crumb": "every state and buffer made by a guide's own calls".
-use Rattle.std.specs.Prelude.{ℕ, ◌*◌, ◌≤◌, ◌≡◌, ◌≢◌, List, [], length, Float}
+use Rattle.std.specs.Prelude.{ℕ, ◌*◌, ◌≤◌, ◌≡◌, ◌≢◌, List, [], length, Float, Option}
 use Rattle.crumbs.specs.declared.Crumb.{Crumb}
 use Rattle.crumbs.specs.Crumb.{stride}
 use Rattle.state.specs.declared.Homing.{Homing}
 use Rattle.state.specs.State.{state_of}
-use Rattle.course.specs.Fix.{Fix}
+use Rattle.plane.specs.declared.Fix.{Fix}
 use Rattle.calls.specs.Line as rule
 use Rattle.calls.specs.Questions.{asks_state}
 use Rattle.calls.specs.Calls.{line_for_course, Call, SetCourse, asks}
@@ -13,7 +13,6 @@ use Rattle.calls.specs.Promises.{Called}
 use Rattle.taken.specs.Taken.{InRange, Lent, line_after, BufferAfter}
 use Rattle.homing.specs.declared.Changed.{Changed}
 use Rattle.homing.specs.Promises.{SetsCourse}
-use Rattle.ride_log.specs.declared.Utc.{Utc}
 use Rattle.ride_log.specs.Questions.{asks_file}
 use Rattle.rebuild.specs.declared.Rebuild.{Rebuild}
 use Rattle.restart.specs.declared.Stepped.{Stepped}
@@ -33,7 +32,7 @@ pub data Rebuilt (C : ℕ) : Homing → List Float → List Crumb → Type 0 whe
   -- `step` and `settle`, refused or not, of any rebuild x
   stepped : {h : Homing} {b b' : List Float} {l : List Crumb} {v : Stepped} (budget upper : ℕ) (file : List ℕ) (x : Rebuild)
       → Rebuilt C h b l → Steps budget upper file x h b v b' → Rebuilt C v.homing b' l
-  settled : {h : Homing} {b : List Float} {l : List Crumb} {v : Settled} (t : Utc) (x : Rebuild)
+  settled : {h : Homing} {b : List Float} {l : List Crumb} {v : Settled} (t : Option ℕ) (x : Rebuild)
       → Rebuilt C h b l → SettlesBreadcrumb t x h v → Rebuilt C v.homing b l
 
 -- the next call is taken

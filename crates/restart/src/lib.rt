@@ -9,14 +9,13 @@ ghost use Rattle.ride_log.specs.Entry.{slot as slot_of};
 ghost use Rattle.ride_log.specs.Questions.{asks_file};
 ghost use Rattle.rebuild.specs.Rebuild as rule;
 ghost use Rattle.rebuild.specs.View.{Makes};
-ghost use Rattle.std.proofs.Math.Option.{some};
 ghost use Rattle.restart.specs.Walk.{record_at, with_slot};
 ghost use Rattle.restart.specs.Promises.{asks_step, Steps, SettlesBreadcrumb};
 
 use answers::Verdict;
 use homing::Reply;
 use rebuild::{Rebuild, Stage, Visited, Walk};
-use ride_log::{Entry, Utc, file_questions};
+use ride_log::{Entry, file_questions};
 use state::Homing;
 
 #[derive(Clone, Copy)]
@@ -92,7 +91,7 @@ fn with_slot(r: Rebuild, slot: usize) -> Rebuild
 fn look(r: Rebuild, h: Homing, crumbs: &mut [f32], e: Entry) -> Visited
     requires trail_fit { trail.TrailFit h.trail (length crumbs.old) }
     requires count_bound { e.count ≤ 4 }
-    ensures { Makes (rule.look (some e) r) h crumbs.old result crumbs.new }
+    ensures { Makes (rule.look (Some e) r) h crumbs.old result crumbs.new }
 {
     if e.ride < r.recovered {
         return Visited {
@@ -192,7 +191,7 @@ pub fn step(
 }
 
 // Settle the breadcrumb on a live fix at `utc` instead of the later ride's first one in the log.
-pub fn settle(r: Rebuild, h: Homing, utc: Utc) -> Settled
+pub fn settle(r: Rebuild, h: Homing, utc: Option<u64>) -> Settled
     ensures { SettlesBreadcrumb utc r h result }
 {
     let number = questions::asks_state(h);

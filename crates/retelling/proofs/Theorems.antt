@@ -3,7 +3,7 @@ use Prim.Native.Nat.{ℕ, zero, suc, ◌/◌, ◌%◌, ◌≤◌, ◌<◌}
 use mathlib.Core.Path.{◌≡◌, refl, sym, ap, ◌∙◌}
 use mathlib.Core.Bool.{Bool, true, false, ◌&&◌, true≢false, false≢true, and-false}
 use mathlib.Core.Logic.{◌≢◌}
-use mathlib.Core.Option.{none}
+use Rattle.std.specs.Prelude.{None}
 use mathlib.Core.List.{List, [], ◌∷◌, map}
 use native.Mathlib.Omega.{arith}
 use native.Mathlib.Nat.{le_refl}
@@ -63,7 +63,7 @@ walk-within (suc n) f zero = omega arith
 walk-within (suc n) f (suc r) = let again : length (records_from n f (next_of f (suc r))) ≤ n = walk-within n f (next_of f (suc r)) in
     omega arith
 
-past : {A : Type 0} (g : ℕ → A) (l : List ℕ) (k : ℕ) → length l ≤ k → get_elem? (map g l) k ≡ none
+past : {A : Type 0} (g : ℕ → A) (l : List ℕ) (k : ℕ) → length l ≤ k → get_elem? (map g l) k ≡ None
 past g [] k h = refl
 past g (x ∷ l) zero h = absurd (omega arith)
 past g (x ∷ l) (suc k) h = past g l k (omega arith)

@@ -1,7 +1,6 @@
 -- What `retell` prints of a chain file. Document 01, "Entry": "reads it on standard input, checks all, rebuilds the whole chain with 512
 -- crumbs without a settle".
-use Rattle.std.specs.Prelude.{ℕ, ◌≤◌, ◌≡◌, Bool, true, false, List, eqb, length, take, drop}
-use Rattle.std.proofs.Math.Option.{none}
+use Rattle.std.specs.Prelude.{ℕ, ◌≤◌, ◌≡◌, Bool, true, false, List, eqb, length, take, drop, None}
 use Rattle.crumbs.specs.declared.Crumb.{Crumb}
 use Rattle.calls.specs.Line as guide
 use Rattle.ride_log.specs.Entry.{recovered, slot}
@@ -50,7 +49,7 @@ pub record Retells (file entry exit : List ℕ) (r : ℕ) : Type 0 where
 -- "the whole chain": every slot that is looked at is below 682, and no slot from there on has a record
 pub record Whole (file : List ℕ) : Type 0 where
   pub looked : caught_up slots (rebuilt file).rebuild ≡ true
-  pub beyond : (k : ℕ) → slots ≤ k → slot file k ≡ none
+  pub beyond : (k : ℕ) → slots ≤ k → slot file k ≡ None
 
 abbrev pub EveryWhole : Type 0
 EveryWhole = (file : List ℕ) → asks_file file ≡ 0 → Whole file

@@ -12,7 +12,7 @@ use Rattle.crumbs.specs.Crumb.{capacity}
 use Rattle.state.specs.declared.Homing.{Homing}
 use Rattle.state.specs.State.{State, state_of}
 use Rattle.state.specs.Rule.{Done, done}
-use Rattle.course.specs.Fix.{Fix}
+use Rattle.plane.specs.declared.Fix.{Fix}
 use Rattle.calls.specs.Calls.{Call, Ask, Len, Reset, EndReplay, SetCourse, SetAutoFollow, Observe, Replay, SetFollowing, asks, performs}
 use Rattle.calls.specs.Calls.{after_call}
 use Rattle.calls.specs.Promises.{Called}

@@ -11,8 +11,8 @@ use lib.Dec.{lit<}
 use lib.Ieee.{Float}
 use lib.ListN.{length, length-append, length-map}
 use lib.Seq.{take-append_seam, drop-append_seam}
-use Rattle.state.specs.declared.Place.TheVariants.{At, Missing}
-use Rattle.course.specs.Fix.{Fix}
+use Rattle.std.specs.Prelude.{Some, None}
+use Rattle.plane.specs.declared.Fix.{Fix}
 use Rattle.course.specs.Course.{fixes}
 use Rattle.calls.specs.Calls as call
 use Rattle.calls.specs.Calls.{Loan, Query, Call, Ask, Reset, EndReplay, SetCourse, SetAutoFollow, Observe, Replay, SetFollowing, arguments}
@@ -65,8 +65,8 @@ again EndReplay = refl
 again (SetCourse line points) = refl
 again (SetAutoFollow false) = refl
 again (SetAutoFollow true) = refl
-again (Observe line (At lat lon) clock) = refl
-again (Observe line Missing clock) = refl
+again (Observe line (Some x) clock) = refl
+again (Observe line None clock) = refl
 again (Replay point clock) = refl
 again (SetFollowing line false clock) = refl
 again (SetFollowing line true clock) = refl

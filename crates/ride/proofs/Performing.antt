@@ -13,7 +13,7 @@ use lib.ListN.{length, take, drop, get_or, length-drop, drop_of_length-le}
 use lib.Seq.{drop-cons, drop-drop, length-take-le}
 use Rattle.state.specs.declared.Homing.{Homing}
 use Rattle.state.specs.State.{State, state_of}
-use Rattle.course.specs.Fix.{Fix}
+use Rattle.plane.specs.declared.Fix.{Fix}
 use Rattle.course.specs.Course.{fixes}
 use Rattle.course.proofs.Fixes.{length-fixes}
 use Rattle.calls.specs.Calls.{Call, after_call}

@@ -7,8 +7,8 @@ use native.Mathlib.Omega.{arith}
 use lib.IntN.{ℤ, pos}
 use lib.ListN.{length, take, drop, get_or}
 use lib.Signed.{mag}
-use Rattle.state.specs.declared.Place.TheVariants.{At, Missing}
-use Rattle.course.specs.Fix.{Fix}
+use Rattle.std.specs.Prelude.{Some, None}
+use Rattle.plane.specs.declared.Fix.{Fix}
 use Rattle.course.specs.Course.{fixes}
 use Rattle.course.proofs.Fixes.{handed, handed-same}
 use Rattle.ride.specs.Script.{place_in, fix_in}
@@ -42,11 +42,11 @@ part-fixes first count lats lons =
 
 -- ---- the first point
 module _ (lats lons : List ℤ) where
-  pub no_place : length (fixes lats lons) ≡ 0 → place_in (fixes lats lons) ≡ Missing
+  pub no_place : length (fixes lats lons) ≡ 0 → place_in (fixes lats lons) ≡ None
   unfolding fixes place_in
   no_place h = go (fixes lats lons) h
     where
-      go : (l : List Fix) → length l ≡ 0 → place_in l ≡ Missing
+      go : (l : List Fix) → length l ≡ 0 → place_in l ≡ None
       go [] e = refl
       go (x ∷ l) e = absurd (omega arith)
 
@@ -59,12 +59,12 @@ module _ (lats lons : List ℤ) where
       go (x ∷ l) e = absurd (omega arith)
 
   pub first-place : (length (fixes lats lons) ≡ 0 → ⊥) → mag (get_or lats 0 (pos 0)) < 2 ^ 31 → mag (get_or lons 0 (pos 0)) < 2 ^ 31
-      → At (handed (get_or lats 0 (pos 0))) (handed (get_or lons 0 (pos 0))) ≡ place_in (fixes lats lons)
+      → Some (handed (get_or lats 0 (pos 0))) (handed (get_or lons 0 (pos 0))) ≡ place_in (fixes lats lons)
   unfolding fixes place_in
-  first-place h a b = ap₂ At (handed-same _ a) (handed-same _ b) ∙ go lats lons h
+  first-place h a b = ap₂ Some (handed-same _ a) (handed-same _ b) ∙ go lats lons h
     where
       go : (lats lons : List ℤ) → (length (fixes lats lons) ≡ 0 → ⊥)
-          → At (get_or lats 0 (pos 0)) (get_or lons 0 (pos 0)) ≡ place_in (fixes lats lons)
+          → Some (get_or lats 0 (pos 0)) (get_or lons 0 (pos 0)) ≡ place_in (fixes lats lons)
       go [] lons e = absurd (e refl)
       go (lat ∷ lats) [] e = absurd (e refl)
       go (lat ∷ lats) (lon ∷ lons) e = refl

@@ -5,8 +5,8 @@ use mathlib.Core.List.{List}
 use native.Mathlib.Omega.{arith}
 use lib.Ieee.{Float}
 use Rattle.state.specs.declared.Homing.{Homing}
-use Rattle.state.specs.declared.Place.{Place}
-use Rattle.course.specs.Fix.{Fix}
+use Rattle.std.specs.Prelude.{Option}
+use Rattle.plane.specs.declared.Fix.{Fix}
 use Rattle.calls.specs.Calls.{SetCourse, Observe, Replay}
 use Rattle.calls.specs.Promises.{Called}
 use Rattle.ride.specs.Script.{call_of}
@@ -22,7 +22,7 @@ module _ {h r : Homing} {b b' : List Float} where
   by_number clock line points e did = rw e did
 
   -- at a place that is the same
-  pub at_place : {line : List Float} {p q : Place} {clock : ℕ} → p ≡ q → Called (Observe line p clock) h b r b'
+  pub at_place : {line : List Float} {p q : Option Fix} {clock : ℕ} → p ≡ q → Called (Observe line p clock) h b r b'
       → Called (Observe line q clock) h b r b'
   at_place e did = rw (← e) did
 

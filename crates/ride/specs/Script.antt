@@ -1,9 +1,8 @@
 -- A list of calls as it is written down: in slices beside each other one number a call, and one behind the other the numbers of the lines
 -- that are lent and the points of the places and courses.
 use Rattle.std.specs.Prelude.{ℕ, Bool, true, false, ◌&&◌, cond, List, [], ◌∷◌, leb, ℤ, pos, length, take, drop, get_or, Float}
-use Rattle.state.specs.declared.Place.{Place}
-use Rattle.state.specs.declared.Place.TheVariants.{At, Missing}
-use Rattle.course.specs.Fix.{Fix}
+use Rattle.std.specs.Prelude.{Option, Some, None}
+use Rattle.plane.specs.declared.Fix.{Fix}
 use Rattle.course.specs.Course.{fixes}
 use Rattle.calls.specs.Calls as call
 use Rattle.calls.specs.Calls.{Call, Ask, Reset, EndReplay, SetCourse, SetAutoFollow, Observe, Replay, SetFollowing}
@@ -25,9 +24,9 @@ call_entries (op ∷ ops) (clock ∷ clocks) (size ∷ sizes) (count ∷ counts)
     record { op = op; clock = clock; size = size; count = count } ∷ call_entries ops clocks sizes counts
 
 -- the place of `observe` is the first point, and missing where there is none
-unfoldable pub place_in : List Fix → Place
-place_in [] = Missing
-place_in (x ∷ xs) = At x.lat x.lon
+unfoldable pub place_in : List Fix → Option Fix
+place_in [] = None
+place_in (x ∷ xs) = Some x
 
 -- that of `replay` too, which has no missing place
 unfoldable pub fix_in : List Fix → Fix

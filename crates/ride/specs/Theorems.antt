@@ -4,7 +4,7 @@ use Rattle.std.specs.Int.{w8, w32, w64}
 use Rattle.std.proofs.Common.{Fits, SFits}
 use Rattle.std.specs.Float.{binary32}
 use Rattle.std.specs.Float.Ieee.{fits}
-use Rattle.course.specs.Fix.{Fix}
+use Rattle.plane.specs.declared.Fix.{Fix}
 use Rattle.calls.specs.Calls.{Loan, no_buffer, crumb_buffer, line_buffer, both_buffers, line_for_course, Call, arguments}
 use Rattle.ride.specs.Script.{written_calls}
 

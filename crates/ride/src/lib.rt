@@ -10,7 +10,8 @@ ghost use Rattle.ride.specs.Promises.{Rides};
 ghost use Rattle.ride.specs.Inner.{Performs};
 
 use homing::{Changed, Reply};
-use state::{Homing, Place};
+use plane::Fix;
+use state::Homing;
 
 // The calls' numbers; any other is `len`'s.
 const RESET: u8 = 0;
@@ -78,13 +79,16 @@ fn readable(size: usize, count: usize, room: usize, numbers: usize, points: usiz
 }
 
 // The place of `observe`: the first point.
-fn place_in(lats: &[i32], lons: &[i32]) -> Place
+fn place_in(lats: &[i32], lons: &[i32]) -> Option<Fix>
     ensures { result ≡ place_in (fixes lats.now lons.now) }
 {
     if course::count(lats, lons) == 0 {
-        return Place::Missing;
+        return None;
     }
-    Place::At(lats[0], lons[0])
+    Some(Fix {
+        lat: lats[0],
+        lon: lons[0],
+    })
 }
 
 // The line as whoever wrote it left it.
@@ -107,10 +111,10 @@ fn replay(h: Homing, crumbs: &mut [f32], lats: &[i32], lons: &[i32], clock: u64)
         crumbs.new }
 {
     if course::count(lats, lons) == 0 {
-        let r = homing::replay(h, crumbs, 0, 0, clock);
+        let r = homing::replay(h, crumbs, Fix { lat: 0, lon: 0 }, clock);
         return r.homing;
     }
-    let r = homing::replay(h, crumbs, lats[0], lons[0], clock);
+    let r = homing::replay(h, crumbs, Fix { lat: lats[0], lon: lons[0] }, clock);
     r.homing
 }
 

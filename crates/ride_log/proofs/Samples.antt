@@ -4,8 +4,7 @@ use mathlib.Core.Path.{◌≡◌, sym, ap, ◌∙◌}
 use mathlib.Core.List.{List}
 use borrow.Author.Tests.{eq-eqb, ne_eqb, lt-ltb, le-ltb}
 use lib.IntN.{ℤ}
-use Rattle.state.specs.declared.Place.TheVariants as place
-use Rattle.ride_log.specs.declared.Utc.TheVariants as utc
+use Rattle.std.specs.Prelude.{Some, None}
 use Rattle.ride_log.specs.declared.Sample.{Sample}
 use Rattle.ride_log.specs.Entry.{byte_at, u64_at, i32_at, count_of, sample_start, has_place, has_utc, place_at, utc_at, sample_at}
 use Rattle.ride_log.specs.Entry.{no_sample}
@@ -13,19 +12,19 @@ use Rattle.ride_log.specs.Entry.{sample_of}
 
 module _ (f : List ℕ) (at : ℕ) {n : ℕ} (flags : n ≡ byte_at f at) where
   pub place-there : {lat lon : ℤ} → n % 2 ≡ 1 → lat ≡ i32_at f (at + 4) → lon ≡ i32_at f (at + 8)
-      → place.At lat lon ≡ place_at (has_place (byte_at f at)) f at
+      → Some lat lon ≡ place_at (has_place (byte_at f at)) f at
   unfolding place_at has_place
   place-there h x y = rw (← flags, eq-eqb (n % 2) 1 h, x, y)
 
-  pub place-missing : (n % 2 ≡ 1 → ⊥) → place.Missing ≡ place_at (has_place (byte_at f at)) f at
+  pub place-missing : (n % 2 ≡ 1 → ⊥) → None ≡ place_at (has_place (byte_at f at)) f at
   unfolding place_at has_place
   place-missing h = rw (← flags, ne_eqb (n % 2) 1 h)
 
-  pub utc-there : {ms : ℕ} → n / 2 % 2 ≡ 1 → ms ≡ u64_at f (at + 12) → utc.At ms ≡ utc_at (has_utc (byte_at f at)) f at
+  pub utc-there : {ms : ℕ} → n / 2 % 2 ≡ 1 → ms ≡ u64_at f (at + 12) → Some ms ≡ utc_at (has_utc (byte_at f at)) f at
   unfolding utc_at has_utc
   utc-there h x = rw (← flags, eq-eqb (n / 2 % 2) 1 h, x)
 
-  pub utc-unknown : (n / 2 % 2 ≡ 1 → ⊥) → utc.Unknown ≡ utc_at (has_utc (byte_at f at)) f at
+  pub utc-unknown : (n / 2 % 2 ≡ 1 → ⊥) → None ≡ utc_at (has_utc (byte_at f at)) f at
   unfolding utc_at has_utc
   utc-unknown h = rw (← flags, ne_eqb (n / 2 % 2) 1 h)
 

@@ -1,14 +1,11 @@
 -- The chain file. Document 01, "Entry". A file is the list of its bytes, each 0 to 255; what lies behind the last one counts as 0.
 use Rattle.std.specs.Prelude.{ℕ, zero, suc, ◌+◌, ◌-◌, ◌*◌, ◌/◌, ◌%◌, ◌^◌, Bool, true, false, cond, List, [], ◌∷◌, map, ltb, eqb, ℤ, pos}
 use Rattle.std.specs.Prelude.{neg_ℤ, length, get_or, take}
-use Rattle.std.proofs.Math.Option.{Option}
+use Rattle.std.specs.Prelude.{Option, Some, None}
+use Rattle.plane.specs.declared.Fix.{Fix}
 use Rattle.std.proofs.Math.ListN.{get_elem?}
-use Rattle.state.specs.declared.Place.{Place}
-use Rattle.state.specs.declared.Place.TheVariants as place
 use Rattle.ride_log.specs.declared.Kind.{Kind}
 use Rattle.ride_log.specs.declared.Kind.TheVariants.{Start, Samples, Pause, Resume, Finish, Recovered, Full}
-use Rattle.ride_log.specs.declared.Utc.{Utc}
-use Rattle.ride_log.specs.declared.Utc.TheVariants as utc
 use Rattle.ride_log.specs.declared.Sample.{Sample}
 use Rattle.ride_log.specs.declared.Entry.{Entry}
 
@@ -63,20 +60,20 @@ unfoldable pub has_utc : ℕ → Bool
 has_utc flags = eqb (flags / 2 % 2) 1
 
 -- "nor the places or UTC a flag lacks"
-unfoldable pub place_at : Bool → List ℕ → ℕ → Place
-place_at true f at = place.At (i32_at f (at + 4)) (i32_at f (at + 8))
-place_at false f at = place.Missing
+unfoldable pub place_at : Bool → List ℕ → ℕ → Option Fix
+place_at true f at = Some (record { lat = i32_at f (at + 4); lon = i32_at f (at + 8) })
+place_at false f at = None
 
-unfoldable pub utc_at : Bool → List ℕ → ℕ → Utc
-utc_at true f at = utc.At (u64_at f (at + 12))
-utc_at false f at = utc.Unknown
+unfoldable pub utc_at : Bool → List ℕ → ℕ → Option ℕ
+utc_at true f at = Some (u64_at f (at + 12))
+utc_at false f at = None
 
 unfoldable pub sample_at : List ℕ → ℕ → Sample
 sample_at f at = record { place = place_at (has_place (byte_at f at)) f at; utc = utc_at (has_utc (byte_at f at)) f at }
 
 -- "Samples past count aren't read"
 unfoldable pub no_sample : Sample
-no_sample = record { place = place.Missing; utc = utc.Unknown }
+no_sample = record { place = None; utc = None }
 
 unfoldable pub sample_of : List ℕ → ℕ → ℕ → Sample
 sample_of f r k = cond (ltb k (count_of f r)) (sample_at f (sample_start r k)) no_sample

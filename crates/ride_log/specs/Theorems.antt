@@ -1,8 +1,6 @@
 -- What holds of the rules for every file. `proofs/Theorems.antt` proves it.
-use Rattle.std.specs.Prelude.{ℕ, zero, suc, ◌+◌, ◌*◌, ◌≤◌, ◌<◌, ◌≡◌, true, false, List, [], ◌∷◌, ◌++◌, pos, length, replicate}
-use Rattle.state.specs.declared.Place.TheVariants as place
+use Rattle.std.specs.Prelude.{ℕ, zero, suc, ◌+◌, ◌*◌, ◌≤◌, ◌<◌, ◌≡◌, true, false, List, [], ◌∷◌, ◌++◌, pos, length, replicate, Some, None}
 use Rattle.ride_log.specs.declared.Kind.TheVariants.{Samples}
-use Rattle.ride_log.specs.declared.Utc.TheVariants as utc
 use Rattle.ride_log.specs.declared.Sample.{Sample}
 use Rattle.ride_log.specs.Entry.{byte_at, record_count, next_of, count_of, sample_start, has_place, has_utc, no_sample, recovered, chain}
 use Rattle.ride_log.specs.Entry.{entries}
@@ -67,7 +65,7 @@ example =
     ++ 1 ∷ replicate 59 0
 
 abbrev pub origin : Sample
-origin = record { place = place.At (pos 0) (pos 0); utc = utc.Unknown }
+origin = record { place = Some (record { lat = pos 0; lon = pos 0 }); utc = None }
 
 pub record Example : Type 0 where
   pub accepted : asks_file example ≡ 0

@@ -9,7 +9,7 @@ ghost use Rattle.ride_log.specs.Questions.{asks_entry, asks_record, asks_records
 
 use crate::RECORD;
 use questions::globe;
-use state::Place;
+use plane::Fix;
 
 // The samples of an entry.
 const SAMPLES: u8 = 4;
@@ -19,12 +19,12 @@ const MOST: usize = 682;
 
 // ---- the questions put to an entry
 
-fn asks_place(place: Place) -> u8
+fn asks_place(place: Option<Fix>) -> u8
     ensures { result ≡ asks_place place }
 {
     match place {
-        Place::At(lat, lon) => globe::asks_fix(lat, lon),
-        Place::Missing => 0,
+        Some(fix) => globe::asks_fix(fix),
+        None => 0,
     }
 }
 

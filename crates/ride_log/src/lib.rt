@@ -10,7 +10,7 @@ ghost use Rattle.ride_log.specs.Entry.{sample_start};
 ghost use Rattle.ride_log.specs.Entry.{kind_of, has_place, has_utc, place_at, utc_at, sample_at, sample_of, samples_of, entry_at};
 ghost use Rattle.ride_log.specs.Entry.{recovered as recovered_of};
 
-use state::Place;
+use plane::Fix;
 
 // What an entry is, 1 to 7.
 #[derive(Clone, Copy)]
@@ -24,17 +24,10 @@ pub enum Kind {
     Full,
 }
 
-// A time of day, where it is known.
-#[derive(Clone, Copy)]
-pub enum Utc {
-    At(u64),
-    Unknown,
-}
-
 #[derive(Clone, Copy)]
 pub struct Sample {
-    pub place: Place,
-    pub utc: Utc,
+    pub place: Option<Fix>,
+    pub utc: Option<u64>,
 }
 
 // An entry carries four samples, of which `count` are used.
@@ -161,24 +154,27 @@ fn kind_of(number: u8) -> Kind
 
 // ---- samples
 
-fn place_at(file: &[u8], at: usize) -> Place
+fn place_at(file: &[u8], at: usize) -> Option<Fix>
     requires { at < 2 ^ 40 }
     ensures { result ≡ place_at (has_place (byte_at file.now at)) file.now at }
 {
     if byte_at(file, at) % 2 == 1 {
-        return Place::At(i32_at(file, at + 4), i32_at(file, at + 8));
+        return Some(Fix {
+            lat: i32_at(file, at + 4),
+            lon: i32_at(file, at + 8),
+        });
     }
-    Place::Missing
+    None
 }
 
-fn utc_at(file: &[u8], at: usize) -> Utc
+fn utc_at(file: &[u8], at: usize) -> Option<u64>
     requires { at < 2 ^ 40 }
     ensures { result ≡ utc_at (has_utc (byte_at file.now at)) file.now at }
 {
     if byte_at(file, at) / 2 % 2 == 1 {
-        return Utc::At(u64_at(file, at + 12));
+        return Some(u64_at(file, at + 12));
     }
-    Utc::Unknown
+    None
 }
 
 fn sample_at(file: &[u8], at: usize) -> Sample
@@ -200,7 +196,7 @@ fn sample_start(index: u32, k: u8) -> usize
 }
 
 // The place of sample `k`.
-fn place_of(file: &[u8], index: u32, k: u8) -> Place
+fn place_of(file: &[u8], index: u32, k: u8) -> Option<Fix>
     requires { k < 4 }
     ensures { result ≡ (sample_at file.now (sample_start index k)).place }
 {
@@ -216,8 +212,8 @@ fn sample_of(file: &[u8], index: u32, k: u8) -> Sample
         return sample_at(file, sample_start(index, k));
     }
     Sample {
-        place: Place::Missing,
-        utc: Utc::Unknown,
+        place: None,
+        utc: None,
     }
 }
 

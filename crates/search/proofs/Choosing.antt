@@ -10,12 +10,7 @@ use lib.Ieee.{Float, lt, le}
 use Rattle.plane.specs.declared.Point.{Point}
 use Rattle.crumbs.specs.declared.Crumb.{Crumb}
 use Rattle.segments.specs.declared.costs.Nearest.{Nearest}
-use Rattle.segments.specs.declared.costs.Cost.{Cost}
-use Rattle.segments.specs.declared.costs.Cost.TheVariants.{Out, Metres}
-use Rattle.segments.specs.declared.Best.{Best}
-use Rattle.segments.specs.declared.Best.TheVariants.{Found}
-use Rattle.segments.specs.declared.SoFar.{SoFar}
-use Rattle.segments.specs.declared.SoFar.TheVariants.{Empty, Least}
+use Rattle.std.specs.Prelude.{Option, Some, None, Float}
 use Rattle.search.specs.declared.Range.{Range}
 use Rattle.segments.specs.Segment.{meets, nearest_on, cheaper, considered, found}
 use Rattle.search.specs.Search.{rising, falling, count}
@@ -23,32 +18,32 @@ use Rattle.search.specs.Theorems.{Met, FirstOfLeast, Finds}
 use Rattle.binary32.proofs.roots.Order.{not-less, lt_irrefl, le-lt}
 
 -- whatever is found is where p meets a segment tried
-abbrev pub OnlyMet : List Crumb → Point → Range → Best → Type 0
-OnlyMet line p ends best = (near : Nearest) → best ≡ Found near → Met line p ends near
+abbrev pub OnlyMet : List Crumb → Point → Range → Option Nearest → Type 0
+OnlyMet line p ends best = (near : Nearest) → best ≡ Some near → Met line p ends near
 
 -- a test that cannot pass
 refuted : (b : Bool) → (b ≡ true → ⊥) → b ≡ false
 refuted true wrong = absurd (wrong refl)
 refuted false wrong = refl
 
-module _ (line : List Crumb) (p : Point) (cost : ℕ → Cost) (earlier : ℕ → ℕ → Type 0)
+module _ (line : List Crumb) (p : Point) (cost : ℕ → Option Float) (earlier : ℕ → ℕ → Type 0)
     (one_way : (e f : ℕ) → earlier e f → earlier f e → ⊥) where
   pub record Leads (done : ℕ → Type 0) (near : Nearest) (least : Float) : Type 0 where
     pub among : done near.end
     pub there : near ≡ nearest_on line p near.end
-    pub own : cost near.end ≡ Metres least
-    pub none-less : (e : ℕ) (c : Float) → done e → cost e ≡ Metres c → lt c least ≡ false
-    pub first : (e : ℕ) (c : Float) → done e → earlier e near.end → cost e ≡ Metres c → le c least ≡ false
+    pub own : cost near.end ≡ Some least
+    pub none-less : (e : ℕ) (c : Float) → done e → cost e ≡ Some c → lt c least ≡ false
+    pub first : (e : ℕ) (c : Float) → done e → earlier e near.end → cost e ≡ Some c → le c least ≡ false
 
   -- of the ends done; while nothing is chosen, none of them has a cost
-  abbrev pub Chosen : (ℕ → Type 0) → SoFar → Type 0
-  Chosen done Empty = (e : ℕ) (c : Float) → done e → cost e ≡ Metres c → ⊥
-  Chosen done (Least near least) = Leads done near least
+  abbrev pub Chosen : (ℕ → Type 0) → Option (Nearest × Float) → Type 0
+  Chosen done None = (e : ℕ) (c : Float) → done e → cost e ≡ Some c → ⊥
+  Chosen done (Some (near, least)) = Leads done near least
 
-  chosen-same : (done done' : ℕ → Type 0) → ((e : ℕ) → done e → done' e) → ((e : ℕ) → done' e → done e) → (best : SoFar) → Chosen done best
+  chosen-same : (done done' : ℕ → Type 0) → ((e : ℕ) → done e → done' e) → ((e : ℕ) → done' e → done e) → (best : Option (Nearest × Float)) → Chosen done best
       → Chosen done' best
-  chosen-same done done' to from Empty h = λ e c d. h e c (from e d)
-  chosen-same done done' to from (Least near least) h =
+  chosen-same done done' to from None h = λ e c d. h e c (from e d)
+  chosen-same done done' to from (Some (near, least)) h =
       record {
         among = to _ h.among;
         there = h.there;
@@ -60,15 +55,15 @@ module _ (line : List Crumb) (p : Point) (cost : ℕ → Cost) (earlier : ℕ �
   -- one more end
   module _ (done done' : ℕ → Type 0) (end : ℕ) (more : (e : ℕ) → done e → done' e) (last : done' end)
       (either : (e : ℕ) → done' e → done e ⊎ (e ≡ end)) (later : (e : ℕ) → done e → earlier e end) where
-    out : (best : SoFar) → cost end ≡ Out → Chosen done best → Chosen done' best
+    out : (best : Option (Nearest × Float)) → cost end ≡ None → Chosen done best → Chosen done' best
     out best k = chosen-out best
       where
-        none : {A : Type 0} (e : ℕ) (c : Float) → e ≡ end → cost e ≡ Metres c → A
-        none e c f g = let h : Metres c ≡ Out = sym g ∙ (ap cost f ∙ k) in let z : ◌≡◌ {A = ℕ} 0 1 = cc in absurd (omega arith)
+        none : {A : Type 0} (e : ℕ) (c : Float) → e ≡ end → cost e ≡ Some c → A
+        none e c f g = let h : Some c ≡ None = sym g ∙ (ap cost f ∙ k) in let z : ◌≡◌ {A = ℕ} 0 1 = cc in absurd (omega arith)
 
-        chosen-out : (best : SoFar) → Chosen done best → Chosen done' best
-        chosen-out Empty h = λ e c d g. elim (either e d) [ inl x ↦ h e c x g | inr x ↦ none e c x g ]
-        chosen-out (Least near least) h =
+        chosen-out : (best : Option (Nearest × Float)) → Chosen done best → Chosen done' best
+        chosen-out None h = λ e c d g. elim (either e d) [ inl x ↦ h e c x g | inr x ↦ none e c x g ]
+        chosen-out (Some (near, least)) h =
             record {
               among = more _ h.among;
               there = h.there;
@@ -78,18 +73,18 @@ module _ (line : List Crumb) (p : Point) (cost : ℕ → Cost) (earlier : ℕ �
             }
 
     -- the end has the cost c₀, and is chosen where nothing was or the best so far costs more
-    module _ (c₀ : Float) (k : cost end ≡ Metres c₀) where
-      same : (e : ℕ) (c : Float) → e ≡ end → cost e ≡ Metres c → c ≡ c₀
-      same e c f g = let h : Metres c ≡ Metres c₀ = sym g ∙ (ap cost f ∙ k) in cc
+    module _ (c₀ : Float) (k : cost end ≡ Some c₀) where
+      same : (e : ℕ) (c : Float) → e ≡ end → cost e ≡ Some c → c ≡ c₀
+      same e c f g = let h : Some c ≡ Some c₀ = sym g ∙ (ap cost f ∙ k) in cc
 
-      itself : (e : ℕ) (c : Float) → e ≡ end → cost e ≡ Metres c → lt c c₀ ≡ false
+      itself : (e : ℕ) (c : Float) → e ≡ end → cost e ≡ Some c → lt c c₀ ≡ false
       itself e c f g = ap (λ x. lt x c₀) (same e c f g) ∙ lt_irrefl c₀
 
       not_earlier : {A : Type 0} (e : ℕ) → e ≡ end → earlier e end → A
       not_earlier e f r = let s : earlier end end = subst (λ x. earlier x end) f r in absurd (one_way end end s s)
 
       -- no end done costs as little as c₀
-      leads : ((e : ℕ) (c : Float) → done e → cost e ≡ Metres c → le c c₀ ≡ false) → Leads done' (nearest_on line p end) c₀
+      leads : ((e : ℕ) (c : Float) → done e → cost e ≡ Some c → le c c₀ ≡ false) → Leads done' (nearest_on line p end) c₀
       unfolding nearest_on meets
       leads over =
           record {
@@ -112,26 +107,26 @@ module _ (line : List Crumb) (p : Point) (cost : ℕ → Cost) (earlier : ℕ �
             first = λ e c d r g. elim (either e d) [ inl x ↦ h.first e c x r g | inr x ↦ absurd (one_way e near.end r (after e x)) ];
           }
 
-      chosen : (best : SoFar) → Chosen done best → Chosen done' (cheaper best (nearest_on line p end) (Metres c₀))
+      chosen : (best : Option (Nearest × Float)) → Chosen done best → Chosen done' (cheaper best (nearest_on line p end) (Some c₀))
       unfolding cheaper
-      chosen Empty h = leads (λ e c d g. absurd (h e c d g))
-      chosen (Least near least) h = by-test (lt c₀ least) refl
+      chosen None h = leads (λ e c d g. absurd (h e c d g))
+      chosen (Some (near, least)) h = by-test (lt c₀ least) refl
         where
-          by-test : (b : Bool) → lt c₀ least ≡ b → Chosen done' (cond b (Least (nearest_on line p end) c₀) (Least near least))
+          by-test : (b : Bool) → lt c₀ least ≡ b → Chosen done' (cond b (Some ((nearest_on line p end), c₀)) (Some (near, least)))
           by-test true t =
               leads (λ e c d g. refuted (le c c₀) (λ u. absurd (true≢false (sym (le-lt c c₀ least u t) ∙ h.none-less e c d g))))
           by-test false t = keeps near least t h
 
-    next : (best : SoFar) → Chosen done best → Chosen done' (considered line p cost end best)
+    next : (best : Option (Nearest × Float)) → Chosen done best → Chosen done' (considered line p cost end best)
     unfolding considered cheaper
     next best h = at-cost (cost end) refl
       where
-        at-cost : (k : Cost) → cost end ≡ k → Chosen done' (cheaper best (nearest_on line p end) k)
-        at-cost Out e = out best e h
-        at-cost (Metres c) e = chosen c e best h
+        at-cost : (k : Option Float) → cost end ≡ k → Chosen done' (cheaper best (nearest_on line p end) k)
+        at-cost None e = out best e h
+        at-cost (Some c) e = chosen c e best h
 
   -- ---- all ends
-  rising-chosen : (from left end : ℕ) (best : SoFar) → from ≤ end → ((e f : ℕ) → e < f → earlier e f)
+  rising-chosen : (from left end : ℕ) (best : Option (Nearest × Float)) → from ≤ end → ((e f : ℕ) → e < f → earlier e f)
       → Chosen (λ e. (from ≤ e) × (e < end)) best
       → Chosen (λ e. (from ≤ e) × (e < end + left)) (rising (considered line p cost) left end best)
   unfolding rising
@@ -143,7 +138,7 @@ module _ (line : List Crumb) (p : Point) (cost : ℕ → Cost) (earlier : ℕ �
       (next (λ e. (from ≤ e) × (e < end)) (λ e. (from ≤ e) × (e < end + 1)) end (λ e d. (d.0, omega (arith, d.1))) (h, omega arith)
       (λ e d. elim (ℕ_discrete e end) [ yes q ↦ inr q | no q ↦ inl (d.0, omega (arith, d.1)) ]) (λ e d. o e end d.1) best v))
 
-  falling-chosen : (to left end : ℕ) (best : SoFar) → end ≤ to → left ≤ end → ((e f : ℕ) → f < e → earlier e f)
+  falling-chosen : (to left end : ℕ) (best : Option (Nearest × Float)) → end ≤ to → left ≤ end → ((e f : ℕ) → f < e → earlier e f)
       → Chosen (λ e. (end < e) × (e ≤ to)) best → Chosen (λ e. (end < e + left) × (e ≤ to)) (falling (considered line p cost) left end best)
   unfolding falling
   falling-chosen to zero end best h l o v = chosen-same _ _ (λ e d. (omega (arith, d.0), d.1)) (λ e d. (omega (arith, d.0), d.1)) best v
@@ -159,26 +154,26 @@ module _ (line : List Crumb) (p : Point) (cost : ℕ → Cost) (earlier : ℕ �
   Tried ends e = (ends.from ≤ e) × (e ≤ ends.to)
 
   pub rising-all : ((e f : ℕ) → e < f → earlier e f) → (ends : Range)
-      → Chosen (Tried ends) (rising (considered line p cost) (count ends) ends.from Empty)
+      → Chosen (Tried ends) (rising (considered line p cost) (count ends) ends.from None)
   rising-all o ends =
       chosen-same _ _ (λ e d. (d.0, omega (arith, d.0, d.1))) (λ e d. (d.0, omega (arith, d.0, d.1)))
-      (rising (considered line p cost) (count ends) ends.from Empty)
-      (rising-chosen ends.from (count ends) ends.from Empty (omega arith) o (λ e c d g. absurd (omega (arith, d.0, d.1))))
+      (rising (considered line p cost) (count ends) ends.from None)
+      (rising-chosen ends.from (count ends) ends.from None (omega arith) o (λ e c d g. absurd (omega (arith, d.0, d.1))))
 
   pub falling-all : ((e f : ℕ) → f < e → earlier e f) → (ends : Range) → 1 ≤ ends.from
-      → Chosen (Tried ends) (falling (considered line p cost) (count ends) ends.to Empty)
+      → Chosen (Tried ends) (falling (considered line p cost) (count ends) ends.to None)
   falling-all o ends h =
       chosen-same _ _ (λ e d. (omega (arith, d.0, d.1), d.1)) (λ e d. (omega (arith, d.0, d.1), d.1))
-      (falling (considered line p cost) (count ends) ends.to Empty)
-      (falling-chosen ends.to (count ends) ends.to Empty (omega arith) (omega arith) o
+      (falling (considered line p cost) (count ends) ends.to None)
+      (falling-chosen ends.to (count ends) ends.to None (omega arith) (omega arith) o
       (λ e c d g. absurd (omega (arith, d.0, d.1))))
 
   module _ (ends : Range) where
-    pub chosen-met : (best : SoFar) → Chosen (Tried ends) best → (near : Nearest) → found best ≡ Found near
+    pub chosen-met : (best : Option (Nearest × Float)) → Chosen (Tried ends) best → (near : Nearest) → found best ≡ Some near
         → Met line p ends near × ((least : Float) × FirstOfLeast cost earlier ends near.end least)
     unfolding found
-    chosen-met Empty v near e = let z : ◌≡◌ {A = ℕ} 0 1 = cc in absurd (omega arith)
-    chosen-met (Least near least) v other e =
+    chosen-met None v near e = let z : ◌≡◌ {A = ℕ} 0 1 = cc in absurd (omega arith)
+    chosen-met (Some (near, least)) v other e =
         let f : near ≡ other = cc in
         subst (λ n. Met line p ends n × ((least : Float) × FirstOfLeast cost earlier ends n.end least)) f (
           record { from = v.among.0; to = v.among.1; there = v.there },
@@ -188,8 +183,8 @@ module _ (line : List Crumb) (p : Point) (cost : ℕ → Cost) (earlier : ℕ �
           ),
         )
 
-    pub chosen-finds : (best : SoFar) → Chosen (Tried ends) best → (e : ℕ) (c : Float) → Tried ends e → cost e ≡ Metres c
+    pub chosen-finds : (best : Option (Nearest × Float)) → Chosen (Tried ends) best → (e : ℕ) (c : Float) → Tried ends e → cost e ≡ Some c
         → Finds (found best)
     unfolding found
-    chosen-finds Empty v e c t k = absurd (v e c t k)
-    chosen-finds (Least near least) v e c t k = (near, refl)
+    chosen-finds None v e c t k = absurd (v e c t k)
+    chosen-finds (Some (near, least)) v e c t k = (near, refl)

@@ -6,36 +6,35 @@ use native.Mathlib.Omega.{arith}
 use Rattle.plane.specs.declared.Point.{Point}
 use Rattle.crumbs.specs.declared.Crumb.{Crumb}
 use Rattle.search.specs.declared.Range.{Range}
-use Rattle.segments.specs.declared.SoFar.{SoFar}
-use Rattle.segments.specs.declared.SoFar.TheVariants.{Empty}
-use Rattle.segments.specs.declared.Best.{Best}
+use Rattle.std.specs.Prelude.{Option, None}
+use Rattle.segments.specs.declared.costs.Nearest.{Nearest}
 use Rattle.segments.specs.declared.Stretch.{Stretch}
 use Rattle.segments.specs.declared.costs.Ranking.TheVariants.{Plain}
 use Rattle.segments.specs.Segment.{considered, cost_within, found}
 use Rattle.search.specs.Search.{rising, falling, count, anywhere, nearest_on_breadcrumb}
 
 -- ends rise: those from `end` on are left
-pub record Rises (consider : ℕ → SoFar → SoFar) (ends : Range) (best : SoFar) (end : ℕ) : Type 0 where
-  pub same : rising consider (ends.to + 1 - end) end best ≡ rising consider (count ends) ends.from Empty
+pub record Rises (consider : ℕ → Option (Nearest × Float) → Option (Nearest × Float)) (ends : Range) (best : Option (Nearest × Float)) (end : ℕ) : Type 0 where
+  pub same : rising consider (ends.to + 1 - end) end best ≡ rising consider (count ends) ends.from None
   pub from : ends.from ≤ end
 
 -- ends fall: those from `end` down are left
-pub record Falls (consider : ℕ → SoFar → SoFar) (ends : Range) (best : SoFar) (end : ℕ) : Type 0 where
-  pub same : falling consider (end + 1 - ends.from) end best ≡ falling consider (count ends) ends.to Empty
+pub record Falls (consider : ℕ → Option (Nearest × Float) → Option (Nearest × Float)) (ends : Range) (best : Option (Nearest × Float)) (end : ℕ) : Type 0 where
+  pub same : falling consider (end + 1 - ends.from) end best ≡ falling consider (count ends) ends.to None
   pub upto : end ≤ ends.to
 
-module _ {consider : ℕ → SoFar → SoFar} {ends : Range} where
-  pub rises-start : Rises consider ends Empty ends.from
+module _ {consider : ℕ → Option (Nearest × Float) → Option (Nearest × Float)} {ends : Range} where
+  pub rises-start : Rises consider ends None ends.from
   rises-start = record { same = refl; from = omega arith }
 
-  pub falls-start : Falls consider ends Empty ends.to
+  pub falls-start : Falls consider ends None ends.to
   falls-start = record { same = refl; upto = omega arith }
 
-  pub falls-from : {end : ℕ} → end ≡ ends.to → Falls consider ends Empty end
-  falls-from e = record { same = ap (λ k. falling consider (k + 1 - ends.from) k Empty) e; upto = omega arith }
+  pub falls-from : {end : ℕ} → end ≡ ends.to → Falls consider ends None end
+  falls-from e = record { same = ap (λ k. falling consider (k + 1 - ends.from) k None) e; upto = omega arith }
 
-  module _ {best : SoFar} {end : ℕ} where
-    pub rises-on : {next : SoFar} → Rises consider ends best end → end ≤ ends.to → next ≡ consider end best
+  module _ {best : Option (Nearest × Float)} {end : ℕ} where
+    pub rises-on : {next : Option (Nearest × Float)} → Rises consider ends best end → end ≤ ends.to → next ≡ consider end best
         → Rises consider ends next (end + 1)
     unfolding rising
     rises-on v more e =
@@ -47,13 +46,13 @@ module _ {consider : ℕ → SoFar → SoFar} {ends : Range} where
           from = omega (arith, v.from);
         }
 
-    pub rises-out : Rises consider ends best end → ends.to < end → best ≡ rising consider (count ends) ends.from Empty
+    pub rises-out : Rises consider ends best end → ends.to < end → best ≡ rising consider (count ends) ends.from None
     unfolding rising
     rises-out v past =
         let n : ends.to + 1 - end ≡ zero = omega arith in
         sym (ap (λ k. rising consider k end best) n) ∙ v.same
 
-    pub falls-on : {next : SoFar} → Falls consider ends best end → 1 ≤ ends.from → ends.from ≤ end → next ≡ consider end best
+    pub falls-on : {next : Option (Nearest × Float)} → Falls consider ends best end → 1 ≤ ends.from → ends.from ≤ end → next ≡ consider end best
         → Falls consider ends next (end - 1)
     unfolding falling
     falls-on v first more e =
@@ -65,16 +64,16 @@ module _ {consider : ℕ → SoFar → SoFar} {ends : Range} where
           upto = omega (arith, v.upto);
         }
 
-    pub falls_out : Falls consider ends best end → end < ends.from → best ≡ falling consider (count ends) ends.to Empty
+    pub falls_out : Falls consider ends best end → end < ends.from → best ≡ falling consider (count ends) ends.to None
     unfolding falling
     falls_out v past =
         let n : end + 1 - ends.from ≡ zero = omega arith in
         sym (ap (λ k. falling consider k end best) n) ∙ v.same
 
 -- what the ends of a breadcrumb give, on a stretch that is all of f32's range
-pub breadcrumb-is : (line : List Crumb) (p : Point) (ends : Range) {within : Stretch} {r : Best}
-    → r ≡ found (rising (considered line p (cost_within line p within Plain)) (count ends) ends.from Empty) → within ≡ anywhere
+pub breadcrumb-is : (line : List Crumb) (p : Point) (ends : Range) {within : Stretch} {r : Option Nearest}
+    → r ≡ found (rising (considered line p (cost_within line p within Plain)) (count ends) ends.from None) → within ≡ anywhere
     → r ≡ nearest_on_breadcrumb line p ends
 unfolding nearest_on_breadcrumb
 breadcrumb-is line p ends R W =
-    R ∙ ap (λ w. found (rising (considered line p (cost_within line p w Plain)) (count ends) ends.from Empty)) W
+    R ∙ ap (λ w. found (rising (considered line p (cost_within line p w Plain)) (count ends) ends.from None)) W

@@ -13,15 +13,11 @@ use Rattle.plane.specs.declared.Point.{Point}
 use Rattle.plane.specs.Plane.{turn}
 use Rattle.crumbs.specs.declared.Crumb.{Crumb}
 use Rattle.segments.specs.declared.costs.Nearest.{Nearest}
-use Rattle.segments.specs.declared.costs.Cost.TheVariants.{Metres}
+use Rattle.std.specs.Prelude.{Option, Some, None}
 use Rattle.segments.specs.declared.costs.Ranking.{Ranking}
 use Rattle.segments.specs.declared.costs.Ranking.TheVariants.{Plain}
-use Rattle.segments.specs.declared.Best.{Best}
-use Rattle.segments.specs.declared.Best.TheVariants.{Nothing, Found}
-use Rattle.segments.specs.declared.SoFar.TheVariants.{Empty}
 use Rattle.search.specs.declared.Range.{Range}
 use Rattle.segments.specs.declared.Stretch.{Stretch}
-use Rattle.search.specs.declared.Join.TheVariants.{Segment}
 use Rattle.segments.specs.Turn.{turned}
 use Rattle.segments.specs.Cost.{plain, cost_of}
 use Rattle.segments.specs.Line.{at}
@@ -47,7 +43,7 @@ higher-one-way e f a b = omega arith
 module _ (line : List Crumb) (p : Point) where
   -- ---- the two searches
   module _ (ends : Range) where
-    breadcrumb : (near : Nearest) → nearest_on_breadcrumb line p ends ≡ Found near
+    breadcrumb : (near : Nearest) → nearest_on_breadcrumb line p ends ≡ Some near
         → Met line p ends near × ((least : Float) × FirstOfLeast (cost_within line p anywhere Plain) Lower ends near.end least)
     unfolding nearest_on_breadcrumb
     breadcrumb =
@@ -58,7 +54,7 @@ module _ (line : List Crumb) (p : Point) where
     breadcrumb-met near e = (breadcrumb near e).0
 
     module _ (first : 1 ≤ ends.from) (within : Stretch) (by : Ranking) where
-      course : (near : Nearest) → nearest_within line p ends within by ≡ Found near
+      course : (near : Nearest) → nearest_within line p ends within by ≡ Some near
           → Met line p ends near × ((least : Float) × FirstOfLeast (cost_within line p within by) Higher ends near.end least)
       unfolding nearest_within
       course =
@@ -69,42 +65,42 @@ module _ (line : List Crumb) (p : Point) where
       within-met near e = (course near e).0
 
   -- ---- the course while it is not followed
-  closer-than : (most : Float) (best : Best) (near : Nearest) → closer most best ≡ Found near
-      → (best ≡ Found near) × (le near.off most ≡ true)
+  closer-than : (most : Float) (best : Option Nearest) (near : Nearest) → closer most best ≡ Some near
+      → (best ≡ Some near) × (le near.off most ≡ true)
   unfolding closer
-  closer-than most Nothing near e = let z : ◌≡◌ {A = ℕ} 0 1 = cc in absurd (omega arith)
-  closer-than most (Found other) near e = by-test (le other.off most) refl e
+  closer-than most None near e = let z : ◌≡◌ {A = ℕ} 0 1 = cc in absurd (omega arith)
+  closer-than most (Some other) near e = by-test (le other.off most) refl e
     where
-      by-test : (b : Bool) → le other.off most ≡ b → cond b (Found other) Nothing ≡ Found near
-          → (Found other ≡ Found near) × (le near.off most ≡ true)
+      by-test : (b : Bool) → le other.off most ≡ b → cond b (Some other) None ≡ Some near
+          → (Some other ≡ Some near) × (le near.off most ≡ true)
       by-test true t f = let g : other ≡ near = cc in (f, ap (λ n. le n.off most) (sym g) ∙ t)
       by-test false t f = let z : ◌≡◌ {A = ℕ} 0 1 = cc in absurd (omega arith)
 
   -- a segment of the line, at most so far away
-  pub course-near-met : (most : Float) (near : Nearest) → course_near line p most ≡ Found near
+  pub course-near-met : (most : Float) (near : Nearest) → course_near line p most ≡ Some near
       → Met line p (every line) near × (le near.off most ≡ true)
   unfolding course_near
   course-near-met most near e =
       let f = closer-than most
-      (found (falling (considered line p (cost_anywhere line p)) (count (every line)) (every line).to Empty)) near e in (
+      (found (falling (considered line p (cost_anywhere line p)) (count (every line)) (every line).to None)) near e in (
         (chosen-met line p (cost_anywhere line p) Higher higher-one-way (every line) _
             (falling-all line p (cost_anywhere line p) Higher higher-one-way (λ e f h. h) (every line) (omega arith)) near f.0).0,
         f.1,
       )
 
   module _ (heading : ℕ) where
-    joined-from : (end n : ℕ) → joined_from line p heading n ≡ Segment end → (1 ≤ end) × (end ≤ n)
+    joined-from : (end n : ℕ) → joined_from line p heading n ≡ Some end → (1 ≤ end) × (end ≤ n)
     unfolding joined_from
     joined-from end zero e = let z : ◌≡◌ {A = ℕ} 0 1 = cc in absurd (omega arith)
     joined-from end (suc k) e = by-test (joins p heading (at line k) (at line (suc k))) (joined-from end k) e
       where
-        by-test : (b : Bool) → (joined_from line p heading k ≡ Segment end → (1 ≤ end) × (end ≤ k))
-            → elim b [ true ↦ Segment (suc k) | false ↦ joined_from line p heading k ] ≡ Segment end → (1 ≤ end) × (end ≤ suc k)
+        by-test : (b : Bool) → (joined_from line p heading k ≡ Some end → (1 ≤ end) × (end ≤ k))
+            → elim b [ true ↦ Some (suc k) | false ↦ joined_from line p heading k ] ≡ Some end → (1 ≤ end) × (end ≤ suc k)
         by-test true h f = let g : suc k ≡ end = cc in (omega arith, omega arith)
         by-test false h f = let r = h f in (r.0, omega (arith, r.1))
 
     -- the segment joined is one of the line's
-    pub joined_end : (end : ℕ) → joined line p heading ≡ Segment end → (1 ≤ end) × (end < length line)
+    pub joined_end : (end : ℕ) → joined line p heading ≡ Some end → (1 ≤ end) × (end < length line)
     unfolding joined
     joined_end end e = let r = joined-from end (every line).to e in (r.0, omega (arith, r.0, r.1))
 
@@ -135,7 +131,7 @@ module _ (line : List Crumb) (p : Point) (ends : Range) (end : ℕ) (from : ends
       → Finds (nearest_on_breadcrumb line p ends)
   unfolding nearest_on_breadcrumb cost_within cost_of plain
   breadcrumb-finds low high =
-      let cost : cost_within line p anywhere Plain end ≡ Metres (nearest_on line p end).off = rw (low, high, cost_within) in
+      let cost : cost_within line p anywhere Plain end ≡ Some (nearest_on line p end).off = rw (low, high, cost_within) in
       chosen-finds line p (cost_within line p anywhere Plain) Lower lower-one-way ends _
       (rising-all line p (cost_within line p anywhere Plain) Lower lower-one-way (λ e f h. h) ends) end _ (from, to) cost
 

@@ -10,14 +10,14 @@ use lib.Seq.{drop-cons}
 use lib.Ieee.{Float, lt, le}
 use Rattle.plane.specs.declared.Point.{Point}
 use Rattle.crumbs.specs.declared.Crumb.{Crumb}
-use Rattle.search.specs.declared.Join.TheVariants.{Segment, NoSegment}
+use Rattle.std.specs.Prelude.{Some, None}
 use Rattle.segments.specs.Line.{no_crumb, at}
 use Rattle.search.specs.Course.{joins, joined_from}
 use Rattle.search.specs.Along.{place_before, point_along, at_along, ends}
 
 -- ---- the segment that a rider joins, from `end` down
 module _ (line : List Crumb) (p : Point) (heading : ℕ) where
-  pub joined-out : (end : ℕ) → end ≤ 0 → joined_from line p heading end ≡ NoSegment
+  pub joined-out : (end : ℕ) → end ≤ 0 → joined_from line p heading end ≡ None
   unfolding joined_from
   joined-out zero h = refl
   joined-out (suc k) h = absurd (omega arith)
@@ -27,11 +27,11 @@ module _ (line : List Crumb) (p : Point) (heading : ℕ) where
     test : {k : ℕ} → suc k ≡ end → r ≡ joins p heading (at line k) (at line (suc k))
     test {k} e = let f : end - 1 ≡ k = omega arith in cc
 
-    pub joined-here : r ≡ true → joined_from line p heading end ≡ Segment end
+    pub joined-here : r ≡ true → joined_from line p heading end ≡ Some end
     unfolding joined_from
     joined-here t = at-end end refl
       where
-        at-end : (n : ℕ) → n ≡ end → joined_from line p heading n ≡ Segment n
+        at-end : (n : ℕ) → n ≡ end → joined_from line p heading n ≡ Some n
         at-end zero e = absurd (omega arith)
         at-end (suc k) e = let u = sym (test e) ∙ t in rw (u, joined_from)
 

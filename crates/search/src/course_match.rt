@@ -7,9 +7,10 @@ ghost use Rattle.search.specs.CourseMatch.{after_gap, around, in_reach, on_near,
 ghost use Rattle.search.specs.Along.{ends};
 
 use crate::{Range, quick};
-use plane::{Heading, Point, Spot};
+use plane::Point;
 use segments::costs::{Nearest, Ranking};
-use segments::{Best, Stretch, costs, turns};
+use segments::costs::Nearest;
+use segments::{Stretch, costs, turns};
 
 // The match moves at most this far on towards the course's end in one fix,
 const JUMP_M: f32 = 500.0;
@@ -29,15 +30,15 @@ const HOP_M: f32 = 40.0;
 pub struct Progress {
     pub along: f32,
     pub reached: f32,
-    pub fix: Spot,
-    pub heading: Heading,
+    pub fix: Option<Point>,
+    pub heading: Option<u16>,
 }
 
 // Whether `p` follows a gap in the fixes: the rider may be past the near stretch.
-fn after_gap(fix: Spot, p: Point) -> bool
+fn after_gap(fix: Option<Point>, p: Point) -> bool
     ensures { result ≡ after_gap fix p }
 {
-    let Spot::At(last) = fix else {
+    let Some(last) = fix else {
         return true;
     };
     plane::distance(last, p) > HOP_M
@@ -54,7 +55,7 @@ fn around(along: f32, on: f32) -> Stretch
 }
 
 // The best segment that the rider can have come to, or gone back to, in one fix.
-fn in_reach(line: &[f32], len: usize, p: Point, ends: Range, along: f32, by: Ranking) -> Best
+fn in_reach(line: &[f32], len: usize, p: Point, ends: Range, along: f32, by: Ranking) -> Option<Nearest>
     requires { (1 ≤ ends.from) × (ends.to < len) × (len ≤ capacity (length line.now)) }
     ensures { result ≡ in_reach (crumbs len line.now) p ends along by }
 {
@@ -62,7 +63,7 @@ fn in_reach(line: &[f32], len: usize, p: Point, ends: Range, along: f32, by: Ran
 }
 
 // The pass of the near stretch that the rider is on.
-fn on_near(line: &[f32], len: usize, p: Point, ends: Range, was: Progress) -> Best
+fn on_near(line: &[f32], len: usize, p: Point, ends: Range, was: Progress) -> Option<Nearest>
     requires { (1 ≤ ends.from) × (ends.to < len) × (len ≤ capacity (length line.now)) }
     ensures { result ≡ on_near (crumbs len line.now) p ends was }
 {
@@ -91,10 +92,10 @@ fn slides_back(line: &[f32], len: usize, was: Progress, near: Nearest) -> bool
     false
 }
 
-fn or_else(first: Best, other: Best) -> Best
+fn or_else(first: Option<Nearest>, other: Option<Nearest>) -> Option<Nearest>
     ensures { result ≡ first_found first other }
 {
-    let Best::Found(_) = first else {
+    let Some(_) = first else {
         return other;
     };
     first
@@ -102,7 +103,7 @@ fn or_else(first: Best, other: Best) -> Best
 
 // The match on the near stretch settled: sliding back against the rider's way, a pass ridden its own
 // way close by is the one they are on.
-fn settled(line: &[f32], len: usize, p: Point, ends: Range, was: Progress, near: Nearest) -> Best
+fn settled(line: &[f32], len: usize, p: Point, ends: Range, was: Progress, near: Nearest) -> Option<Nearest>
     requires le_from { (1 ≤ ends.from) × (ends.to < len) × (len ≤ capacity (length line.now)) }
     requires le_end { (1 ≤ near.end) × (near.end < len) }
     ensures { result ≡ settled (crumbs len line.now) p ends was near }
@@ -110,13 +111,13 @@ fn settled(line: &[f32], len: usize, p: Point, ends: Range, was: Progress, near:
     if slides_back(line, len, was, near) {
         let heading = was.heading;
         let ahead = in_reach(line, len, p, ends, was.along, Ranking::Ahead { heading });
-        return or_else(ahead, Best::Found(near));
+        return or_else(ahead, Some(near));
     }
-    Best::Found(near)
+    Some(near)
 }
 
 // The segment of the followed course that the rider is on.
-pub fn nearest_on_course(line: &[f32], len: usize, p: Point, ends: Range, was: Progress) -> Best
+pub fn nearest_on_course(line: &[f32], len: usize, p: Point, ends: Range, was: Progress) -> Option<Nearest>
     requires { (1 ≤ ends.from) × (ends.to < len) × (len ≤ capacity (length line.now)) }
     ensures { result ≡ nearest_on_course (crumbs len line.now) p ends was }
 {
@@ -124,7 +125,7 @@ pub fn nearest_on_course(line: &[f32], len: usize, p: Point, ends: Range, was: P
     if after_gap(fix, p) {
         return in_reach(line, len, p, ends, was.along, Ranking::Plain);
     }
-    let Best::Found(near) = on_near(line, len, p, ends, was) else {
+    let Some(near) = on_near(line, len, p, ends, was) else {
         return in_reach(line, len, p, ends, was.along, Ranking::Plain);
     };
     settled(line, len, p, ends, was, near)

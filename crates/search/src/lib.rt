@@ -16,7 +16,8 @@ ghost use Rattle.search.specs.Along.{share_along, point_along, at_along, ends};
 use crumbs::Crumb;
 use plane::{Point, squares};
 use segments::costs::Ranking;
-use segments::{Best, SoFar, Stretch, costs, turns};
+use segments::costs::Nearest;
+use segments::{Stretch, costs, turns};
 
 // Rust's `f32::MAX`,
 const LARGEST: f32 = 340282346638528859811704183484516925440.0;
@@ -37,13 +38,6 @@ pub struct Range {
     pub to: usize,
 }
 
-// The segment that a rider joins.
-#[derive(Clone, Copy)]
-pub enum Join {
-    Segment(usize),
-    NoSegment,
-}
-
 // All of f32's range.
 fn anywhere() -> Stretch
     ensures { result ≡ anywhere }
@@ -55,12 +49,12 @@ fn anywhere() -> Stretch
 }
 
 // The nearest segment of the breadcrumb; on a tie the one nearer home.
-pub fn nearest_on_breadcrumb(buf: &[f32], len: usize, p: Point, ends: Range) -> Best
+pub fn nearest_on_breadcrumb(buf: &[f32], len: usize, p: Point, ends: Range) -> Option<Nearest>
     requires { (1 ≤ ends.from) × (ends.to < len) × (len ≤ capacity (length buf.now)) }
     ensures { result ≡ nearest_on_breadcrumb (crumbs len buf.now) p ends }
 {
     let within = anywhere();
-    let mut best = SoFar::Empty;
+    let mut best = None;
     let mut end = ends.from;
     while end <= ends.to {
         let a = segments::crumb(buf, len, end - 1);
@@ -79,11 +73,11 @@ pub fn nearest_within(
     ends: Range,
     within: Stretch,
     by: Ranking,
-) -> Best
+) -> Option<Nearest>
     requires { (1 ≤ ends.from) × (ends.to < len) × (len ≤ capacity (length line.now)) }
     ensures { result ≡ nearest_within (crumbs len line.now) p ends within by }
 {
-    let mut best = SoFar::Empty;
+    let mut best = None;
     let mut end = ends.to;
     while ends.from <= end {
         let a = segments::line_crumb(line, len, end - 1);
@@ -97,11 +91,11 @@ pub fn nearest_within(
 }
 
 // The course's nearest segment if it lies within `most` metres.
-pub fn course_near(line: &[f32], len: usize, p: Point, most: f32) -> Best
+pub fn course_near(line: &[f32], len: usize, p: Point, most: f32) -> Option<Nearest>
     requires { len ≤ capacity (length line.now) }
     ensures { result ≡ course_near (crumbs len line.now) p most }
 {
-    let mut best = SoFar::Empty;
+    let mut best = None;
     let mut end = len;
     while end > 1 {
         end -= 1;
@@ -112,16 +106,16 @@ pub fn course_near(line: &[f32], len: usize, p: Point, most: f32) -> Best
 }
 
 // A found segment that lies within `most` metres.
-fn closer(most: f32, best: Best) -> Best
+fn closer(most: f32, best: Option<Nearest>) -> Option<Nearest>
     ensures { result ≡ closer most best }
 {
-    let Best::Found(near) = best else {
+    let Some(near) = best else {
         return best;
     };
     if near.off <= most {
         return best;
     }
-    Best::Nothing
+    None
 }
 
 // Whether a rider at `p` rides along the course from `b` to `a`.
@@ -140,7 +134,7 @@ fn joins(p: Point, heading: u16, a: Crumb, b: Crumb) -> bool
 }
 
 // The earliest ridden segment of the course that a rider at `p` rides along.
-pub fn joined(line: &[f32], len: usize, p: Point, heading: u16) -> Join
+pub fn joined(line: &[f32], len: usize, p: Point, heading: u16) -> Option<usize>
     requires { len ≤ capacity (length line.now) }
     ensures { result ≡ joined (crumbs len line.now) p heading }
 {
@@ -153,10 +147,10 @@ pub fn joined(line: &[f32], len: usize, p: Point, heading: u16) -> Join
             segments::line_crumb(line, len, end - 1),
             segments::line_crumb(line, len, end),
         ) {
-            return Join::Segment(end);
+            return Some(end);
         }
     }
-    Join::NoSegment
+    None
 }
 
 // How far along the segment from `a` to `b` the place `along` lies, 0 to 1.

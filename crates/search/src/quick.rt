@@ -13,7 +13,8 @@ use crate::{Range, rows};
 use crumbs::Crumb;
 use plane::Point;
 use segments::costs::Ranking;
-use segments::{Best, Stretch};
+use segments::costs::Nearest;
+use segments::Stretch;
 
 // The segment with the least square so far, 0 where there is none, that square, and the least of those tried before it.
 #[derive(Clone, Copy)]
@@ -70,7 +71,7 @@ fn consider(a: Crumb, b: Crumb, p: Point, within: Stretch, end: usize, lead: Lea
 
 // The nearest segment of the breadcrumb; on a tie the one nearer home. Where the root of the least square tried before the
 // best is larger than the best's, the best is the one that the roots give. Else there may be a tie, and the roots decide.
-pub fn nearest_on_breadcrumb(buf: &[f32], len: usize, p: Point, ends: Range) -> Best
+pub fn nearest_on_breadcrumb(buf: &[f32], len: usize, p: Point, ends: Range) -> Option<Nearest>
     requires { (1 ≤ ends.from) × (ends.to < len) × (len ≤ capacity (length buf.now)) }
     ensures { result ≡ nearest_on_breadcrumb (crumbs len buf.now) p ends }
 {
@@ -88,11 +89,11 @@ pub fn nearest_on_breadcrumb(buf: &[f32], len: usize, p: Point, ends: Range) -> 
         end += 1;
     }
     if lead.best == 0 {
-        return Best::Nothing;
+        return None;
     }
     if binary32::sqrtf(lead.least) < binary32::sqrtf(lead.before) {
         let near = segments::nearest_on(buf, len, p, lead.best);
-        return Best::Found(near);
+        return Some(near);
     }
     crate::nearest_on_breadcrumb(buf, len, p, ends)
 }
@@ -151,7 +152,7 @@ fn over_rows(line: &[f32], len: usize, p: Point, within: Stretch, ends: Range, l
 }
 
 // The nearest segment of the course reaching into the stretch; on a tie the earlier ridden.
-fn plainly_within(line: &[f32], len: usize, p: Point, ends: Range, within: Stretch) -> Best
+fn plainly_within(line: &[f32], len: usize, p: Point, ends: Range, within: Stretch) -> Option<Nearest>
     requires { (1 ≤ ends.from) × (ends.to < len) × (len ≤ capacity (length line.now)) }
     ensures { result ≡ nearest_within (crumbs len line.now) p ends within Plain }
 {
@@ -170,11 +171,11 @@ fn plainly_within(line: &[f32], len: usize, p: Point, ends: Range, within: Stret
         end -= 1;
     }
     if lead.best == 0 {
-        return Best::Nothing;
+        return None;
     }
     if binary32::sqrtf(lead.least) < binary32::sqrtf(lead.before) {
         let near = segments::nearest_on_line(line, len, p, lead.best);
-        return Best::Found(near);
+        return Some(near);
     }
     crate::nearest_within(line, len, p, ends, within, Ranking::Plain)
 }
@@ -187,7 +188,7 @@ pub fn nearest_within(
     ends: Range,
     within: Stretch,
     by: Ranking,
-) -> Best
+) -> Option<Nearest>
     requires { (1 ≤ ends.from) × (ends.to < len) × (len ≤ capacity (length line.now)) }
     ensures { result ≡ nearest_within (crumbs len line.now) p ends within by }
 {

@@ -9,7 +9,7 @@ ghost use Rattle.search.specs.Rows.{row_length, lesser, SquaresFrom, LeastSoFar,
 
 use crate::{Range, quick};
 use plane::Point;
-use segments::Best;
+use segments::costs::Nearest;
 
 // The segments of a row.
 pub const ROW: usize = 16;
@@ -166,7 +166,7 @@ fn is_nearest(buf: &[f32], len: usize, p: Point, from: usize, front: Front, off:
 }
 
 // The nearest segment of the breadcrumb; on a tie the one nearer home.
-pub fn nearest_on_breadcrumb(buf: &[f32], len: usize, p: Point, ends: Range) -> Best
+pub fn nearest_on_breadcrumb(buf: &[f32], len: usize, p: Point, ends: Range) -> Option<Nearest>
     requires { (1 ≤ ends.from) × (ends.to < len) × (len ≤ capacity (length buf.now)) }
     ensures { result ≡ nearest_on_breadcrumb (crumbs len buf.now) p ends }
 {
@@ -175,7 +175,7 @@ pub fn nearest_on_breadcrumb(buf: &[f32], len: usize, p: Point, ends: Range) -> 
         let front = front_segment(buf, len, p, row);
         let near = segments::nearest_on(buf, len, p, front.first);
         if is_nearest(buf, len, p, ends.from, front, near.off) {
-            return Best::Found(near);
+            return Some(near);
         }
     }
     quick::nearest_on_breadcrumb(buf, len, p, ends)

@@ -7,21 +7,19 @@ use lib.Ieee.{lt}
 use Rattle.plane.specs.declared.Point.{Point}
 use Rattle.crumbs.specs.declared.Crumb.{Crumb}
 use Rattle.segments.specs.declared.costs.Nearest.{Nearest}
-use Rattle.segments.specs.declared.costs.Cost.{Cost}
-use Rattle.segments.specs.declared.costs.Cost.TheVariants.{Out}
+use Rattle.std.specs.Prelude.{Option, None, Float}
 use Rattle.segments.specs.declared.costs.Ranking.{Ranking}
 use Rattle.segments.specs.Cost.{cost_of}
-use Rattle.segments.specs.declared.SoFar.{SoFar}
 use Rattle.segments.specs.declared.Stretch.{Stretch}
 use Rattle.segments.specs.Line.{at}
 use Rattle.segments.specs.Segment.{meets, nearest_on, cheaper, cost_within, considered}
 
-module _ (line : List Crumb) (p : Point) (within : Stretch) (by : Ranking) (end : ℕ) (best : SoFar) where
-  abbrev cost : ℕ → Cost
+module _ (line : List Crumb) (p : Point) (within : Stretch) (by : Ranking) (end : ℕ) (best : Option (Nearest × Float)) where
+  abbrev cost : ℕ → Option Float
   cost = cost_within line p within by
 
   -- the best so far stays where the segment is out
-  stays : cost end ≡ Out → best ≡ considered line p cost end best
+  stays : cost end ≡ None → best ≡ considered line p cost end best
   unfolding considered cheaper
   stays e = sym (ap (cheaper best (nearest_on line p end)) e)
 
@@ -35,17 +33,17 @@ module _ (line : List Crumb) (p : Point) (within : Stretch) (by : Ranking) (end 
       unfolding cost_within
       begins-past t = let low = rw B at reaches in let high = rw A at t in stays (rw (low, high, cost_within))
 
-      pub lies-far : lt within.ceiling a.along ≡ false → ((e : ℕ) → cost_of by (meets a b p e) a b ≡ Out)
+      pub lies-far : lt within.ceiling a.along ≡ false → ((e : ℕ) → cost_of by (meets a b p e) a b ≡ None)
           → best ≡ considered line p cost end best
       unfolding considered cost_within nearest_on
       lies-far t h =
           let low = rw B at reaches in
           let high = rw A at t in
           let c : cost end ≡ cost_of by (nearest_on line p end) (at line (end - 1)) (at line end) = rw (low, high, cost_within) in
-          let o : cost_of by (nearest_on line p end) (at line (end - 1)) (at line end) ≡ Out = rw (← A, ← B) (h end) in
+          let o : cost_of by (nearest_on line p end) (at line (end - 1)) (at line end) ≡ None = rw (← A, ← B) (h end) in
           stays (c ∙ o)
 
-      pub lies_in : {near : Nearest} {own : Cost} {next : SoFar} → lt within.ceiling a.along ≡ false
+      pub lies_in : {near : Nearest} {own : Option Float} {next : Option (Nearest × Float)} → lt within.ceiling a.along ≡ false
           → near ≡ meets a b p end → own ≡ cost_of by near a b → next ≡ cheaper best near own → next ≡ considered line p cost end best
       unfolding considered cost_within nearest_on
       lies_in {near} {own} {next} t N O e =

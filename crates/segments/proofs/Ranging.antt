@@ -9,11 +9,10 @@ use lib.Ieee.Bits.{of_bits-fits}
 use Rattle.binary32.specs.Arithmetic.{constant}
 use Rattle.binary32.specs.Root.{root}
 use Rattle.plane.specs.declared.Point.{Point}
-use Rattle.plane.specs.declared.Heading.{Heading}
+use Rattle.std.specs.Prelude.{Option, None, ℕ}
 use Rattle.plane.specs.Plane.{off_segment}
 use Rattle.crumbs.specs.declared.Crumb.{Crumb}
 use Rattle.crumbs.specs.Crumb.{point}
-use Rattle.segments.specs.declared.costs.Cost.TheVariants.{Out}
 use Rattle.segments.specs.declared.costs.Ranking.{Ranking}
 use Rattle.segments.specs.declared.costs.Ranking.TheVariants.{On, Ahead}
 use Rattle.segments.specs.CostConstants.{search_m}
@@ -61,12 +60,12 @@ module _ (by : Ranking) (p : Point) (a b : Crumb) {s : Float} (S : s ≡ off_squ
   off_at end h = far-off bar search_m (of_bits-fits binary32 0x441c_8000) above p (point a) (point b)
       (subst (λ (z : Float). lt z bar ≡ false) S (flip (lt s bar) h))
 
-  pub far-on : {reached : Float} {heading : Heading} → by ≡ On reached heading → not (lt s bar) ≡ true → (end : ℕ)
-      → cost_of by (meets a b p end) a b ≡ Out
+  pub far-on : {reached : Float} {heading : Option ℕ} → by ≡ On reached heading → not (lt s bar) ≡ true → (end : ℕ)
+      → cost_of by (meets a b p end) a b ≡ None
   unfolding cost_of on
   far-on {reached} {heading} e h end = let k = off_at end h in rw (e, k, on)
 
-  pub far-ahead : {heading : Heading} → by ≡ Ahead heading → not (lt s bar) ≡ true → (end : ℕ) → cost_of by (meets a b p end) a b ≡ Out
+  pub far-ahead : {heading : Option ℕ} → by ≡ Ahead heading → not (lt s bar) ≡ true → (end : ℕ) → cost_of by (meets a b p end) a b ≡ None
   unfolding cost_of ahead
   far-ahead {heading} e h end = let k = off_at end h in rw (e, k, ahead)
 

@@ -1,9 +1,8 @@
 -- For the functions inside: what is found lies on the line.
-use Rattle.std.specs.Prelude.{ℕ, ◌≤◌, ◌<◌}
-use Rattle.segments.specs.declared.Best.{Best}
-use Rattle.segments.specs.declared.Best.TheVariants.{Nothing, Found}
+use Rattle.std.specs.Prelude.{ℕ, ◌≤◌, ◌<◌, Option, Some, None}
+use Rattle.segments.specs.declared.costs.Nearest.{Nearest}
 
 -- what is found lies on a line of `len` crumbs
-abbrev pub InLine : ℕ → Best → Type 0
-InLine len Nothing = Unit {0}
-InLine len (Found near) = (1 ≤ near.end) × (near.end < len)
+abbrev pub InLine : ℕ → Option Nearest → Type 0
+InLine len None = Unit {0}
+InLine len (Some near) = (1 ≤ near.end) × (near.end < len)

@@ -5,7 +5,7 @@ ghost use Rattle.segments.specs.Cost.{plain, contrary, on, ahead, cost_of};
 
 use crate::turns;
 use crumbs::Crumb;
-use plane::{Heading, Point};
+use plane::Point;
 
 // Where the rider is matched first, a segment further off than this is not searched,
 pub const SEARCH_M: f32 = 25.0;
@@ -29,30 +29,23 @@ pub struct Nearest {
     pub along: f32,
 }
 
-// What a segment costs.
-#[derive(Clone, Copy)]
-pub enum Cost {
-    Out,
-    Metres(f32),
-}
-
 // By which cost segments are ranked.
 #[derive(Clone, Copy)]
 pub enum Ranking {
     Plain,
-    On { reached: f32, heading: Heading },
-    Ahead { heading: Heading },
+    On { reached: f32, heading: Option<u16> },
+    Ahead { heading: Option<u16> },
 }
 
 // How far off the segment is.
-pub fn plain(near: Nearest) -> Cost
+pub fn plain(near: Nearest) -> Option<f32>
     ensures { result ≡ plain near }
 {
-    Cost::Metres(near.off)
+    Some(near.off)
 }
 
 // What a segment against the rider's way adds.
-fn contrary(heading: Heading, a: Crumb, b: Crumb) -> f32
+fn contrary(heading: Option<u16>, a: Crumb, b: Crumb) -> f32
     ensures { result ≡ contrary heading a b }
 {
     if turns::against(heading, a, b) {
@@ -62,31 +55,31 @@ fn contrary(heading: Heading, a: Crumb, b: Crumb) -> f32
 }
 
 // Within `SEARCH_M`: how far off, how far behind the furthest reached, and whether against the way.
-fn on(reached: f32, heading: Heading, near: Nearest, a: Crumb, b: Crumb) -> Cost
+fn on(reached: f32, heading: Option<u16>, near: Nearest, a: Crumb, b: Crumb) -> Option<f32>
     ensures { result ≡ on reached heading near a b }
 {
     if near.off <= SEARCH_M {
         let back = binary32::max_zero(near.along - reached - SLIP_M);
-        return Cost::Metres(near.off + back + contrary(heading, a, b));
+        return Some(near.off + back + contrary(heading, a, b));
     }
-    Cost::Out
+    None
 }
 
 // Within `SEARCH_M` and not against the way: how far off.
-fn ahead(heading: Heading, near: Nearest, a: Crumb, b: Crumb) -> Cost
+fn ahead(heading: Option<u16>, near: Nearest, a: Crumb, b: Crumb) -> Option<f32>
     ensures { result ≡ ahead heading near a b }
 {
     if near.off <= SEARCH_M {
         if turns::against(heading, a, b) {
-            return Cost::Out;
+            return None;
         }
         return plain(near);
     }
-    Cost::Out
+    None
 }
 
 // What the segment from `a` to `b` costs by a ranking.
-pub fn cost_of(by: Ranking, near: Nearest, a: Crumb, b: Crumb) -> Cost
+pub fn cost_of(by: Ranking, near: Nearest, a: Crumb, b: Crumb) -> Option<f32>
     ensures { result ≡ cost_of by near a b }
 {
     match by {

@@ -13,34 +13,18 @@ ghost use Rattle.crumbs.specs.declared.Crumb.{Crumb};
 ghost use Rattle.crumbs.specs.Crumb.{capacity, crumbs, point};
 ghost use Rattle.segments.specs.Line.{at};
 ghost use Rattle.segments.specs.Segment.{meets, nearest_on, cheaper, cost_within, considered, found};
-ghost use Rattle.segments.specs.declared.SoFar.{SoFar};
-ghost use Rattle.segments.specs.declared.costs.Cost.TheVariants.{Out};
 ghost use Rattle.segments.specs.Cost.{cost_of};
 ghost use Rattle.segments.specs.Square.{square_on};
 
-use costs::{Cost, Nearest, Ranking};
+use costs::{Nearest, Ranking};
 use crumbs::Crumb;
 use plane::{Point, squares};
-
-// The segment that a search puts first.
-#[derive(Clone, Copy)]
-pub enum Best {
-    Nothing,
-    Found(Nearest),
-}
 
 // A part of a line, from `floor` to `ceiling` metres along.
 #[derive(Clone, Copy)]
 pub struct Stretch {
     pub floor: f32,
     pub ceiling: f32,
-}
-
-// The segment of least cost among those tried, with its cost.
-#[derive(Clone, Copy)]
-pub enum SoFar {
-    Empty,
-    Least(Nearest, f32),
 }
 
 // The crumb at place `i` of the breadcrumb.
@@ -110,7 +94,7 @@ pub fn square(a: Crumb, b: Crumb, p: Point) -> f32
 // Whether a ranking certainly has no cost for the segment from `a` to `b`: it lies further off than `costs::SEARCH_M`. No root
 // is taken.
 fn too_far(by: Ranking, p: Point, a: Crumb, b: Crumb) -> bool
-    ensures { result ≡ true → (end : ℕ) → cost_of by (meets a b p end) a b ≡ Out }
+    ensures { result ≡ true → (end : ℕ) → cost_of by (meets a b p end) a b ≡ None }
 {
     let square = square(a, b, p);
     match by {
@@ -125,7 +109,7 @@ fn too_far(by: Ranking, p: Point, a: Crumb, b: Crumb) -> bool
 
 // Whether the segment from `a` to `b` may have a cost: where it certainly has none it need not be considered.
 pub fn may_cost(a: Crumb, b: Crumb, p: Point, within: Stretch, by: Ranking) -> bool
-    ensures { result ≡ false → (line : List Crumb) (end : ℕ) (best : SoFar) → a ≡ at line (end - 1) → b ≡ at line end
+    ensures { result ≡ false → (line : List Crumb) (end : ℕ) (best : Option (Nearest × Float)) → a ≡ at line (end - 1) → b ≡ at line end
         → best ≡ considered line p (cost_within line p within by) end best }
 {
     if b.along < within.floor {
@@ -152,17 +136,17 @@ fn meets(a: Crumb, b: Crumb, p: Point, end: usize) -> Nearest
 }
 
 // The best so far, or `near` where that costs less.
-pub fn cheaper(best: SoFar, near: Nearest, cost: Cost) -> SoFar
+pub fn cheaper(best: Option<(Nearest, f32)>, near: Nearest, cost: Option<f32>) -> Option<(Nearest, f32)>
     ensures { result ≡ cheaper best near cost }
 {
-    let Cost::Metres(metres) = cost else {
+    let Some(metres) = cost else {
         return best;
     };
-    let SoFar::Least(_, least) = best else {
-        return SoFar::Least(near, metres);
+    let Some((_, least)) = best else {
+        return Some((near, metres));
     };
     if metres < least {
-        return SoFar::Least(near, metres);
+        return Some((near, metres));
     }
     best
 }
@@ -175,8 +159,8 @@ pub fn consider(
     within: Stretch,
     by: Ranking,
     end: usize,
-    best: SoFar,
-) -> SoFar
+    best: Option<(Nearest, f32)>,
+) -> Option<(Nearest, f32)>
     ensures { (line : List Crumb) → a ≡ at line (end - 1) → b ≡ at line end
         → result ≡ considered line p (cost_within line p within by) end best }
 {
@@ -190,11 +174,11 @@ pub fn consider(
     cheaper(best, near, costs::cost_of(by, near, a, b))
 }
 
-pub fn found(best: SoFar) -> Best
+pub fn found(best: Option<(Nearest, f32)>) -> Option<Nearest>
     ensures { result ≡ found best }
 {
     match best {
-        SoFar::Empty => Best::Nothing,
-        SoFar::Least(near, _) => Best::Found(near),
+        None => None,
+        Some((near, _)) => Some(near),
     }
 }

@@ -5,7 +5,7 @@ ghost use Rattle.plane.specs.Plane.{turn};
 ghost use Rattle.segments.specs.Turn.{turned, turned_from, against, same_way};
 
 use crumbs::Crumb;
-use plane::{Heading, TURN};
+use plane::TURN;
 
 // The turn from the bearing `way` to the bearing `heading`, clockwise.
 pub fn turned(heading: u16, way: u16) -> u16
@@ -26,10 +26,10 @@ pub fn turned_from(heading: u16, from: Crumb, to: Crumb) -> u16
 }
 
 // Whether the course from `b` to `a` runs against the rider's heading.
-pub fn against(heading: Heading, a: Crumb, b: Crumb) -> bool
+pub fn against(heading: Option<u16>, a: Crumb, b: Crumb) -> bool
     ensures { result ≡ against heading a b }
 {
-    let Heading::Known(known) = heading else {
+    let Some(known) = heading else {
         return false;
     };
     let turn = turned_from(known, b, a);

@@ -10,8 +10,7 @@ use Rattle.binary32.specs.Arithmetic.{constant}
 use Rattle.binary32.specs.Root.{root}
 use Rattle.binary32.specs.Limits.{plus_zero, clamp}
 use Rattle.binary32.proofs.magnitude.Size.{Within}
-use Rattle.plane.specs.declared.Heading.{Heading}
-use Rattle.plane.specs.declared.Heading.TheVariants.{Known}
+use Rattle.std.specs.Prelude.{Option, Some, ℕ}
 use Rattle.plane.specs.Plane.{distance, share, between, at_share, project, off_segment, metres}
 use Rattle.plane.specs.Fix.{east_per_e7, frame}
 use Rattle.plane.proofs.Starred as plane
@@ -55,11 +54,11 @@ table =
       east = plane.east;
       south = plane.south;
       west = plane.west;
-      arrow-one = λ g b h. ap (λ (x : Heading). arrow_from x g.bearing) h ∙ ap (arrow_from (Known 4095)) b;
+      arrow-one = λ g b h. ap (λ (x : Option ℕ). arrow_from x g.bearing) h ∙ ap (arrow_from (Some 4095)) b;
       half-metre = refl;
       under-half = refl;
       under-half-bits = refl;
-      half-round = λ lat0 lat h. zero-within (frame lat0 (negsuc 1799999999) (east_per_e7 lat0) lat (pos 1800000000)).east
+      half-round = λ lat0 lat h. zero-within (frame (record { lat = lat0; lon = negsuc 1799999999 }) (east_per_e7 lat0) (record { lat = lat; lon = pos 1800000000 })).east
           (plane.half-round lat0 lat h);
       one-pass = refl;
       not-armed = λ moving. refl;

@@ -1,10 +1,9 @@
 -- Document 01, "For those who test": "Prove the starred lines together as one table about the rules". `proofs/Table.antt` proves it.
-use Rattle.std.specs.Prelude.{ℕ, ◌+◌, ◌*◌, ◌%◌, ◌^◌, ◌≤◌, ◌≡◌, Bool, true, false, List, [], ◌∷◌, map, ℤ, pos, negsuc, nat_abs, Float}
+use Rattle.std.specs.Prelude.{ℕ, ◌+◌, ◌*◌, ◌%◌, ◌^◌, ◌≤◌, ◌≡◌, Bool, true, false, List, [], ◌∷◌, map, ℤ, pos, negsuc, nat_abs, Float, Some}
 use Rattle.std.specs.Float.{binary32}
 use Rattle.std.specs.Float.Ieee.{of_bits, neg, eq}
 use Rattle.binary32.specs.Arithmetic.{constant}
 use Rattle.binary32.specs.Limits.{plus_zero, one}
-use Rattle.plane.specs.declared.Heading.TheVariants.{Known}
 use Rattle.plane.specs.Plane.{bearing, metres}
 use Rattle.plane.specs.Fix.{east_per_e7, frame}
 use Rattle.crumbs.specs.declared.Crumb.{Crumb}
@@ -18,7 +17,6 @@ use Rattle.state.specs.declared.Guide.{Guide}
 use Rattle.state.specs.Guide.{arrow}
 use Rattle.matching.specs.Match.{off_now}
 use Rattle.calls.specs.Calls.{Reset}
-use Rattle.ride_log.specs.declared.Utc.TheVariants as utc
 use Rattle.rebuild.specs.declared.Rebuild.{Rebuild}
 use Rattle.rebuild.specs.Rebuild.{decide}
 
@@ -67,7 +65,7 @@ pub record Table : Type 0 where
   pub south : towards plus_zero (neg one) ≡ 2048
   pub west : towards (neg one) plus_zero ≡ 3072
   -- "Bearing 0, heading 4095: arrow 1.", whatever else the guide shows
-  pub arrow-one : (g : Guide) → g.bearing ≡ 0 → g.heading ≡ Known 4095 → arrow g ≡ 1
+  pub arrow-one : (g : Guide) → g.bearing ≡ 0 → g.heading ≡ Some 4095 → arrow g ≡ 1
   -- "`metres` 0.5 is 1; 0.49999997 (3EFFFFFF hexadecimal) is 1."
   pub half-metre : metres (constant 5 10) ≡ 1
   pub under-half : metres (constant 49999997 (10 ^ 8)) ≡ 1
@@ -75,7 +73,7 @@ pub record Table : Type 0 where
   -- "Longitude −1,800,000,000 to 1,800,000,000: east 0.", a zero of either sign, from every latitude on the globe to every latitude
   pub half-round :
       (lat0 lat : ℤ) → nat_abs lat0 ≤ 900000000
-      → eq (frame lat0 (negsuc 1799999999) (east_per_e7 lat0) lat (pos 1800000000)).east plus_zero ≡ true
+      → eq (frame (record { lat = lat0; lon = negsuc 1799999999 }) (east_per_e7 lat0) (record { lat = lat; lon = pos 1800000000 })).east plus_zero ≡ true
   -- "`StartPass` at 101, 39, 51 m moving: no, no, yes; 100 m doesn't arm.", moving or not
   pub one-pass : passes spent (number 101 ∷ number 39 ∷ number 51 ∷ []) ≡ false ∷ false ∷ true ∷ []
   pub not-armed : (moving : Bool) → (step_of spent (number 100) moving).pass ≡ spent
@@ -83,7 +81,7 @@ pub record Table : Type 0 where
   pub stays_on : off_now false (number 50) ≡ false
   pub clears : off_now true (number 25) ≡ false
   -- "UTC 1,800,000 ms apart carries on; 1,800,001 resets.", whichever of the two times is the later
-  pub carries-on : (t : ℕ) (r : Rebuild) → (decide (utc.At t) (utc.At (t + 1800000)) r).calls ≡ []
-  pub carries-on-back : (t : ℕ) (r : Rebuild) → (decide (utc.At (t + 1800000)) (utc.At t) r).calls ≡ []
-  pub resets : (t : ℕ) (r : Rebuild) → (decide (utc.At t) (utc.At (t + 1800001)) r).calls ≡ Reset ∷ []
-  pub resets-back : (t : ℕ) (r : Rebuild) → (decide (utc.At (t + 1800001)) (utc.At t) r).calls ≡ Reset ∷ []
+  pub carries-on : (t : ℕ) (r : Rebuild) → (decide (Some t) (Some (t + 1800000)) r).calls ≡ []
+  pub carries-on-back : (t : ℕ) (r : Rebuild) → (decide (Some (t + 1800000)) (Some t) r).calls ≡ []
+  pub resets : (t : ℕ) (r : Rebuild) → (decide (Some t) (Some (t + 1800001)) r).calls ≡ Reset ∷ []
+  pub resets-back : (t : ℕ) (r : Rebuild) → (decide (Some (t + 1800001)) (Some t) r).calls ≡ Reset ∷ []

@@ -1,22 +1,22 @@
 -- The guide's state as the rules see it: the groups of the program's state, with the breadcrumb and the window as lists.
-use Rattle.std.specs.Prelude.{ℕ, Bool, List, Float}
-use Rattle.plane.specs.declared.Spot.{Spot}
+use Rattle.std.specs.Prelude.{ℕ, Bool, List, Float, Option}
+use Rattle.plane.specs.declared.Fix.{Fix}
+use Rattle.state.specs.declared.Guide.{Guide}
+use Rattle.plane.specs.declared.Point.{Point}
 use Rattle.motion.specs.declared.Motion.{Motion}
 use Rattle.trail.specs.Trail.{Track}
 use Rattle.trail.specs.View.{track}
-use Rattle.state.specs.declared.Place.{Place}
 use Rattle.state.specs.declared.Frame.{Frame}
 use Rattle.state.specs.declared.Follow.{Follow}
 use Rattle.state.specs.declared.Course.{Course}
 use Rattle.lap.specs.declared.Lap.{Lap}
-use Rattle.state.specs.declared.Shown.{Shown}
 use Rattle.state.specs.declared.Homing.{Homing}
 
 pub record State : Type 0 where
   pub track : Track
   pub frame : Frame
-  pub fed : Place
-  pub here : Spot
+  pub fed : Option Fix
+  pub here : Option Point
   pub here_ms : ℕ
   pub motion : Motion
   pub follow : Follow
@@ -25,10 +25,10 @@ pub record State : Type 0 where
   pub arrived : Bool
   pub lap : Lap
   pub updated_ms : ℕ
-  pub guide : Shown
+  pub guide : Option Guide
 
 -- the state of these groups
-abbrev pub state_with : Track → Frame → Place → Spot → ℕ → Motion → Follow → Course → Bool → Bool → Lap → ℕ → Shown → State
+abbrev pub state_with : Track → Frame → Option Fix → Option Point → ℕ → Motion → Follow → Course → Bool → Bool → Lap → ℕ → Option Guide → State
 state_with track frame fed here here_ms motion follow course auto_follow arrived lap updated_ms guide =
     record {
       track = track;
@@ -63,12 +63,12 @@ with_frame x s =
     state_with s.track x s.fed s.here s.here_ms s.motion s.follow
     s.course s.auto_follow s.arrived s.lap s.updated_ms s.guide
 
-abbrev pub with_fed : Place → State → State
+abbrev pub with_fed : Option Fix → State → State
 with_fed x s =
     state_with s.track s.frame x s.here s.here_ms s.motion s.follow
     s.course s.auto_follow s.arrived s.lap s.updated_ms s.guide
 
-abbrev pub with_here : Spot → State → State
+abbrev pub with_here : Option Point → State → State
 with_here x s =
     state_with s.track s.frame s.fed x s.here_ms s.motion s.follow
     s.course s.auto_follow s.arrived s.lap s.updated_ms s.guide
@@ -113,13 +113,13 @@ with_updated_ms x s =
     state_with s.track s.frame s.fed s.here s.here_ms s.motion s.follow
     s.course s.auto_follow s.arrived s.lap x s.guide
 
-abbrev pub with_guide : Shown → State → State
+abbrev pub with_guide : Option Guide → State → State
 with_guide x s =
     state_with s.track s.frame s.fed s.here s.here_ms s.motion s.follow
     s.course s.auto_follow s.arrived s.lap s.updated_ms x
 
 -- the course group of these fields
-abbrev pub course_with : ℕ → Bool → Bool → ℕ → ℕ → Float → Float → Spot → Course
+abbrev pub course_with : ℕ → Bool → Bool → ℕ → ℕ → Float → Float → Option Point → Course
 course_with line_len unplaced held join_fixes join_end along reached fix =
     record {
       line_len = line_len;

@@ -6,15 +6,8 @@ ghost use Rattle.state.specs.Guided.{guided_of, whole};
 
 use lap::Lap;
 use motion::Motion;
-use plane::{Heading, Spot};
+use plane::Point;
 use trail::Trail;
-
-// A fix that may be missing: latitude and longitude in 1e-7 degree.
-#[derive(Clone, Copy)]
-pub enum Place {
-    At(i32, i32),
-    Missing,
-}
 
 // Which line a follow is on.
 #[derive(Clone, Copy)]
@@ -72,19 +65,13 @@ pub struct Guide {
     // Where to ride: to the start, or to the line ahead.
     pub bearing: u16,
     // The way the rider is riding, while moving.
-    pub heading: Heading,
-}
-
-#[derive(Clone, Copy)]
-pub enum Shown {
-    Guide(Guide),
-    Nothing,
+    pub heading: Option<u16>,
 }
 
 // The ride's first fix, from which places are counted, and metres per 1e-7 degree of longitude there.
 #[derive(Clone, Copy)]
 pub struct Frame {
-    pub origin: Place,
+    pub origin: Option<Fix>,
     pub east_per_e7: f32,
 }
 
@@ -102,7 +89,7 @@ pub struct Course {
     pub along: f32,
     pub reached: f32,
     // The fix last matched to the course, until the fix is lost.
-    pub fix: Spot,
+    pub fix: Option<Point>,
 }
 
 #[derive(Clone, Copy)]
@@ -111,7 +98,7 @@ pub struct Follow {
     // The segment last matched while following.
     pub segment: usize,
     // Where on the line the rider last was while following.
-    pub matched: Spot,
+    pub matched: Option<Point>,
     pub off: bool,
     pub reminded_ms: u64,
 }
@@ -123,8 +110,8 @@ pub struct Homing {
     pub window: [f32; 96],
     pub frame: Frame,
     // The fix last acted on.
-    pub fed: Place,
-    pub here: Spot,
+    pub fed: Option<Fix>,
+    pub here: Option<Point>,
     pub here_ms: u64,
     pub motion: Motion,
     pub follow: Follow,
@@ -134,7 +121,7 @@ pub struct Homing {
     pub arrived: bool,
     pub lap: Lap,
     pub updated_ms: u64,
-    pub guide: Shown,
+    pub guide: Option<Guide>,
 }
 
 // The state without the window: it goes by value on the way of a fix, and the window is lent beside it.
@@ -142,8 +129,8 @@ pub struct Homing {
 pub struct Guided {
     pub trail: Trail,
     pub frame: Frame,
-    pub fed: Place,
-    pub here: Spot,
+    pub fed: Option<Fix>,
+    pub here: Option<Point>,
     pub here_ms: u64,
     pub motion: Motion,
     pub follow: Follow,
@@ -152,7 +139,7 @@ pub struct Guided {
     pub arrived: bool,
     pub lap: Lap,
     pub updated_ms: u64,
-    pub guide: Shown,
+    pub guide: Option<Guide>,
 }
 
 pub fn without_window(h: Homing) -> Guided

@@ -11,7 +11,7 @@ use Rattle.state.specs.declared.Course.{Course}
 use Rattle.state.specs.declared.Homing.{Homing}
 use Rattle.state.specs.State.{State, state_of, with_course}
 use Rattle.follow.specs.View.{Changes}
-use Rattle.course.specs.Fix.{Fix}
+use Rattle.plane.specs.declared.Fix.{Fix}
 use Rattle.course.specs.Course.{line_of, waits}
 use Rattle.course.specs.View.{Places}
 use Rattle.calls.specs.Line.{lined, off_course, set_course}

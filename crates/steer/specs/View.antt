@@ -6,7 +6,7 @@ use Rattle.trail.specs.Inner.{TrailChanges, Emptied}
 use Rattle.trail.specs.View.{empty_window}
 use Rattle.state.specs.declared.Homing.{Homing}
 use Rattle.state.specs.State.{state_of}
-use Rattle.course.specs.Fix.{Fix}
+use Rattle.plane.specs.declared.Fix.{Fix}
 use Rattle.course.specs.Course.{line_of}
 use Rattle.calls.specs.Line.{new, reset, set_course}
 

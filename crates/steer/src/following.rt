@@ -11,12 +11,12 @@ ghost use Rattle.steer.specs.Decides.{Decides};
 
 use crate::way_home;
 use follow::{Answered, Decided};
-use segments::Best;
+use segments::costs::Nearest;
 use state::{Guided, Homing, Line};
 
 // The course where it was found near, else the breadcrumb back.
 fn follow_best(
-    best: Best,
+    best: Option<Nearest>,
     h: Guided,
     window: &[f32; 96],
     crumbs: &mut [f32],
@@ -28,7 +28,7 @@ fn follow_best(
     ensures { Decides (λ C. follow best C (course_of (whole h window.now) line.now) now_ms)
         (whole h window.now) crumbs.old (decided_in result window.now) crumbs.new }
 {
-    let Best::Found(near) = best else {
+    let Some(near) = best else {
         return way_home::way_home(h, window, crumbs, line, now_ms);
     };
     let engaged = follow::engage_at(h, line, Line::Course, near.end, now_ms);

@@ -14,8 +14,8 @@ ghost use Rattle.steer.specs.View.{MadeNew, Resets, SetsLine};
 
 use lap::{Lap, Stage, StartPass};
 use motion::Motion;
-use plane::{Heading, Spot};
-use state::{Course, Follow, Frame, Homing, Line, Place, Shown};
+use plane::{Fix, Point};
+use state::{Course, Follow, Frame, Guide, Homing, Line};
 
 // ---- made anew
 
@@ -28,7 +28,7 @@ fn no_lap() -> Lap
     };
     Lap {
         pass,
-        start: Spot::Nowhere,
+        start: None,
         passed: false,
     }
 }
@@ -39,18 +39,18 @@ pub fn new() -> Homing
 {
     let trail = trail::new();
     let frame = Frame {
-        origin: Place::Missing,
+        origin: None,
         east_per_e7: plane::M_PER_E7,
     };
     let motion = Motion {
-        from: Spot::Nowhere,
-        heading: Heading::Unknown,
+        from: None,
+        heading: None,
         heading_ms: 0,
     };
     let follow = Follow {
         line: Line::Nothing,
         segment: 0,
-        matched: Spot::Nowhere,
+        matched: None,
         off: false,
         reminded_ms: 0,
     };
@@ -62,7 +62,7 @@ pub fn new() -> Homing
         join_end: 0,
         along: 0.0,
         reached: 0.0,
-        fix: Spot::Nowhere,
+        fix: None,
     };
     let lap = no_lap();
     let window = [0.0; 96];
@@ -70,8 +70,8 @@ pub fn new() -> Homing
         trail,
         window,
         frame,
-        fed: Place::Missing,
-        here: Spot::Nowhere,
+        fed: None,
+        here: None,
         here_ms: 0,
         motion,
         follow,
@@ -80,7 +80,7 @@ pub fn new() -> Homing
         arrived: false,
         lap,
         updated_ms: 0,
-        guide: Shown::Nothing,
+        guide: None,
     }
 }
 
@@ -114,20 +114,20 @@ pub fn reset(h: Homing) -> Homing
     let forgotten = trail::reset(t);
     let was = h.frame;
     let frame = Frame {
-        origin: Place::Missing,
+        origin: None,
         ..was
     };
     let m = h.motion;
     let motion = Motion {
-        from: Spot::Nowhere,
-        heading: Heading::Unknown,
+        from: None,
+        heading: None,
         ..m
     };
     let f = h.follow;
     let follow = Follow {
         line: Line::Nothing,
         segment: 0,
-        matched: Spot::Nowhere,
+        matched: None,
         off: false,
         ..f
     };
@@ -137,14 +137,14 @@ pub fn reset(h: Homing) -> Homing
     Homing {
         trail: forgotten,
         frame,
-        fed: Place::Missing,
-        here: Spot::Nowhere,
+        fed: None,
+        here: None,
         motion,
         follow,
         course,
         arrived: false,
         lap,
-        guide: Shown::Nothing,
+        guide: None,
         ..h
     }
 }
@@ -161,7 +161,7 @@ fn off_course(h: Homing) -> Homing
         Line::Course => {
             let follow = Follow {
                 line: Line::Nothing,
-                matched: Spot::Nowhere,
+                matched: None,
                 off: false,
                 ..f
             };

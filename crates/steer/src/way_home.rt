@@ -10,8 +10,8 @@ ghost use Rattle.steer.specs.Decides.{Decides};
 
 use follow::Decided;
 use matching::distances;
-use plane::Spot;
-use segments::Best;
+use plane::Point;
+use segments::costs::Nearest;
 use state::Guided;
 
 // The guide brought up to date where there is a place to show.
@@ -21,7 +21,7 @@ pub fn brought(h: Guided, crumbs: &mut [f32], line: &[f32], now_ms: u64) -> Deci
         crumbs.old (decided_in result w) crumbs.new }
 {
     let here = h.here;
-    let Spot::At(p) = here else {
+    let Some(p) = here else {
         return Decided {
             guided: h,
             yes: true,
@@ -67,13 +67,13 @@ pub fn way_home(
 }
 
 // The course's nearest segment while the course is near.
-pub fn near_here(h: Guided, line: &[f32]) -> Best
+pub fn near_here(h: Guided, line: &[f32]) -> Option<Nearest>
     requires { h.course.line_len ≤ capacity (length line.now) }
     ensures { (w : List Float) → result ≡ near_here h.here (course_of (whole h w) line.now) }
 {
     let here = h.here;
-    let Spot::At(p) = here else {
-        return Best::Nothing;
+    let Some(p) = here else {
+        return None;
     };
     let len = h.course.line_len;
     search::course_near(line, len, p, distances::DROP_M)

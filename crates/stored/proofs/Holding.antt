@@ -3,7 +3,7 @@ use Prim.Native.Nat.{ℕ, ◌≤◌, ◌<◌}
 use mathlib.Core.Path.{◌≡◌, refl, sym, ap, ◌∙◌}
 use mathlib.Core.Bool.{Bool, true, false, ◌&&◌, cond, false≢true, true≢false, and-eq-true_iff, and-false}
 use mathlib.Core.List.{List}
-use mathlib.Core.Option.{Option, some, none}
+use Rattle.std.specs.Prelude.{Option, Some, None}
 use native.Mathlib.Omega.{arith}
 use borrow.Author.Tests.{leb-true}
 use lib.Dec.{leb, eqb}
@@ -39,20 +39,20 @@ loads-room w n h =
 pub loads-there : (w : List ℕ) (n : List Float) {h : Homing} → holds w n ≡ true → h ≡ homing_at w n → Loads w n h true
 unfolding stored
 loads-there w n {h} t e =
-    record { there = λ _. ap (λ b. cond b (some (homing_at w n)) none) t ∙ ap some (sym e); nothing = λ f. absurd (true≢false f) }
+    record { there = λ _. ap (λ b. cond b (Some (homing_at w n)) None) t ∙ ap Some (sym e); nothing = λ f. absurd (true≢false f) }
 
 pub loads-nothing : (w : List ℕ) (n : List Float) (h : Homing) → holds w n ≡ false → Loads w n h false
 unfolding stored
-loads-nothing w n h t = record { there = λ f. absurd (false≢true f); nothing = λ _. ap (λ b. cond b (some (homing_at w n)) none) t }
+loads-nothing w n h t = record { there = λ f. absurd (false≢true f); nothing = λ _. ap (λ b. cond b (Some (homing_at w n)) None) t }
 
 unfoldable is_some : {A : Type 0} → Option A → Bool
-is_some (some x) = true
-is_some none = false
+is_some (Some x) = true
+is_some None = false
 
 pub has_room : HasRoom
 unfolding stored is_some
 has_room w n h e = go (holds w n) refl e
   where
-    go : (b : Bool) → holds w n ≡ b → cond b (some (homing_at w n)) none ≡ some h → (word_count ≤ length w) × (number_count ≤ length n)
+    go : (b : Bool) → holds w n ≡ b → cond b (Some (homing_at w n)) None ≡ Some h → (word_count ≤ length w) × (number_count ≤ length n)
     go true t e = loads-room w n t
     go false t e = absurd (false≢true (ap is_some e))

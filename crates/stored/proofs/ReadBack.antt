@@ -3,18 +3,16 @@ use Prim.Native.Nat.{ℕ, ◌+◌, ◌<◌}
 use mathlib.Core.Path.{◌≡◌, refl, ap, ◌∙◌}
 use mathlib.Core.Bool.{true, ◌&&◌, cond}
 use mathlib.Core.List.{List, ◌++◌}
-use mathlib.Core.Option.{none, some}
 use native.Mathlib.Omega.{arith}
 use borrow.Author.Tests.{le-leb}
 use lib.Dec.{leb, eqb}
 use lib.ListN.{length, get_or, take, drop, length-append}
 use lib.Seq.{take_at}
 use lib.Ieee.{Float}
-use Rattle.plane.specs.declared.Heading.TheVariants as heading
+use Rattle.std.specs.Prelude.{Some, None}
 use Rattle.lap.specs.declared.Stage.TheVariants as stage
 use Rattle.state.specs.declared.Line.TheVariants as line
 use Rattle.state.specs.declared.Mode.TheVariants as mode
-use Rattle.state.specs.declared.Shown.TheVariants as shown
 use Rattle.state.specs.declared.Guide.{Guide}
 use Rattle.state.specs.declared.Homing.{Homing}
 use Rattle.stored.specs.Fields.{most32, most16, most8, within, word_at, flag_at, signed_at, spot_at, heading_at, heading_in, place_read}
@@ -131,7 +129,7 @@ module _ (h : Homing) (fits : StateFits h) (ws : List ℕ) (ns : List Float) whe
 
   shown-back : shown_at W ≡ h.guide
   unfolding shown_at words_of
-  shown-back = ap (λ g. cond (eqb (shown_flag h.guide) 1) (shown.Guide g) shown.Nothing) guide-back ∙ shown-same h.guide
+  shown-back = ap (λ g. cond (eqb (shown_flag h.guide) 1) (Some g) None) guide-back ∙ shown-same h.guide
 
   flags-back : (flag_at W 28 ≡ h.auto_follow) × (flag_at W 29 ≡ h.arrived)
   unfolding words_of
@@ -180,5 +178,5 @@ module _ (h : Homing) (fits : StateFits h) (ws : List ℕ) (ns : List Float) whe
 pub read_back : ReadBack
 unfolding stored
 read_back h fits ws ns =
-    ap (λ b. cond b (some (homing_at (words_of h ++ ws) (numbers_of h ++ ns))) none) (holds-it h fits ws ns)
-    ∙ ap some (homing-back h fits ws ns)
+    ap (λ b. cond b (Some (homing_at (words_of h ++ ws) (numbers_of h ++ ns))) None) (holds-it h fits ws ns)
+    ∙ ap Some (homing-back h fits ws ns)

@@ -5,14 +5,10 @@ use Rattle.std.specs.Prelude.{Float}
 use Rattle.std.specs.Float.{nan}
 use Rattle.binary32.specs.Limits.{plus_zero}
 use Rattle.plane.specs.declared.Point.{Point}
-use Rattle.plane.specs.declared.Spot.{Spot}
-use Rattle.plane.specs.declared.Spot.TheVariants as spot
-use Rattle.plane.specs.declared.Heading.{Heading}
-use Rattle.plane.specs.declared.Heading.TheVariants as heading
+use Rattle.std.specs.Prelude.{Option, Some, None}
+use Rattle.plane.specs.declared.Fix.{Fix}
 use Rattle.lap.specs.declared.Stage.{Stage}
 use Rattle.lap.specs.declared.Stage.TheVariants as stage
-use Rattle.state.specs.declared.Place.{Place}
-use Rattle.state.specs.declared.Place.TheVariants as place
 use Rattle.state.specs.declared.Line.{Line}
 use Rattle.state.specs.declared.Line.TheVariants as line
 use Rattle.state.specs.declared.Mode.{Mode}
@@ -60,18 +56,18 @@ abbrev pub point_at : List Float → ℕ → Point
 point_at n j = record { east = number_at n j; north = number_at n (j + 1) }
 
 -- word i says whether there is a place, which stands at number j
-unfoldable pub spot_at : List ℕ → ℕ → List Float → ℕ → Spot
-spot_at w i n j = cond (flag_at w i) (spot.At (point_at n j)) spot.Nowhere
+unfoldable pub spot_at : List ℕ → ℕ → List Float → ℕ → Option Point
+spot_at w i n j = cond (flag_at w i) (Some (point_at n j)) None
 
-abbrev pub heading_of : Bool → ℕ → Heading
-heading_of true a = heading.Known a
-heading_of false a = heading.Unknown
+abbrev pub heading_of : Bool → ℕ → Option ℕ
+heading_of true a = Some a
+heading_of false a = None
 
-unfoldable pub heading_at : List ℕ → ℕ → Heading
+unfoldable pub heading_at : List ℕ → ℕ → Option ℕ
 heading_at w i = heading_of (flag_at w i) (narrow_at most16 w (i + 1))
 
-unfoldable pub place_read : List ℕ → ℕ → Place
-place_read w i = cond (flag_at w i) (place.At (signed_at w (i + 1)) (signed_at w (i + 2))) place.Missing
+unfoldable pub place_read : List ℕ → ℕ → Option Fix
+place_read w i = cond (flag_at w i) (Some (signed_at w (i + 1)) (signed_at w (i + 2))) None
 
 abbrev pub line_of_tag : ℕ → Line
 line_of_tag n = get_or (line.Nothing ∷ line.Breadcrumb ∷ line.Course ∷ []) n line.Nothing
@@ -91,33 +87,33 @@ abbrev pub unsigned : ℤ → ℕ
 unsigned (pos n) = n
 unsigned (negsuc n) = 2 ^ 32 - suc n
 
-abbrev pub spot_flag : Spot → ℕ
-spot_flag (spot.At p) = 1
-spot_flag spot.Nowhere = 0
+abbrev pub spot_flag : Option Point → ℕ
+spot_flag (Some p) = 1
+spot_flag None = 0
 
-abbrev pub point_in : Spot → Point
-point_in (spot.At p) = p
-point_in spot.Nowhere = record { east = plus_zero; north = plus_zero }
+abbrev pub point_in : Option Point → Point
+point_in (Some p) = p
+point_in None = record { east = plus_zero; north = plus_zero }
 
-abbrev pub heading_flag : Heading → ℕ
-heading_flag (heading.Known a) = 1
-heading_flag heading.Unknown = 0
+abbrev pub heading_flag : Option ℕ → ℕ
+heading_flag (Some a) = 1
+heading_flag None = 0
 
-abbrev pub heading_in : Heading → ℕ
-heading_in (heading.Known a) = a
-heading_in heading.Unknown = 0
+abbrev pub heading_in : Option ℕ → ℕ
+heading_in (Some a) = a
+heading_in None = 0
 
-abbrev pub place_flag : Place → ℕ
-place_flag (place.At lat lon) = 1
-place_flag place.Missing = 0
+abbrev pub place_flag : Option Fix → ℕ
+place_flag (Some x) = 1
+place_flag None = 0
 
-abbrev pub lat_in : Place → ℤ
-lat_in (place.At lat lon) = lat
-lat_in place.Missing = pos 0
+abbrev pub lat_in : Option Fix → ℤ
+lat_in (Some x) = x.lat
+lat_in None = pos 0
 
-abbrev pub lon_in : Place → ℤ
-lon_in (place.At lat lon) = lon
-lon_in place.Missing = pos 0
+abbrev pub lon_in : Option Fix → ℤ
+lon_in (Some x) = x.lon
+lon_in None = pos 0
 
 abbrev pub line_tag : Line → ℕ
 line_tag line.Nothing = 0

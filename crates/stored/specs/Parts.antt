@@ -1,19 +1,16 @@
 -- The parts of a guide's state: how each is read, and the words that it is written as. Where a part stands among the words and the
 -- numbers is in the table of crates/stored/specs/Stored.antt.
-use Rattle.std.specs.Prelude.{ℕ, ◌+◌, cond, List, [], ◌∷◌, ◌++◌, Float}
+use Rattle.std.specs.Prelude.{ℕ, ◌+◌, cond, List, [], ◌∷◌, ◌++◌, Float, Option, Some, None}
 use Rattle.std.specs.Int.{w32}
 use Rattle.std.proofs.Common.{SFits}
-use Rattle.plane.specs.declared.Heading.{Heading}
+use Rattle.plane.specs.declared.Fix.{Fix}
 use Rattle.motion.specs.declared.Motion.{Motion}
 use Rattle.lap.specs.declared.Lap.{Lap}
 use Rattle.trail.specs.declared.Trail.{Trail}
-use Rattle.state.specs.declared.Place.{Place}
 use Rattle.state.specs.declared.Frame.{Frame}
 use Rattle.state.specs.declared.Follow.{Follow}
 use Rattle.state.specs.declared.Course.{Course}
 use Rattle.state.specs.declared.Guide.{Guide}
-use Rattle.state.specs.declared.Shown.{Shown}
-use Rattle.state.specs.declared.Shown.TheVariants as shown
 use Rattle.state.specs.State.{course_with}
 use Rattle.stored.specs.Fields.{most64, most32, most16, most8, word_at, number_at, narrow_at, flag_at, spot_at, heading_at, place_read}
 use Rattle.stored.specs.Fields.{line_of_tag, stage_of_tag, mode_of_tag, flag_of, unsigned, spot_flag, heading_flag, heading_in, place_flag}
@@ -101,24 +98,24 @@ guide_read w i =
       heading = heading_at w (i + 8);
     }
 
-unfoldable pub shown_at : List ℕ → Shown
-shown_at w = cond (flag_at w 34) (shown.Guide (guide_read w 35)) shown.Nothing
+unfoldable pub shown_at : List ℕ → Option Guide
+shown_at w = cond (flag_at w 34) (Some (guide_read w 35)) None
 
 -- ---- written
 -- where no guide is shown, one whose words are 0
-abbrev pub guide_in : Shown → Guide
-guide_in (shown.Guide g) = g
-guide_in shown.Nothing = guide_read [] 0
+abbrev pub guide_in : Option Guide → Guide
+guide_in (Some g) = g
+guide_in None = guide_read [] 0
 
-abbrev pub shown_flag : Shown → ℕ
-shown_flag (shown.Guide g) = 1
-shown_flag shown.Nothing = 0
+abbrev pub shown_flag : Option Guide → ℕ
+shown_flag (Some g) = 1
+shown_flag None = 0
 
 -- the words of each part
-abbrev pub place_words : Place → List ℕ
+abbrev pub place_words : Option Fix → List ℕ
 place_words p = place_flag p ∷ unsigned (lat_in p) ∷ unsigned (lon_in p) ∷ []
 
-abbrev pub heading_words : Heading → List ℕ
+abbrev pub heading_words : Option ℕ → List ℕ
 heading_words h = heading_flag h ∷ heading_in h ∷ []
 
 abbrev pub motion_words : Motion → List ℕ
@@ -140,6 +137,6 @@ guide_words g =
 
 -- ---- what is promised
 -- a place's latitude and longitude are each an i32
-pub record PlaceFits (p : Place) : Type 0 where
+pub record PlaceFits (p : Option Fix) : Type 0 where
   pub lat : SFits w32 (lat_in p)
   pub lon : SFits w32 (lon_in p)

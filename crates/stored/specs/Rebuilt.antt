@@ -6,10 +6,7 @@
 -- | 1, 2 | recovered, walk: slot |
 -- | 3 to 5 | stage: whether it is pending, and the time (two) that it then has |
 -- | 6 | clock_ms |
-use Rattle.std.specs.Prelude.{ℕ, ◌+◌, ◌≤◌, ◌≡◌, Bool, true, false, ◌&&◌, cond, List, [], ◌∷◌, ◌++◌, eqb, length, drop}
-use Rattle.std.proofs.Math.Option.{Option, none, some}
-use Rattle.ride_log.specs.declared.Utc.{Utc}
-use Rattle.ride_log.specs.declared.Utc.TheVariants as utc
+use Rattle.std.specs.Prelude.{ℕ, ◌+◌, ◌≤◌, ◌≡◌, Bool, true, false, ◌&&◌, cond, List, [], ◌∷◌, ◌++◌, eqb, length, drop, Option, Some, None}
 use Rattle.rebuild.specs.declared.Stage.{Stage}
 use Rattle.rebuild.specs.declared.Stage.TheVariants as stage
 use Rattle.rebuild.specs.declared.Rebuild.{Rebuild}
@@ -26,11 +23,11 @@ abbrev pub rebuild_mosts : List ℕ
 rebuild_mosts = rebuild_mark ∷ most32 ∷ most64 ∷ 1 ∷ 1 ∷ most64 ∷ most64 ∷ []
 
 -- ---- read
-abbrev pub utc_of : Bool → ℕ → Utc
-utc_of true t = utc.At t
-utc_of false t = utc.Unknown
+abbrev pub utc_of : Bool → ℕ → Option ℕ
+utc_of true t = Some t
+utc_of false t = None
 
-unfoldable pub utc_read : List ℕ → ℕ → Utc
+unfoldable pub utc_read : List ℕ → ℕ → Option ℕ
 utc_read w i = utc_of (flag_at w i) (word_at w (i + 1))
 
 unfoldable pub stage_read : List ℕ → Stage
@@ -44,24 +41,24 @@ unfoldable pub holds_rebuild : List ℕ → Bool
 holds_rebuild w = eqb (word_at w 0) rebuild_mark && within rebuild_mosts w
 
 unfoldable pub stored_rebuild : List ℕ → Option Rebuild
-stored_rebuild w = cond (holds_rebuild w) (some (rebuild_at w)) none
+stored_rebuild w = cond (holds_rebuild w) (Some (rebuild_at w)) None
 
 -- ---- written
 abbrev pub pending_flag : Stage → ℕ
 pending_flag (stage.Pending t) = 1
 pending_flag stage.Decided = 0
 
-abbrev pub pending_in : Stage → Utc
+abbrev pub pending_in : Stage → Option ℕ
 pending_in (stage.Pending t) = t
-pending_in stage.Decided = utc.Unknown
+pending_in stage.Decided = None
 
-abbrev pub utc_flag : Utc → ℕ
-utc_flag (utc.At t) = 1
-utc_flag utc.Unknown = 0
+abbrev pub utc_flag : Option ℕ → ℕ
+utc_flag (Some t) = 1
+utc_flag None = 0
 
-abbrev pub utc_in : Utc → ℕ
-utc_in (utc.At t) = t
-utc_in utc.Unknown = 0
+abbrev pub utc_in : Option ℕ → ℕ
+utc_in (Some t) = t
+utc_in None = 0
 
 unfoldable pub rebuild_words : Rebuild → List ℕ
 rebuild_words r =
@@ -75,11 +72,11 @@ rebuild_words r =
 -- Reading back what was stored gives the same rebuild, every field, where each fits its type, whatever lies behind.
 abbrev pub RebuildReadBack : Type 0
 RebuildReadBack = (r : Rebuild) → within rebuild_mosts (rebuild_words r) ≡ true → (ws : List ℕ)
-    → stored_rebuild (rebuild_words r ++ ws) ≡ some r
+    → stored_rebuild (rebuild_words r ++ ws) ≡ Some r
 
 -- Words that hold a rebuild have the room for one.
 abbrev pub RebuildHasRoom : Type 0
-RebuildHasRoom = (w : List ℕ) (r : Rebuild) → stored_rebuild w ≡ some r → rebuild_count ≤ length w
+RebuildHasRoom = (w : List ℕ) (r : Rebuild) → stored_rebuild w ≡ Some r → rebuild_count ≤ length w
 
 -- A rebuild r is stored: its words stand in front, and what lies behind them is as it was. Each field fits its type, on which reading back
 -- rests.
@@ -89,4 +86,4 @@ pub record StoresRebuild (r : Rebuild) (w w' : List ℕ) : Type 0 where
 
 -- Words in which a rebuild is stored hold that rebuild, every field.
 abbrev pub RebuildHoldsStored : Type 0
-RebuildHoldsStored = (r : Rebuild) (w w' : List ℕ) → StoresRebuild r w w' → stored_rebuild w' ≡ some r
+RebuildHoldsStored = (r : Rebuild) (w w' : List ℕ) → StoresRebuild r w w' → stored_rebuild w' ≡ Some r

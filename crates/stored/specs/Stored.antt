@@ -19,7 +19,7 @@
 -- | 10 to 13 | the points of course's fix, lap's start |
 -- | 14 to 109 | trail: window |
 use Rattle.std.specs.Prelude.{ℕ, ◌≤◌, ◌≡◌, Bool, true, ◌&&◌, cond, List, [], ◌∷◌, ◌++◌, leb, eqb, length, take, drop, Float}
-use Rattle.std.proofs.Math.Option.{Option, none, some}
+use Rattle.std.specs.Prelude.{Option, Some, None}
 use Rattle.state.specs.declared.Homing.{Homing}
 use Rattle.stored.specs.Fields.{within, word_at, flag_at, spot_at, place_read, point_in}
 unfoldable pub use Rattle.stored.specs.Parts.{trail_at, frame_at, motion_at, follow_at, course_at, lap_at, guide_read, shown_at}
@@ -58,7 +58,7 @@ unfoldable pub holds : List ℕ → List Float → Bool
 holds w n = eqb (word_at w 0) mark && (within mosts w && leb number_count (length n))
 
 unfoldable pub stored : List ℕ → List Float → Option Homing
-stored w n = cond (holds w n) (some (homing_at w n)) none
+stored w n = cond (holds w n) (Some (homing_at w n)) None
 
 -- ---- written
 -- the numbers before the window
@@ -86,11 +86,11 @@ pub record StateFits (h : Homing) : Type 0 where
 
 -- Reading back what was stored gives the same state, every field, whatever lies behind.
 abbrev pub ReadBack : Type 0
-ReadBack = (h : Homing) → StateFits h → (ws : List ℕ) (ns : List Float) → stored (words_of h ++ ws) (numbers_of h ++ ns) ≡ some h
+ReadBack = (h : Homing) → StateFits h → (ws : List ℕ) (ns : List Float) → stored (words_of h ++ ws) (numbers_of h ++ ns) ≡ Some h
 
 -- Slices that hold a state have the room for one.
 abbrev pub HasRoom : Type 0
-HasRoom = (w : List ℕ) (n : List Float) (h : Homing) → stored w n ≡ some h → (word_count ≤ length w) × (number_count ≤ length n)
+HasRoom = (w : List ℕ) (n : List Float) (h : Homing) → stored w n ≡ Some h → (word_count ≤ length w) × (number_count ≤ length n)
 
 -- A state h is stored: its words and its numbers stand in front, and what lies behind them is as it was. Each field fits its type, on which
 -- reading back rests.
@@ -101,4 +101,4 @@ pub record Stores (h : Homing) (w : List ℕ) (n : List Float) (w' : List ℕ) (
 
 -- Slices in which a state is stored hold that state, every field.
 abbrev pub HoldsStored : Type 0
-HoldsStored = (h : Homing) (w : List ℕ) (n : List Float) (w' : List ℕ) (n' : List Float) → Stores h w n w' n' → stored w' n' ≡ some h
+HoldsStored = (h : Homing) (w : List ℕ) (n : List Float) (w' : List ℕ) (n' : List Float) → Stores h w n w' n' → stored w' n' ≡ Some h

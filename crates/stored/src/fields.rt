@@ -9,8 +9,8 @@ ghost use Rattle.stored.specs.Fields.{point_in};
 ghost use Rattle.stored.specs.Fields.{heading_flag, heading_in, place_flag, lat_in, lon_in, line_tag, stage_tag, mode_tag};
 
 use lap::Stage as Pass;
-use plane::{Heading, Point, Spot};
-use state::{Line, Mode, Place};
+use plane::{Fix, Point};
+use state::{Line, Mode};
 
 // The most that a word may be, by its field's type.
 pub const U64: u64 = 0xFFFF_FFFF_FFFF_FFFF;
@@ -109,34 +109,37 @@ fn point_at(numbers: &[f32], j: usize) -> Point
     }
 }
 
-pub fn spot_at(words: &[u64], i: usize, numbers: &[f32], j: usize) -> Spot
+pub fn spot_at(words: &[u64], i: usize, numbers: &[f32], j: usize) -> Option<Point>
     requires { (i < length words.now) × (j + 1 < length numbers.now) }
     ensures { result ≡ spot_at words.now i numbers.now j }
 {
     if flag_at(words, i) {
-        return Spot::At(point_at(numbers, j));
+        return Some(point_at(numbers, j));
     }
-    Spot::Nowhere
+    None
 }
 
-pub fn heading_at(words: &[u64], i: usize) -> Heading
+pub fn heading_at(words: &[u64], i: usize) -> Option<u16>
     requires { i + 1 < length words.now }
     ensures { result ≡ heading_at words.now i }
 {
     if flag_at(words, i) {
-        return Heading::Known(u16_at(words, i + 1));
+        return Some(u16_at(words, i + 1));
     }
-    Heading::Unknown
+    None
 }
 
-pub fn place_at(words: &[u64], i: usize) -> Place
+pub fn place_at(words: &[u64], i: usize) -> Option<Fix>
     requires { i + 2 < length words.now }
     ensures { result ≡ place_read words.now i }
 {
     if flag_at(words, i) {
-        return Place::At(i32_at(words, i + 1), i32_at(words, i + 2));
+        return Some(Fix {
+            lat: i32_at(words, i + 1),
+            lon: i32_at(words, i + 2),
+        });
     }
-    Place::Missing
+    None
 }
 
 pub fn line_of(tag: u64) -> Line
@@ -191,69 +194,69 @@ pub fn unsigned(z: i32) -> u64
     z as u64
 }
 
-pub fn spot_flag(s: Spot) -> u64
+pub fn spot_flag(s: Option<Point>) -> u64
     ensures { result ≡ spot_flag s }
 {
     match s {
-        Spot::At(_) => 1,
-        Spot::Nowhere => 0,
+        Some(_) => 1,
+        None => 0,
     }
 }
 
-pub fn point_in(s: Spot) -> Point
+pub fn point_in(s: Option<Point>) -> Point
     ensures { result ≡ point_in s }
 {
     match s {
-        Spot::At(p) => p,
-        Spot::Nowhere => Point {
+        Some(p) => p,
+        None => Point {
             east: 0.0,
             north: 0.0,
         },
     }
 }
 
-pub fn heading_flag(h: Heading) -> u64
+pub fn heading_flag(h: Option<u16>) -> u64
     ensures { result ≡ heading_flag h }
 {
     match h {
-        Heading::Known(_) => 1,
-        Heading::Unknown => 0,
+        Some(_) => 1,
+        None => 0,
     }
 }
 
-pub fn heading_in(h: Heading) -> u16
+pub fn heading_in(h: Option<u16>) -> u16
     ensures { result ≡ heading_in h }
 {
     match h {
-        Heading::Known(a) => a,
-        Heading::Unknown => 0,
+        Some(a) => a,
+        None => 0,
     }
 }
 
-pub fn place_flag(p: Place) -> u64
+pub fn place_flag(p: Option<Fix>) -> u64
     ensures { result ≡ place_flag p }
 {
     match p {
-        Place::At(_, _) => 1,
-        Place::Missing => 0,
+        Some(_) => 1,
+        None => 0,
     }
 }
 
-pub fn lat_in(p: Place) -> i32
+pub fn lat_in(p: Option<Fix>) -> i32
     ensures { result ≡ lat_in p }
 {
     match p {
-        Place::At(lat, _) => lat,
-        Place::Missing => 0,
+        Some(fix) => fix.lat,
+        None => 0,
     }
 }
 
-pub fn lon_in(p: Place) -> i32
+pub fn lon_in(p: Option<Fix>) -> i32
     ensures { result ≡ lon_in p }
 {
     match p {
-        Place::At(_, lon) => lon,
-        Place::Missing => 0,
+        Some(fix) => fix.lon,
+        None => 0,
     }
 }
 

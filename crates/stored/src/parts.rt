@@ -11,8 +11,8 @@ ghost use Rattle.stored.specs.Parts.{course_mosts, lap_mosts, guide_mosts, Place
 use crate::{fields, layout};
 use lap::{Lap, StartPass};
 use motion::Motion;
-use plane::Heading;
-use state::{Course, Follow, Frame, Guide, Mode, Place, Shown};
+use plane::Fix;
+use state::{Course, Follow, Frame, Guide, Mode};
 use trail::Trail;
 
 // How many numbers the window has.
@@ -123,14 +123,14 @@ fn guide_at(words: &[u64]) -> Guide
     }
 }
 
-pub fn shown_at(words: &[u64]) -> Shown
+pub fn shown_at(words: &[u64]) -> Option<Guide>
     requires { word_count ≤ length words.now }
     ensures { result ≡ shown_at words.now }
 {
     if fields::flag_at(words, layout::SHOWN) {
-        return Shown::Guide(guide_at(words));
+        return Some(guide_at(words));
     }
-    Shown::Nothing
+    None
 }
 
 // ---- parts, written
@@ -147,29 +147,29 @@ fn blank() -> Guide
         track_m: 0,
         off_m: 0,
         bearing: 0,
-        heading: Heading::Unknown,
+        heading: None,
     }
 }
 
-pub fn guide_in(s: Shown) -> Guide
+pub fn guide_in(s: Option<Guide>) -> Guide
     ensures { result ≡ guide_in s }
 {
     match s {
-        Shown::Guide(g) => g,
-        Shown::Nothing => blank(),
+        Some(g) => g,
+        None => blank(),
     }
 }
 
-pub fn shown_flag(s: Shown) -> u64
+pub fn shown_flag(s: Option<Guide>) -> u64
     ensures { result ≡ shown_flag s }
 {
     match s {
-        Shown::Guide(_) => 1,
-        Shown::Nothing => 0,
+        Some(_) => 1,
+        None => 0,
     }
 }
 
-pub fn place_words(p: Place) -> [u64; 3]
+pub fn place_words(p: Option<Fix>) -> [u64; 3]
     ensures { (result ≡ place_words p) × (within place_mosts (place_words p) ≡ true) × (PlaceFits p) }
 {
     [
@@ -179,7 +179,7 @@ pub fn place_words(p: Place) -> [u64; 3]
     ]
 }
 
-fn heading_words(h: Heading) -> [u64; 2]
+fn heading_words(h: Option<u16>) -> [u64; 2]
     ensures { (result ≡ heading_words h) × (within heading_mosts (heading_words h) ≡ true) }
 {
     [fields::heading_flag(h), fields::heading_in(h) as u64]

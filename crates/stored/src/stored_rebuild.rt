@@ -8,7 +8,6 @@ ghost use Rattle.stored.specs.Inner.{LoadsRebuild};
 
 use crate::{fields, layout};
 use rebuild::{Rebuild, Stage, Walk};
-use ride_log::Utc;
 
 pub const REBUILD_WORDS: usize = 7;
 
@@ -33,14 +32,14 @@ pub struct HeldRebuild {
     pub held: bool,
 }
 
-fn utc_at(words: &[u64], i: usize) -> Utc
+fn utc_at(words: &[u64], i: usize) -> Option<u64>
     requires { i + 1 < length words.now }
     ensures { result ≡ utc_read words.now i }
 {
     if fields::flag_at(words, i) {
-        return Utc::At(words[i + 1]);
+        return Some(words[i + 1]);
     }
-    Utc::Unknown
+    None
 }
 
 fn stage_at(words: &[u64]) -> Stage
@@ -114,30 +113,30 @@ fn pending_flag(s: Stage) -> u64
     }
 }
 
-fn pending_in(s: Stage) -> Utc
+fn pending_in(s: Stage) -> Option<u64>
     ensures { result ≡ pending_in s }
 {
     match s {
         Stage::Pending(t) => t,
-        Stage::Decided => Utc::Unknown,
+        Stage::Decided => None,
     }
 }
 
-fn utc_flag(t: Utc) -> u64
+fn utc_flag(t: Option<u64>) -> u64
     ensures { result ≡ utc_flag t }
 {
     match t {
-        Utc::At(_) => 1,
-        Utc::Unknown => 0,
+        Some(_) => 1,
+        None => 0,
     }
 }
 
-fn utc_in(t: Utc) -> u64
+fn utc_in(t: Option<u64>) -> u64
     ensures { result ≡ utc_in t }
 {
     match t {
-        Utc::At(ms) => ms,
-        Utc::Unknown => 0,
+        Some(ms) => ms,
+        None => 0,
     }
 }
 

@@ -10,11 +10,11 @@ use lib.ListN.{length}
 use Rattle.crumbs.specs.Crumb.{whole, capacity, crumbs}
 use Rattle.trail.specs.Trail.{window_places}
 use Rattle.state.specs.declared.Place.{Place as Fed}
-use Rattle.state.specs.declared.Place.TheVariants as fed
+use Rattle.std.specs.Prelude.{Some, None}
+use Rattle.plane.specs.declared.Fix.{Fix}
 use Rattle.state.specs.declared.Line.{Line}
 use Rattle.state.specs.declared.Line.TheVariants as line
 use Rattle.state.specs.State.{State}
-use Rattle.course.specs.Fix.{Fix}
 use Rattle.calls.specs.Questions.{question1, segment_fits, follow_fits, counts_fit, spots_fit, numbers_fit, state_fits, held_fits}
 use Rattle.calls.specs.Questions.{latitude_fits}
 use Rattle.calls.specs.Questions.{longitude_fits, asks_fix, ◌or_else◌, asks_fixes}
@@ -104,5 +104,5 @@ fixes-asked (x ∷ xs) g = or_else_none (asks_fix x) (asks_fixes xs) (fix-asked 
 
 pub place-asked : (x : Fed) → FixesOnGlobe (point_of x) → asks_place x ≡ 0
 unfolding asks_place
-place-asked (fed.At lat lon) g = fix-asked (record { lat = lat; lon = lon }) g.0
-place-asked fed.Missing g = refl
+place-asked (Some x) g = fix-asked x g.0
+place-asked None g = refl

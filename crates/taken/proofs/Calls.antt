@@ -8,17 +8,14 @@ use borrow.Author.Tests.{leb-false}
 use lib.Dec.{ltb}
 use lib.ListN.{length}
 use Rattle.plane.specs.declared.Point.{Point}
-use Rattle.plane.specs.declared.Spot.{Spot}
-use Rattle.plane.specs.declared.Spot.TheVariants as spot
+use Rattle.std.specs.Prelude.{Option, Some, None}
+use Rattle.plane.specs.declared.Fix.{Fix}
 use Rattle.plane.proofs.Place.{Place}
 use Rattle.crumbs.specs.declared.Crumb.{Crumb}
 use Rattle.motion.specs.Heading.{elapsed}
 use Rattle.segments.specs.declared.costs.Nearest.{Nearest}
-use Rattle.segments.specs.declared.Best.{Best}
-use Rattle.segments.specs.declared.Best.TheVariants as best
 use Rattle.search.proofs.Theorems.{course-near-met}
 use Rattle.state.specs.declared.Place.{Place as Fed}
-use Rattle.state.specs.declared.Place.TheVariants as fed
 use Rattle.state.specs.declared.Line.{Line}
 use Rattle.state.specs.declared.Line.TheVariants as line
 use Rattle.state.specs.declared.Event.{Event}
@@ -29,7 +26,7 @@ use Rattle.follow.specs.Engage.{cut_to, forgotten}
 use Rattle.joining.specs.Join.{with_retrace, retracing}
 use Rattle.joining.specs.Retrace.{len_before, rides_back}
 use Rattle.update.specs.Update.{update}
-use Rattle.course.specs.Fix.{Fix, located}
+use Rattle.course.specs.Fix.{located}
 use Rattle.calls.specs.Fix.{fix_lost_ms, is_at, unfixed, cleared, missing, same_fix, headed, still_ms, still_at, add_update, tell_following}
 use Rattle.calls.specs.Fix.{joined_course, turned_back, engaged_back, retraced, may_retrace, joined_or_not, fix_on, arrived_at, new_fix}
 use Rattle.calls.specs.Fix.{seen}
@@ -89,10 +86,10 @@ module _ (C : ℕ) (least : 3 ≤ C) (room : C ≤ most) (course : List Crumb) (
   update-at p now s k P = update-kept C least room course lined p P now s k
 
   -- ---- following begun and ended by the rider
-  update-here-kept : (x : Spot) (now : ℕ) (s : State) → Spotted x → K s → K (update_here x C course now s).state
+  update-here-kept : (x : Option Point) (now : ℕ) (s : State) → Spotted x → K s → K (update_here x C course now s).state
   unfolding update_here
-  update-here-kept spot.Nowhere now s h k = k
-  update-here-kept (spot.At p) now s h k = update-at p now s k h
+  update-here-kept None now s h k = k
+  update-here-kept (Some p) now s h k = update-at p now s k h
 
   brought-kept : (now : ℕ) (s : State) → K s → K (brought C course now s).state
   unfolding brought
@@ -107,21 +104,21 @@ module _ (C : ℕ) (least : 3 ≤ C) (room : C ≤ most) (course : List Crumb) (
   unfolding way_home
   way-home-kept now s k = engaged-or-kept _ now _ (engage-kept C course lined now _ (flush-kept C least room (length course) s k))
 
-  near-here-on : (x : Spot) (near : Nearest) → Spotted x → near_here x course ≡ best.Found near → OnSegment (length course) near
+  near-here-on : (x : Option Point) (near : Nearest) → Spotted x → near_here x course ≡ Some near → OnSegment (length course) near
   unfolding near_here
-  near-here-on spot.Nowhere near h e = let z : ◌≡◌ {A = ℕ} 0 1 = cc in absurd (omega arith)
-  near-here-on (spot.At p) near h e =
+  near-here-on None near h e = let z : ◌≡◌ {A = ℕ} 0 1 = cc in absurd (omega arith)
+  near-here-on (Some p) near h e =
       let m = (course-near-met course p _ near e).0 in
       let some : 1 ≤ length course = omega (arith, m.from, m.to) in
       met-on course p _ near lined h (omega arith) (omega arith) m
 
-  follow-kept : (found : Best) (now : ℕ) (s : State) → K s → ((near : Nearest) → found ≡ best.Found near → OnSegment (length course) near)
+  follow-kept : (found : Option Nearest) (now : ℕ) (s : State) → K s → ((near : Nearest) → found ≡ Some near → OnSegment (length course) near)
       → K (follow found C course now s).state
   unfolding follow
-  follow-kept (best.Found near) now s k h =
+  follow-kept (Some near) now s k h =
       let n = h near refl in
       brought-kept now _ (engage-at-kept C course lined line.Course near.end now s (n.from, n.to) k)
-  follow-kept best.Nothing now s k h = way-home-kept now s k
+  follow-kept None now s k h = way-home-kept now s k
 
   follow-from-kept : (on : Line) (now : ℕ) (s : State) → K s → K (follow_from on C course now s).state
   unfolding follow_from
@@ -148,10 +145,10 @@ module _ (C : ℕ) (least : 3 ≤ C) (room : C ≤ most) (course : List Crumb) (
   unfolding missing
   missing-kept now s k = one_of K (is_at s.here && ltb fix_lost_ms (elapsed now s.here_ms)) (λ t. cleared-kept s k) (λ t. k)
 
-  still-at-kept : (x : Spot) (now : ℕ) (s : State) → Spotted x → K s → K (still_at x C course now s).state
+  still-at-kept : (x : Option Point) (now : ℕ) (s : State) → Spotted x → K s → K (still_at x C course now s).state
   unfolding still_at
-  still-at-kept spot.Nowhere now s h k = k
-  still-at-kept (spot.At p) now s h k =
+  still-at-kept None now s h k = k
+  still-at-kept (Some p) now s h k =
       either (λ (d : Done Event). K d.state) (ltb (elapsed now s.updated_ms) still_ms) (λ t. k)
       (λ t. update-at p now _ (headed-kept C least room (length course) p now s k h) h)
 
@@ -245,5 +242,5 @@ module _ (C : ℕ) (least : 3 ≤ C) (room : C ≤ most) (course : List Crumb) (
 
   pub observe-kept : (x : Fed) (now : ℕ) (s : State) → K s → FixesOnGlobe (point_of x) → K (observe C course x now s).state
   unfolding observe
-  observe-kept (fed.At lat lon) now s k g = seen-kept (record { lat = lat; lon = lon }) now s k g.0
-  observe-kept fed.Missing now s k g = missing-kept now s k
+  observe-kept (Some x) now s k g = seen-kept x now s k g.0
+  observe-kept None now s k g = missing-kept now s k

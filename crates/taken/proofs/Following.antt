@@ -9,14 +9,9 @@ use lib.Dec.{ltb}
 use lib.ListN.{length, take}
 use Rattle.binary32.specs.Limits.{plus_zero}
 use Rattle.plane.specs.declared.Point.{Point}
-use Rattle.plane.specs.declared.Spot.{Spot}
-use Rattle.plane.specs.declared.Spot.TheVariants.{At, Nowhere}
-use Rattle.plane.specs.declared.Heading.{Heading}
-use Rattle.plane.specs.declared.Heading.TheVariants.{Known, Unknown}
+use Rattle.std.specs.Prelude.{Option, Some, None, ℕ}
 use Rattle.plane.proofs.Place.{Place}
 use Rattle.crumbs.specs.declared.Crumb.{Crumb}
-use Rattle.search.specs.declared.Join.{Join}
-use Rattle.search.specs.declared.Join.TheVariants.{Segment, NoSegment}
 use Rattle.search.specs.Course.{joined}
 use Rattle.search.proofs.Theorems.{joined_end}
 use Rattle.trail.specs.Notes.{thinned_in}
@@ -109,7 +104,7 @@ module _ (C : ℕ) (least : 3 ≤ C) (room : C ≤ most) (points : ℕ) where
       (grows C _ _ _ (flush-keeps C least t k.track.sound))
 
   -- ---- following ends
-  stopped-followed : (len : ℕ) (matched : Spot) (f : Follow) → Spotted matched → Followed len points (stopped matched f)
+  stopped-followed : (len : ℕ) (matched : Option Point) (f : Follow) → Spotted matched → Followed len points (stopped matched f)
   unfolding stopped
   stopped-followed len matched f h = record { segment = tt; matched = h }
 
@@ -119,7 +114,7 @@ module _ (C : ℕ) (least : 3 ≤ C) (room : C ≤ most) (points : ℕ) where
 
   pub stop-course-kept : (s : State) → Kept C points s → Kept C points (stop_course s)
   unfolding stop_course
-  stop-course-kept s k = kept-follow (kept-course k (held-off s.course k.course)) (stopped-followed _ Nowhere s.follow tt)
+  stop-course-kept s k = kept-follow (kept-course k (held-off s.course k.course)) (stopped-followed _ None s.follow tt)
 
   stop-nothing-kept : (s : State) → Kept C points s → Kept C points (stop_nothing s)
   unfolding stop_nothing
@@ -136,15 +131,15 @@ module _ (C : ℕ) (least : 3 ≤ C) (room : C ≤ most) (points : ℕ) where
             k.follow.matched;
       })
 
-  leave-kept : (x : Spot) (segment : ℕ) (s : State) → Spotted x → Kept C points s
-      → Kept C points (leave_at C x segment (with_follow (stopped Nowhere s.follow) (with_track (forgotten s.track) s))).state
+  leave-kept : (x : Option Point) (segment : ℕ) (s : State) → Spotted x → Kept C points s
+      → Kept C points (leave_at C x segment (with_follow (stopped None s.follow) (with_track (forgotten s.track) s))).state
   unfolding leave_at cut_to forgotten stopped
-  leave-kept Nowhere segment s h k =
-      let off = stopped-followed _ Nowhere s.follow tt in
+  leave-kept None segment s h k =
+      let off = stopped-followed _ None s.follow tt in
       kept-track (kept-follow k off) (forgotten-recorded C s.track k.track) (uncounted _ refl) (record { segment = tt; matched = tt })
-  leave-kept (At p) segment s h k =
-      keep-kept p _ (cut-kept segment s.track (with_follow (stopped Nowhere s.follow) s) k.track
-      (kept-follow k (stopped-followed _ Nowhere s.follow tt)) refl) h
+  leave-kept (Some p) segment s h k =
+      keep-kept p _ (cut-kept segment s.track (with_follow (stopped None s.follow) s) k.track
+      (kept-follow k (stopped-followed _ None s.follow tt)) refl) h
 
   stop-breadcrumb-kept : (s : State) → Kept C points s → Kept C points (stop_breadcrumb C s).state
   unfolding stop_breadcrumb
@@ -195,10 +190,10 @@ module _ (C : ℕ) (course : List Crumb) (lined : Lined course) where
   unfolding joined_to
   joined_to_lem fixes end c h = record { len = h.len; along = h.along; reached = h.reached; fix = h.fix }
 
-  join-on-kept : (j : Join) (s : State) → Kept C (length course) s → Kept C (length course) (join_on j s).state
+  join-on-kept : (j : Option ℕ) (s : State) → Kept C (length course) s → Kept C (length course) (join_on j s).state
   unfolding join_on
-  join-on-kept NoSegment s k = kept-course k (joined_to_lem 0 _ s.course k.course)
-  join-on-kept (Segment end) s k = kept-course k (joined_to_lem _ end s.course k.course)
+  join-on-kept None s k = kept-course k (joined_to_lem 0 _ s.course k.course)
+  join-on-kept (Some end) s k = kept-course k (joined_to_lem _ end s.course k.course)
 
   pub joining-kept : (p : Point) (s : State) → Kept C (length course) s → Kept C (length course) (joining course p s).state
   unfolding joining
@@ -208,19 +203,19 @@ module _ (C : ℕ) (course : List Crumb) (lined : Lined course) where
   abbrev pub Joined : State → Type 0
   Joined s = (1 ≤ s.course.join_end) × (s.course.join_end < length course)
 
-  join-on-end : (j : Join) (s : State) → ((end : ℕ) → j ≡ Segment end → (1 ≤ end) × (end < length course)) → (join_on j s).answer ≡ true
+  join-on-end : (j : Option ℕ) (s : State) → ((end : ℕ) → j ≡ Some end → (1 ≤ end) × (end < length course)) → (join_on j s).answer ≡ true
       → Joined (join_on j s).state
   unfolding join_on joined_to
-  join-on-end NoSegment s h e = absurd (true≢false (sym e))
-  join-on-end (Segment end) s h e = h end refl
+  join-on-end None s h e = absurd (true≢false (sym e))
+  join-on-end (Some end) s h e = h end refl
 
-  join-with-end : (heading : Heading) (p : Point) (s : State) (end : ℕ) → join_with heading course p s ≡ Segment end
+  join-with-end : (heading : Option ℕ) (p : Point) (s : State) (end : ℕ) → join_with heading course p s ≡ Some end
       → (1 ≤ end) × (end < length course)
   unfolding join_with
-  join-with-end Unknown p s end e = let z : ◌≡◌ {A = ℕ} 0 1 = cc in absurd (omega arith)
-  join-with-end (Known heading) p s end e = by (may_join course s) e
+  join-with-end None p s end e = let z : ◌≡◌ {A = ℕ} 0 1 = cc in absurd (omega arith)
+  join-with-end (Some heading) p s end e = by (may_join course s) e
     where
-      by : (b : Bool) → cond b (joined course p heading) NoSegment ≡ Segment end → (1 ≤ end) × (end < length course)
+      by : (b : Bool) → cond b (joined course p heading) None ≡ Some end → (1 ≤ end) × (end < length course)
       by true f = joined_end course p heading end f
       by false f = let z : ◌≡◌ {A = ℕ} 0 1 = cc in absurd (omega arith)
 
@@ -228,10 +223,10 @@ module _ (C : ℕ) (course : List Crumb) (lined : Lined course) where
   unfolding joining
   joining-end p s e = join-on-end (join_with s.motion.heading course p s) s (join-with-end s.motion.heading p s) e
 
-  join-on-follow : (j : Join) (s : State) → (join_on j s).state.follow ≡ s.follow
+  join-on-follow : (j : Option ℕ) (s : State) → (join_on j s).state.follow ≡ s.follow
   unfolding join_on
-  join-on-follow NoSegment s = refl
-  join-on-follow (Segment end) s = refl
+  join-on-follow None s = refl
+  join-on-follow (Some end) s = refl
 
   pub joining-follow : (p : Point) (s : State) → (joining course p s).state.follow ≡ s.follow
   unfolding joining

@@ -5,7 +5,7 @@ use native.Mathlib.Omega.{arith}
 use mathlib.Core.Path.{◌≡◌, refl, subst}
 use mathlib.Core.Bool.{true}
 use mathlib.Core.List.{List, [], ◌∷◌, ◌++◌}
-use mathlib.Core.Option.{none}
+use Rattle.std.specs.Prelude.{None}
 use lib.ListN.{length, take}
 use lib.Ieee.{Float}
 use Rattle.plane.specs.declared.Point.{Point}
@@ -70,7 +70,7 @@ unfolding along_behind
 behind i a [] p few A h P = (next i a p (omega arith) A P, tt)
 behind i a (b ∷ l) p few A h P = (h.0, behind (suc i) b l p (omega arith) h.0 h.1 P)
 
-pub start : (p : Point) → Place p → CrumbAt 0 (crumb_of p (along_behind none p))
+pub start : (p : Point) → Place p → CrumbAt 0 (crumb_of p (along_behind None p))
 unfolding along_behind
 start p P = record { place = P; along = along-start }
 

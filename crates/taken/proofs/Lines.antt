@@ -4,7 +4,7 @@ use native.Mathlib.Omega.{arith}
 use mathlib.Core.Path.{◌≡◌, refl, sym, subst}
 use mathlib.Core.Bool.{Bool, false}
 use mathlib.Core.List.{List, [], ◌∷◌, reverse, reverse_aux}
-use mathlib.Core.Option.{Option, none, some}
+use Rattle.std.specs.Prelude.{Some, None, Option}
 use lib.Dec.{leb, lit≤}
 use lib.ListN.{length, length-reverse}
 use Rattle.binary32.specs.Arithmetic.{constant}
@@ -20,7 +20,8 @@ use Rattle.state.specs.declared.Course.{Course}
 use Rattle.state.specs.State.{State, with_course}
 use Rattle.follow.specs.Parts.{stopped}
 use Rattle.follow.specs.Engage.{stop_course}
-use Rattle.course.specs.Fix.{Fix, framed}
+use Rattle.course.specs.Fix.{framed}
+use Rattle.plane.specs.declared.Fix.{Fix}
 use Rattle.course.specs.Course.{place_behind, placed, no_origin, line_of}
 use Rattle.course.proofs.Placing.{length-behind}
 use Rattle.calls.specs.Fix.{unheaded}
@@ -43,14 +44,14 @@ globe-reverse : (xs : List Fix) → FixesOnGlobe xs → FixesOnGlobe (reverse xs
 globe-reverse xs h = globe-aux xs [] h tt
 
 laid-behind : (i : ℕ) (a : Crumb) (f : Frame) (xs : List Fix) → i + length xs ≤ most → CrumbAt i a → Framed f → FixesOnGlobe xs
-    → Laid (suc i) (place_behind f (some a) xs)
+    → Laid (suc i) (place_behind f (Some a) xs)
 unfolding place_behind along_behind
 laid-behind i a f [] few A h g = tt
 laid-behind i a f (x ∷ xs) few A h g =
     let c = next i a (framed f x) (omega arith) A (framed-place f x h g.0) in
     (c, laid-behind (suc i) _ f xs (omega arith) c h g.1)
 
-laid_none : (f : Frame) (xs : List Fix) → length xs ≤ most → Framed f → FixesOnGlobe xs → Laid 0 (place_behind f none xs)
+laid_none : (f : Frame) (xs : List Fix) → length xs ≤ most → Framed f → FixesOnGlobe xs → Laid 0 (place_behind f None xs)
 unfolding place_behind
 laid_none f [] few h g = tt
 laid_none f (x ∷ xs) few h g =

@@ -7,10 +7,8 @@ use lib.Dec.{ltb}
 use lib.Ieee.{Float, le}
 use Rattle.binary32.proofs.magnitude.Size.{Within, frac}
 use Rattle.plane.specs.declared.Point.{Point}
-use Rattle.plane.specs.declared.Spot.{Spot}
-use Rattle.plane.specs.declared.Spot.TheVariants.{At, Nowhere}
-use Rattle.plane.specs.declared.Heading.{Heading}
-use Rattle.plane.specs.declared.Heading.TheVariants.{Known, Unknown}
+use Rattle.std.specs.Prelude.{Option, Some, None, ℕ}
+use Rattle.plane.specs.declared.Fix.{Fix}
 use Rattle.plane.specs.Plane.{turn, distance, bearing}
 use Rattle.plane.proofs.Place.{Place}
 use Rattle.plane.specs.Globe.{OnGlobe}
@@ -20,28 +18,27 @@ use Rattle.lap.specs.declared.Lap.{Lap}
 use Rattle.motion.specs.Heading.{elapsed, heading_step_m, heading_stale_ms, spot_or, renewed, aged, track_heading}
 use Rattle.lap.specs.Lap.{moving_at, lap_start, step_from, step_pass}
 use Rattle.state.specs.declared.Place.{Place as Fed}
-use Rattle.state.specs.declared.Place.TheVariants as fed
 use Rattle.state.specs.declared.Frame.{Frame}
-use Rattle.course.specs.Fix.{Fix, located_from, located, framed_from, framed}
+use Rattle.course.specs.Fix.{located_from, located, framed_from, framed}
 use Rattle.calls.specs.Questions.{heading_fits, spot_fits}
 use Rattle.taken.specs.Taken.{FixOnGlobe}
 use Rattle.taken.proofs.Tests.{one_of}
 use Rattle.taken.proofs.Bounds.{place-fits}
 
 -- ---- a place that may be missing
-abbrev pub Spotted : Spot → Type 0
-Spotted (At p) = Place p
-Spotted Nowhere = Unit {0}
+abbrev pub Spotted : Option Point → Type 0
+Spotted (Some p) = Place p
+Spotted None = Unit {0}
 
-pub spot-fits : (x : Spot) → Spotted x → spot_fits x ≡ true
+pub spot-fits : (x : Option Point) → Spotted x → spot_fits x ≡ true
 unfolding spot_fits
-spot-fits (At p) h = place-fits p h
-spot-fits Nowhere h = refl
+spot-fits (Some p) h = place-fits p h
+spot-fits None h = refl
 
 -- ---- the ride's frame
 abbrev pub Origin : Fed → Type 0
-Origin (fed.At lat lon) = OnGlobe lat lon
-Origin fed.Missing = Unit {0}
+Origin (Some x) = OnGlobe x.lat x.lon
+Origin None = Unit {0}
 
 pub record Framed (f : Frame) : Type 0 where
   pub origin : Origin f.origin
@@ -49,8 +46,8 @@ pub record Framed (f : Frame) : Type 0 where
 
 located-from : (o : Fed) (x : Fix) (f : Frame) → FixOnGlobe x → Framed f → Framed (located_from o x f)
 unfolding located_from
-located-from (fed.At lat lon) x f g h = h
-located-from fed.Missing x f g h = record { origin = g; factor = east-factor x.lat g.latitude }
+located-from (Some y) x f g h = h
+located-from None x f g h = record { origin = g; factor = east-factor x.lat g.latitude }
 
 pub located-framed : (x : Fix) (f : Frame) → FixOnGlobe x → Framed f → Framed (located x f)
 unfolding located
@@ -58,8 +55,8 @@ located-framed x f g h = located-from f.origin x f g h
 
 framed-from : (o : Fed) (factor : Float) (x : Fix) → Origin o → Within (frac 5) factor → FixOnGlobe x → Place (framed_from o factor x)
 unfolding framed_from
-framed-from (fed.At lat lon) factor x o w g = frame-place lat lon x.lat x.lon factor o g w
-framed-from fed.Missing factor x o w g = frame-place x.lat x.lon x.lat x.lon factor g g w
+framed-from (Some y) factor x o w g = frame-place y x factor o g w
+framed-from None factor x o w g = frame-place x x factor g g w
 
 pub framed-place : (f : Frame) (x : Fix) → Framed f → FixOnGlobe x → Place (framed f x)
 unfolding framed
@@ -70,21 +67,21 @@ pub record Moving (m : Motion) : Type 0 where
   pub from : Spotted m.from
   pub heading : heading_fits m.heading ≡ true
 
-pub known-fits : (a b : Point) → heading_fits (Known (bearing a b)) ≡ true
+pub known-fits : (a b : Point) → heading_fits (Some (bearing a b)) ≡ true
 unfolding heading_fits
 known-fits a b = lt-ltb (bearing a b) turn (bearing-below a b)
 
-pub unknown-fits : heading_fits Unknown ≡ true
+pub unknown-fits : heading_fits None ≡ true
 unfolding heading_fits
 unknown-fits = refl
 
-pub unheaded-moving : (ms : ℕ) → Moving (record { from = Nowhere; heading = Unknown; heading_ms = ms })
+pub unheaded-moving : (ms : ℕ) → Moving (record { from = None; heading = None; heading_ms = ms })
 unheaded-moving ms = record { from = tt; heading = unknown-fits }
 
-spot-or : (x : Spot) (p : Point) → Spotted x → Place p → Place (spot_or x p)
+spot-or : (x : Option Point) (p : Point) → Spotted x → Place p → Place (spot_or x p)
 unfolding spot_or
-spot-or (At q) p h P = h
-spot-or Nowhere p h P = P
+spot-or (Some q) p h P = h
+spot-or None p h P = P
 
 renewed-moving : (from p : Point) (now : ℕ) → Place p → Moving (renewed from p now)
 unfolding renewed
@@ -107,19 +104,19 @@ heading-moving m p now h P =
     (λ t. aged-moving m from now h (spot-or m.from p h.from P))
 
 -- ---- the start
-lap-start : (moving : Bool) (x : Spot) (p : Point) → Spotted x → Place p → Spotted (lap_start moving x p)
+lap-start : (moving : Bool) (x : Option Point) (p : Point) → Spotted x → Place p → Spotted (lap_start moving x p)
 unfolding lap_start
-lap-start true (At q) p h P = h
-lap-start false (At q) p h P = h
-lap-start true Nowhere p h P = P
-lap-start false Nowhere p h P = tt
+lap-start true (Some q) p h P = h
+lap-start false (Some q) p h P = h
+lap-start true None p h P = P
+lap-start false None p h P = tt
 
-step_from_lem : (x : Spot) (l : Lap) (p : Point) (moving : Bool) → Spotted x → Spotted (step_from x l p moving).start
+step_from_lem : (x : Option Point) (l : Lap) (p : Point) (moving : Bool) → Spotted x → Spotted (step_from x l p moving).start
 unfolding step_from
-step_from_lem (At q) l p moving h = h
-step_from_lem Nowhere l p moving h = h
+step_from_lem (Some q) l p moving h = h
+step_from_lem None l p moving h = h
 
-pub step_start : (l : Lap) (p : Point) (heading : Heading) → Spotted l.start → Place p → Spotted (step_pass l p heading).start
+pub step_start : (l : Lap) (p : Point) (heading : Option ℕ) → Spotted l.start → Place p → Spotted (step_pass l p heading).start
 unfolding step_pass
 step_start l p heading h P =
     let moving = moving_at heading in

@@ -4,7 +4,7 @@ use Prim.Native.Nat.{ℕ, ◌≤◌, ◌<◌}
 use native.Mathlib.Omega.{arith}
 use mathlib.Core.Path.{◌≡◌, refl, subst}
 use mathlib.Core.List.{List, [], ◌∷◌, ◌++◌}
-use mathlib.Core.Option.{some}
+use Rattle.std.specs.Prelude.{Some}
 use lib.ListN.{length, length-append}
 use lib.Ieee.{Float}
 use Rattle.plane.specs.declared.Point.{Point}
@@ -23,7 +23,7 @@ All Q [] = Unit {0}
 All Q (x ∷ l) = Q x × All Q l
 
 module _ (Q : Point → Type 0) where
-  all-last : (l : List Point) (p : Point) → All Q l → last l ≡ some p → Q p
+  all-last : (l : List Point) (p : Point) → All Q l → last l ≡ Some p → Q p
   all-last [] p h e = let z : ◌≡◌ {A = ℕ} 0 1 = cc in absurd (omega arith)
   all-last (q ∷ []) p h e = let i : q ≡ p = cc in subst Q i h.0
   all-last (q ∷ r ∷ l) p h e = all-last (r ∷ l) p h.1 e

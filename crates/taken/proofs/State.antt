@@ -4,7 +4,9 @@ use mathlib.Core.Path.{◌≡◌, refl}
 use mathlib.Core.Bool.{Bool, true}
 use mathlib.Core.List.{List}
 use lib.ListN.{length}
-use Rattle.plane.specs.declared.Spot.{Spot}
+use Rattle.std.specs.Prelude.{Option, None}
+use Rattle.state.specs.declared.Guide.{Guide}
+use Rattle.plane.specs.declared.Point.{Point}
 use Rattle.motion.specs.declared.Motion.{Motion}
 use Rattle.lap.specs.declared.Lap.{Lap}
 use Rattle.crumbs.specs.declared.Crumb.{Crumb}
@@ -15,8 +17,6 @@ use Rattle.state.specs.declared.Line.{Line}
 use Rattle.state.specs.declared.Line.TheVariants as line
 use Rattle.state.specs.declared.Follow.{Follow}
 use Rattle.state.specs.declared.Course.{Course}
-use Rattle.state.specs.declared.Shown.{Shown}
-use Rattle.state.specs.declared.Shown.TheVariants as shown
 use Rattle.state.specs.State.{State, with_track, with_frame, with_fed, with_here, with_here_ms, with_motion, with_follow, with_course}
 use Rattle.state.specs.State.{with_auto_follow, with_arrived, with_lap, with_updated_ms, with_guide}
 use Rattle.calls.specs.Questions.{shown_fits}
@@ -27,7 +27,7 @@ use Rattle.taken.proofs.Onward.{Counted}
 use Rattle.taken.proofs.Moving.{Spotted, Framed, Moving}
 
 -- nothing is shown
-pub nothing-shown : shown_fits shown.Nothing ≡ true
+pub nothing-shown : shown_fits None ≡ true
 unfolding shown_fits
 nothing-shown = refl
 
@@ -107,7 +107,7 @@ module _ {C points : ℕ} {s : State} (k : Kept C points s) where
     guide = k.guide;
   }
 
-  pub kept_here : {x : Spot} → Spotted x → Kept C points (with_here x s)
+  pub kept_here : {x : Option Point} → Spotted x → Kept C points (with_here x s)
   kept_here h = record {
     track = k.track;
     counted = k.counted;
@@ -233,7 +233,7 @@ module _ {C points : ℕ} {s : State} (k : Kept C points s) where
     guide = k.guide;
   }
 
-  pub kept-guide : {x : Shown} → shown_fits x ≡ true → Kept C points (with_guide x s)
+  pub kept-guide : {x : Option Guide} → shown_fits x ≡ true → Kept C points (with_guide x s)
   kept-guide h = record {
     track = k.track;
     counted = k.counted;

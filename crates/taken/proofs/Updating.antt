@@ -14,8 +14,7 @@ use Rattle.plane.proofs.Place.{Place}
 use Rattle.plane.proofs.Theorems.{bearing-below}
 use Rattle.crumbs.specs.declared.Crumb.{Crumb}
 use Rattle.segments.specs.declared.costs.Nearest.{Nearest}
-use Rattle.segments.specs.declared.Best.{Best}
-use Rattle.segments.specs.declared.Best.TheVariants.{Nothing, Found}
+use Rattle.std.specs.Prelude.{Option, Some, None}
 use Rattle.search.specs.declared.Range.{Range}
 use Rattle.matching.specs.Distances.{off_m, drop_m}
 use Rattle.search.proofs.Theorems.{breadcrumb-met}
@@ -27,7 +26,6 @@ use Rattle.state.specs.declared.Event.{Event}
 use Rattle.state.specs.declared.Event.TheVariants as event
 use Rattle.state.specs.declared.Follow.{Follow}
 use Rattle.state.specs.declared.Course.{Course}
-use Rattle.state.specs.declared.Shown.TheVariants as shown
 use Rattle.state.specs.State.{State}
 use Rattle.state.specs.Rule.{Done}
 use Rattle.matching.specs.declared.followed.Way.{Way}
@@ -75,7 +73,7 @@ module _ (C : ℕ) (least : 3 ≤ C) (room : C ≤ most) (course : List Crumb) (
   arrival-kept false long d e s k =
       either KD (long && lt d arrive_m) (λ t. kept-arrived (kept-follow k (cleared-followed _ s.follow k.follow))) (λ t. k)
 
-  shown-fits : (goal : Point) (d : Float) (w : Way) (s : State) → K s → shown_fits (shown.Guide (guide_at course p goal d w s)) ≡ true
+  shown-fits : (goal : Point) (d : Float) (w : Way) (s : State) → K s → shown_fits (Some (guide_at course p goal d w s)) ≡ true
   unfolding shown_fits guide_fits guide_at
   shown-fits goal d w s k = rw (lt-ltb (bearing p _) turn (bearing-below p _)) k.motion.heading
 
@@ -103,7 +101,7 @@ module _ (C : ℕ) (least : 3 ≤ C) (room : C ≤ most) (course : List Crumb) (
 
   nearest-met : (on : Line) (ends : Range) (s : State) (near : Nearest) → K s → 1 ≤ ends.from
       → ends.to < length (followed_on on course s.track.crumbs)
-      → nearest on course p ends s ≡ Found near → OnSegment (length (followed_on on course s.track.crumbs)) near
+      → nearest on course p ends s ≡ Some near → OnSegment (length (followed_on on course s.track.crumbs)) near
   unfolding nearest followed_on
   nearest-met line.Course ends s near k first last e =
       met-on course p ends near lined P first last (course-met course p ends first (progress s) near e)
@@ -113,11 +111,11 @@ module _ (C : ℕ) (least : 3 ≤ C) (room : C ≤ most) (course : List Crumb) (
       met-on s.track.crumbs p ends near (followed-lined line.Breadcrumb s k) P first last
       (breadcrumb-met s.track.crumbs p ends near e)
 
-  nearer-on : (n : ℕ) (near : Nearest) (best : Best) → OnSegment n near → ((other : Nearest) → best ≡ Found other → OnSegment n other)
+  nearer-on : (n : ℕ) (near : Nearest) (best : Option Nearest) → OnSegment n near → ((other : Nearest) → best ≡ Some other → OnSegment n other)
       → OnSegment n (nearer near best)
   unfolding nearer
-  nearer-on n near Nothing h o = h
-  nearer-on n near (Found other) h o = either (OnSegment n) (lt other.off near.off) (λ t. o other refl) (λ t. h)
+  nearer-on n near None h o = h
+  nearer-on n near (Some other) h o = either (OnSegment n) (lt other.off near.off) (λ t. o other refl) (λ t. h)
 
   widened-on : (near : Nearest) (s : State) → K s → 2 ≤ length (followed course s) → On s near → On s (widened course p near s)
   unfolding widened
@@ -160,12 +158,12 @@ module _ (C : ℕ) (least : 3 ≤ C) (room : C ≤ most) (course : List Crumb) (
       either KD (lt drop_m near.off) (λ t. ended-kept event.Dropped now s k)
       (λ t. either KD (at_course_end s near) (λ u. ended-kept event.CourseEnd now s k) (λ u. matched-at-kept now near s k h))
 
-  match-from-kept : (best : Best) (now : ℕ) (s : State) → K s → 2 ≤ length (followed course s)
-      → ((near : Nearest) → best ≡ Found near → On s near)
+  match-from-kept : (best : Option Nearest) (now : ℕ) (s : State) → K s → 2 ≤ length (followed course s)
+      → ((near : Nearest) → best ≡ Some near → On s near)
       → K (match_from best C course p now s).state
   unfolding match_from
-  match-from-kept Nothing now s k two h = k
-  match-from-kept (Found near) now s k two h = matched-to-kept now _ s k (widened-on near s k two (h near refl))
+  match-from-kept None now s k two h = k
+  match-from-kept (Some near) now s k two h = matched-to-kept now _ s k (widened-on near s k two (h near refl))
 
   around-first : (segment len : ℕ) → 1 ≤ (around_segment segment len).from
   unfolding around_segment

@@ -5,7 +5,7 @@ use Rattle.plane.specs.Globe.{OnGlobe}
 use Rattle.crumbs.specs.declared.Crumb.{Crumb}
 use Rattle.crumbs.specs.Crumb.{capacity, crumbs}
 use Rattle.state.specs.State.{State}
-use Rattle.course.specs.Fix.{Fix}
+use Rattle.plane.specs.declared.Fix.{Fix}
 use Rattle.course.specs.Course.{line_of}
 use Rattle.calls.specs.Questions.{question1, question4}
 use Rattle.calls.specs.Line.{new}

@@ -3,7 +3,8 @@ use Prim.Native.Nat.{ℕ, ◌-◌, ◌≤◌, ◌<◌}
 use mathlib.Core.Path.{◌≡◌, refl, sym, ap, ◌∙◌}
 use mathlib.Core.Bool.{Bool, true, false, ◌||◌, or-true}
 use mathlib.Core.List.{List, []}
-use mathlib.Core.Option.{none, some, map, get_or}
+use Rattle.std.specs.Prelude.{Some, None, option_map}
+use Rattle.std.specs.Option.{unwrap_or}
 use native.Mathlib.Omega.{arith}
 use lib.ListN.{length}
 use lib.Dec.{eqb}
@@ -101,11 +102,11 @@ empties t w b f =
       beyond = refl;
     }
 
-last-waiting : (t : Trail) (w b : List Float) → 0 < t.window_len → last (track t w b).window ≡ some (waiting_at w (t.window_len - 1))
+last-waiting : (t : Trail) (w b : List Float) → 0 < t.window_len → last (track t w b).window ≡ Some (waiting_at w (t.window_len - 1))
 unfolding track
 last-waiting t w b h = last-places t.window_len w h
 
-none-waiting : (t : Trail) (w b : List Float) → t.window_len ≡ 0 → last (track t w b).window ≡ none
+none-waiting : (t : Trail) (w b : List Float) → t.window_len ≡ 0 → last (track t w b).window ≡ None
 unfolding track
 none-waiting t w b e = rw (e, none-places)
 
@@ -120,7 +121,7 @@ flushes t w b p {r} {exit} some-wait is k =
     records-as
     (records-then {R = λ C. keep C p} {S = λ C. become (with_window [])} k (empties r.trail w exit k.follows.fit) (omega arith)
     (λ C u. refl))
-    (sym (flush-some (capacity (length b)) p (track t w b) (last-waiting t w b some-wait ∙ ap some (sym is))))
+    (sym (flush-some (capacity (length b)) p (track t w b) (last-waiting t w b some-wait ∙ ap Some (sym is))))
 
 -- ---- simplify
 waits-follows : (p : Point) {t r : Trail} {w w' b : List Float} → TrailFit t (length b) → TrailChanges (wait p) t w r w'
@@ -176,11 +177,11 @@ module _ (t : Trail) (w b : List Float) (anchor p : Point) where
       (sym (simplify-straight (capacity (length b)) p (track t w b) anchor e))
 
 -- ---- add
-none-held : (t : Trail) (w b : List Float) → t.len ≡ 0 → last (track t w b).crumbs ≡ none
+none-held : (t : Trail) (w b : List Float) → t.len ≡ 0 → last (track t w b).crumbs ≡ None
 unfolding track
 none-held t w b e = rw e (last_none b)
 
-last-held : (t : Trail) (w b : List Float) → 0 < t.len → last (track t w b).crumbs ≡ some (crumb_at b (t.len - 1))
+last-held : (t : Trail) (w b : List Float) → 0 < t.len → last (track t w b).crumbs ≡ Some (crumb_at b (t.len - 1))
 unfolding track
 last-held t w b h = last-crumbs t.len b h
 
@@ -190,10 +191,10 @@ module _ (t : Trail) (w b : List Float) (p : Point) where
   adds-first e k = records-as k (sym (add-first (capacity (length b)) p (track t w b) (none-held t w b e)))
 
   -- the anchor and the last place, as the code has them
-  module _ (some-held : 0 < t.len) {anchor place : Point} (ends : some anchor ≡ map point (last (crumbs t.len b)))
-      (is : place ≡ get_or (last (places t.window_len w)) anchor) where
+  module _ (some-held : 0 < t.len) {anchor place : Point} (ends : Some anchor ≡ option_map point (last (crumbs t.len b)))
+      (is : place ≡ unwrap_or (last (places t.window_len w)) anchor) where
     anchored : anchor ≡ point (crumb_at b (t.len - 1))
-    anchored = let e = ends ∙ ap (map point) (last-crumbs t.len b some-held) in cc
+    anchored = let e = ends ∙ ap (option_map point) (last-crumbs t.len b some-held) in cc
 
     near-is : lt (distance place p) min_step_m ≡ near (capacity (length b)) p (track t w b) (crumb_at b (t.len - 1))
     unfolding track

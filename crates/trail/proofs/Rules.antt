@@ -3,7 +3,8 @@ use Prim.Native.Nat.{ℕ}
 use mathlib.Core.Path.{◌≡◌, refl}
 use mathlib.Core.Bool.{Bool, true, false, ◌||◌}
 use mathlib.Core.List.{List, [], ◌∷◌, ◌++◌}
-use mathlib.Core.Option.{none, some, get_or}
+use Rattle.std.specs.Prelude.{Some, None}
+use Rattle.std.specs.Option.{unwrap_or}
 use borrow.Author.Tests.{eq-eqb, ne_eqb}
 use lib.Dec.{eqb}
 use lib.ListN.{length}
@@ -18,7 +19,7 @@ use Rattle.trail.specs.Trail.{window_places, min_step_m, Track, with_window, ◌
 use Rattle.trail.specs.Trail.{strays, simplify, add_behind, add}
 
 -- where no place waits a flush does nothing
-pub flush-none : (C : ℕ) (t : Track) → last t.window ≡ none → flush C t ≡ still t
+pub flush-none : (C : ℕ) (t : Track) → last t.window ≡ None → flush C t ≡ still t
 unfolding flush flush_last
 flush-none C t e = rw e
 
@@ -31,7 +32,7 @@ module _ (C : ℕ) (p : Point) (t : Track) where
   unfolding keep
   keep-room ne = rw (ne_eqb _ _ ne, keep)
 
-  pub flush-some : last t.window ≡ some p → flush C t ≡ (keep C p >> become (with_window [])) t
+  pub flush-some : last t.window ≡ Some p → flush C t ≡ (keep C p >> become (with_window [])) t
   unfolding flush flush_last
   flush-some e = rw e
 
@@ -48,20 +49,20 @@ module _ (C : ℕ) (p : Point) (t : Track) where
     unfolding simplify
     simplify-straight e = rw (e, simplify)
 
-  pub add-first : last t.crumbs ≡ none → add C p t ≡ keep C p t
+  pub add-first : last t.crumbs ≡ None → add C p t ≡ keep C p t
   unfolding add add_behind
   add-first e = rw e
 
   module _ (a : Crumb) where
     -- whether p is too near to the last place
     abbrev pub near : Bool
-    near = lt (distance (get_or (last t.window) (point a)) p) min_step_m
+    near = lt (distance (unwrap_or (last t.window) (point a)) p) min_step_m
 
-    pub add-near : last t.crumbs ≡ some a → near ≡ true → add C p t ≡ still t
+    pub add-near : last t.crumbs ≡ Some a → near ≡ true → add C p t ≡ still t
     unfolding add add_behind
     add-near e h = rw e (rw (h, add_behind))
 
-    pub add-far : last t.crumbs ≡ some a → near ≡ false → add C p t ≡ simplify C (point a) p t
+    pub add-far : last t.crumbs ≡ Some a → near ≡ false → add C p t ≡ simplify C (point a) p t
     unfolding add add_behind
     add-far e h = rw e (rw (h, add_behind))
 

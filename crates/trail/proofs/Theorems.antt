@@ -3,7 +3,7 @@ use Prim.Native.Nat.{ℕ, zero, suc, ◌-◌, ◌≤◌, ◌<◌}
 use mathlib.Core.Path.{◌≡◌, refl, ap}
 use mathlib.Core.Bool.{Bool, true, false, ◌||◌, true≢false}
 use mathlib.Core.List.{List, [], ◌∷◌, ◌++◌, map, append-nil}
-use mathlib.Core.Option.{Option, none, some}
+use Rattle.std.specs.Prelude.{Option, Some, None}
 use native.Mathlib.Omega.{arith}
 use native.Mathlib.Decide.{ℕ_discrete}
 use borrow.Author.Tests.{eqb-false}
@@ -139,11 +139,11 @@ pub record Sound (C : ℕ) (t : Track) : Type 0 where
   pub tolerance : le plus_zero t.tolerance ≡ true
 
 -- ---- the window
-some-last : (v : Point) (l : List Point) → last (v ∷ l) ≡ none → ⊥
+some-last : (v : Point) (l : List Point) → last (v ∷ l) ≡ None → ⊥
 some-last v [] e = let z : ◌≡◌ {A = ℕ} 0 1 = cc in omega arith
 some-last v (w ∷ l) e = some-last w l e
 
-none_last : (l : List Point) → last l ≡ none → l ≡ []
+none_last : (l : List Point) → last l ≡ None → l ≡ []
 none_last [] e = refl
 none_last (w ∷ l) e = absurd (some-last w l e)
 
@@ -152,8 +152,8 @@ pub flush-empties : (C : ℕ) (t : Track) → (flush C t).track.window ≡ []
 flush-empties C t = by (last t.window) refl
   where
     by : (o : Option Point) → last t.window ≡ o → (flush C t).track.window ≡ []
-    by none e = rw (flush-none C t e) (none_last t.window e)
-    by (some p) e = rw (flush-some C p t e)
+    by None e = rw (flush-none C t e) (none_last t.window e)
+    by (Some p) e = rw (flush-some C p t e)
 
 or_right : (a b : Bool) → (a || b) ≡ false → b ≡ false
 or_right true b e = absurd (true≢false e)
@@ -198,8 +198,8 @@ module _ (C : ℕ) (least : 3 ≤ C) where
   flush-sound t s = by (last t.window) refl
     where
       by : (o : Option Point) → last t.window ≡ o → Sound C (flush C t).track
-      by none e = rw (flush-none C t e) s
-      by (some p) e =
+      by None e = rw (flush-none C t e) s
+      by (Some p) e =
           let k = keep-sound p t s in
           rw (flush-some C p t e) (record { held = k.held; waiting = omega arith; tolerance = k.tolerance })
 
@@ -207,8 +207,8 @@ module _ (C : ℕ) (least : 3 ≤ C) where
   flush-keeps t s = by (last t.window) refl
     where
       by : (o : Option Point) → last t.window ≡ o → MayKeep C (holding t) (holding (flush C t).track) (flush C t).notes
-      by none e = rw (flush-none C t e) nothing
-      by (some p) e = rw (flush-some C p t e, append-nil) (one p (keep-keeps p t s))
+      by None e = rw (flush-none C t e) nothing
+      by (Some p) e = rw (flush-some C p t e, append-nil) (one p (keep-keeps p t s))
 
   wait-sound : (p : Point) (t : Track) → Sound C t → length t.window < window_places → Sound C (wait p t).track
   unfolding wait
@@ -237,22 +237,22 @@ module _ (C : ℕ) (least : 3 ≤ C) where
   pub add-sound : (p : Point) (t : Track) → Sound C t → Sound C (add C p t).track
   add-sound p t s = by (last t.crumbs) refl
     where
-      far : (a : Crumb) → last t.crumbs ≡ some a → (b : Bool) → near C p t a ≡ b → Sound C (add C p t).track
+      far : (a : Crumb) → last t.crumbs ≡ Some a → (b : Bool) → near C p t a ≡ b → Sound C (add C p t).track
       far a e true h = rw (add-near C p t a e h) s
       far a e false h = rw (add-far C p t a e h) (simplify-sound (point a) p t s)
 
       by : (o : Option Crumb) → last t.crumbs ≡ o → Sound C (add C p t).track
-      by none e = rw (add-first C p t e) (keep-sound p t s)
-      by (some a) e = far a e (near C p t a) refl
+      by None e = rw (add-first C p t e) (keep-sound p t s)
+      by (Some a) e = far a e (near C p t a) refl
 
   pub add-keeps : (p : Point) (t : Track) → Sound C t → MayKeep C (holding t) (holding (add C p t).track) (add C p t).notes
   add-keeps p t s = by (last t.crumbs) refl
     where
-      far : (a : Crumb) → last t.crumbs ≡ some a → (b : Bool) → near C p t a ≡ b
+      far : (a : Crumb) → last t.crumbs ≡ Some a → (b : Bool) → near C p t a ≡ b
           → MayKeep C (holding t) (holding (add C p t).track) (add C p t).notes
       far a e true h = rw (add-near C p t a e h) nothing
       far a e false h = rw (add-far C p t a e h) (simplify-keeps (point a) p t s)
 
       by : (o : Option Crumb) → last t.crumbs ≡ o → MayKeep C (holding t) (holding (add C p t).track) (add C p t).notes
-      by none e = rw (add-first C p t e) (one p (keep-keeps p t s))
-      by (some a) e = far a e (near C p t a) refl
+      by None e = rw (add-first C p t e) (one p (keep-keeps p t s))
+      by (Some a) e = far a e (near C p t a) refl

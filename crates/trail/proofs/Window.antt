@@ -3,7 +3,7 @@ use Prim.Native.Nat.{ℕ, zero, suc, ◌+◌, ◌-◌, ◌*◌, ◌≤◌, ◌<�
 use mathlib.Core.Path.{◌≡◌, refl, sym, ap, ap₂, ◌∙◌}
 use mathlib.Core.Bool.{Bool, true, false, ◌||◌, or-true}
 use mathlib.Core.List.{List, [], ◌∷◌, ◌++◌}
-use mathlib.Core.Option.{none, some}
+use Rattle.std.specs.Prelude.{Some, None}
 use native.Mathlib.Omega.{arith}
 use native.Mathlib.Numerals.{add-one}
 use native.Mathlib.Decide.{ℕ_discrete}
@@ -27,12 +27,12 @@ pub places-on : (n : ℕ) (w : List Float) → places (n + 1) w ≡ places n w +
 unfolding places
 places-on n w = ap (λ k. places k w) (add-one n)
 
-pub last-places : (n : ℕ) (w : List Float) → 0 < n → last (places n w) ≡ some (waiting_at w (n - 1))
+pub last-places : (n : ℕ) (w : List Float) → 0 < n → last (places n w) ≡ Some (waiting_at w (n - 1))
 unfolding places
 last-places zero w h = absurd (omega arith)
-last-places (suc n) w h = let e : n ≡ suc n - 1 = omega arith in last_snoc (places n w) (waiting_at w n) ∙ ap (λ k. some (waiting_at w k)) e
+last-places (suc n) w h = let e : n ≡ suc n - 1 = omega arith in last_snoc (places n w) (waiting_at w n) ∙ ap (λ k. Some (waiting_at w k)) e
 
-pub none-places : (w : List Float) → last (places 0 w) ≡ none
+pub none-places : (w : List Float) → last (places 0 w) ≡ None
 unfolding places
 none-places w = refl
 

@@ -1,7 +1,7 @@
 -- The recording of the breadcrumb: document 01, "Crumb", and homing.rs's `add`, `keep` and `thin`. Nothing here knows of a
 -- buffer. C is how many crumbs there is room for.
-use Rattle.std.specs.Prelude.{ℕ, Bool, true, false, ◌||◌, List, [], ◌∷◌, ◌++◌, length, eqb, Float}
-use Rattle.std.proofs.Math.Option.{Option, none, some, get_or}
+use Rattle.std.specs.Prelude.{ℕ, Bool, true, false, ◌||◌, List, [], ◌∷◌, ◌++◌, length, eqb, Float, Option, Some, None}
+use Rattle.std.specs.Option.{unwrap_or}
 use Rattle.std.specs.Float.Ieee.{lt}
 use Rattle.binary32.specs.Arithmetic.{constant}
 use Rattle.plane.specs.declared.Point.{Point}
@@ -94,8 +94,8 @@ keep C p t = elim (eqb (length t.crumbs) C) [ true ↦ (thin C >> put p) t | fal
 
 -- the last place that waits is kept, and the window emptied, where a place waits
 unfoldable pub flush_last : Option Point → ℕ → Rule
-flush_last none C = still
-flush_last (some p) C = keep C p >> become (with_window [])
+flush_last None C = still
+flush_last (Some p) C = keep C p >> become (with_window [])
 
 unfoldable pub flush : ℕ → Rule
 flush C t = flush_last (last t.window) C t
@@ -121,9 +121,9 @@ simplify C anchor p t =
 -- The first crumb is kept at once. The last one held is the anchor, and p adds nothing where it is too near to the last place that waits,
 -- or to the anchor where none does.
 unfoldable pub add_behind : Option Crumb → ℕ → Point → Rule
-add_behind none C p t = keep C p t
-add_behind (some a) C p t =
-    elim (lt (distance (get_or (last t.window) (point a)) p) min_step_m) [ true ↦ still t | false ↦ simplify C (point a) p t ]
+add_behind None C p t = keep C p t
+add_behind (Some a) C p t =
+    elim (lt (distance (unwrap_or (last t.window) (point a)) p) min_step_m) [ true ↦ still t | false ↦ simplify C (point a) p t ]
 
 unfoldable pub add : ℕ → Point → Rule
 add C p t = add_behind (last t.crumbs) C p t

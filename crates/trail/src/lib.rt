@@ -4,7 +4,7 @@
 #![tactic(auto)]
 
 ghost use Rattle.std.specs.Prelude.{◌≡◌, List, ◌<◌, ◌≤◌, length, Float};
-ghost use Rattle.std.proofs.Math.Option.{get_or};
+ghost use Rattle.std.specs.Option.{unwrap_or};
 ghost use Rattle.crumbs.specs.Crumb.{capacity};
 ghost use Rattle.crumbs.specs.Choice.{last};
 ghost use Rattle.trail.specs.Trail.{window_places, strays, thin, put, keep, flush, wait, simplify, add, reset_track};
@@ -87,7 +87,7 @@ pub fn waiting(window: &[f32; 96], i: usize) -> Point
 // The last place that waits, or `anchor` where none does.
 fn last(window: &[f32; 96], window_len: usize, anchor: Point) -> Point
     requires { window_len ≤ window_places }
-    ensures { result ≡ get_or (last (places window_len window.now)) anchor }
+    ensures { result ≡ unwrap_or (last (places window_len window.now)) anchor }
 {
     if window_len == 0 {
         return anchor;

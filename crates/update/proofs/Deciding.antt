@@ -10,8 +10,7 @@ use borrow.Author.Tests.{leb-true}
 use Rattle.plane.specs.declared.Point.{Point}
 use Rattle.crumbs.specs.declared.Crumb.{Crumb}
 use Rattle.segments.specs.declared.costs.Nearest.{Nearest}
-use Rattle.segments.specs.declared.Best.{Best}
-use Rattle.segments.specs.declared.Best.TheVariants.{Nothing, Found}
+use Rattle.std.specs.Prelude.{Option, Some, None}
 use Rattle.matching.specs.Distances.{drop_m}
 use Rattle.segments.specs.Inner.{InLine}
 use Rattle.state.specs.declared.Line.{Line}
@@ -82,24 +81,24 @@ module _ (C now : ℕ) (course : List Crumb) (p : Point) (s : State) where
         ∙ passed-by (ended event.CourseEnd) on (at_course_end s near) a
 
   -- ---- the match of a fix, or none
-  unfoldable from : Best → Done Event
-  from Nothing = done event.Nothing s
-  from (Found near) = matched_to C course p now near s
+  unfoldable from : Option Nearest → Done Event
+  from None = done event.Nothing s
+  from (Some near) = matched_to C course p now near s
 
-  match-from : (best : Best) → match_from best C course p now s ≡ from (widened_from best course p s)
+  match-from : (best : Option Nearest) → match_from best C course p now s ≡ from (widened_from best course p s)
   unfolding match_from widened_from from
-  match-from Nothing = refl
-  match-from (Found near) = refl
+  match-from None = refl
+  match-from (Some near) = refl
 
-  follow-from : {best : Best} → best ≡ match_in course p s → follow_on C course p now s ≡ from best
+  follow-from : {best : Option Nearest} → best ≡ match_in course p s → follow_on C course p now s ≡ from best
   unfolding follow_on match_in
   follow-from e = match-from _ ∙ sym (ap from e)
 
-  pub stays : {best : Best} → best ≡ match_in course p s → best ≡ Nothing → follow_on C course p now s ≡ by Stays
+  pub stays : {best : Option Nearest} → best ≡ match_in course p s → best ≡ None → follow_on C course p now s ≡ by Stays
   unfolding from comes_to
   stays e told = follow-from e ∙ ap from told
 
-  pub meets : {best : Best} {near : Nearest} → best ≡ match_in course p s → best ≡ Found near
+  pub meets : {best : Option Nearest} {near : Nearest} → best ≡ match_in course p s → best ≡ Some near
       → follow_on C course p now s ≡ matched_to C course p now near s
   unfolding from
   meets e told = follow-from e ∙ ap from told
@@ -139,11 +138,11 @@ module _ {f : Followed} {l course : List Crumb} {s : State} (i : IsFollowed f l 
   len_of : f.len ≡ length (followed course s)
   len_of = ap (λ (x : Followed). x.len) i.parts
 
-  pub met-in : (p : Point) {best : Best} {near : Nearest} → 2 ≤ f.len → best ≡ match_in course p s → best ≡ Found near
-      → InLine f.len (Found near)
+  pub met-in : (p : Point) {best : Option Nearest} {near : Nearest} → 2 ≤ f.len → best ≡ match_in course p s → best ≡ Some near
+      → InLine f.len (Some near)
   met-in p two e told =
       let here = match-in course p s (subst (λ (n : ℕ). 2 ≤ n) len_of two) in
-      subst (λ (x : Best). InLine f.len x) (sym e ∙ told) (subst (λ (n : ℕ). InLine n (match_in course p s)) (sym len_of) here)
+      subst (λ (x : Option Nearest). InLine f.len x) (sym e ∙ told) (subst (λ (n : ℕ). InLine n (match_in course p s)) (sym len_of) here)
 
   module _ (p : Point) (now : ℕ) where
     pub begun-followed : IsFollowed f l course (begun p now s)

@@ -5,8 +5,7 @@ use mathlib.Core.List.{List}
 use lib.ListN.{length}
 use lib.Ieee.{Float}
 use Rattle.plane.specs.declared.Point.{Point}
-use Rattle.plane.specs.declared.Spot.{Spot}
-use Rattle.plane.specs.declared.Spot.TheVariants.{At, Nowhere}
+use Rattle.std.specs.Prelude.{Option, Some, None}
 use Rattle.crumbs.specs.Crumb.{capacity, crumbs, behind}
 use Rattle.trail.specs.declared.Trail.{Trail}
 use Rattle.trail.specs.View as trail
@@ -28,11 +27,11 @@ use Rattle.update.specs.Update.{begun, ended_with}
 use Rattle.update.specs.View.{Updates}
 
 -- ---- the placed line is as long as it was
-left-line : (C : ℕ) (matched : Spot) (segment : ℕ) (s : State)
+left-line : (C : ℕ) (matched : Option Point) (segment : ℕ) (s : State)
     → (leave_at C matched segment s).state.course.line_len ≡ s.course.line_len
 unfolding leave_at keep_in recorded recorded_in cut_to
-left-line C Nowhere segment s = refl
-left-line C (At p) segment s = refl
+left-line C None segment s = refl
+left-line C (Some p) segment s = refl
 
 stop-on-line : (on : Line) (C : ℕ) (s : State) → (stop_on on C s).state.course.line_len ≡ s.course.line_len
 unfolding stop_on stop_nothing stop_course held_off stop_breadcrumb

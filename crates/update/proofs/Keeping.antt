@@ -7,14 +7,11 @@ use lib.Dec.{leb}
 use lib.ListN.{length}
 use lib.Ieee.{Float, lt}
 use Rattle.plane.specs.declared.Point.{Point}
-use Rattle.plane.specs.declared.Spot.{Spot}
-use Rattle.plane.specs.declared.Spot.TheVariants.{Nowhere}
+use Rattle.std.specs.Prelude.{Option, Some, None}
 use Rattle.crumbs.specs.declared.Crumb.{Crumb}
 use Rattle.crumbs.specs.Crumb.{crumbs}
 use Rattle.crumbs.proofs.Crumbs.{length-crumbs}
 use Rattle.segments.specs.declared.costs.Nearest.{Nearest}
-use Rattle.segments.specs.declared.Best.{Best}
-use Rattle.segments.specs.declared.Best.TheVariants.{Nothing, Found}
 use Rattle.matching.specs.Distances.{drop_m}
 use Rattle.trail.specs.View.{track}
 use Rattle.state.specs.declared.Line.{Line}
@@ -35,7 +32,7 @@ use Rattle.update.specs.View.{Updates}
 
 -- what an update would cut: the breadcrumb is followed, and a point on it was matched
 abbrev pub Loose : State → Type 0
-Loose s = s.follow.line ≡ line.Breadcrumb → s.follow.matched ≡ Nowhere
+Loose s = s.follow.line ≡ line.Breadcrumb → s.follow.matched ≡ None
 
 abbrev crumbs_after : Done Event → List Crumb
 crumbs_after d = d.state.track.crumbs
@@ -73,12 +70,12 @@ begun-crumbs : (p : Point) (now : ℕ) (s : State) → (begun p now s).track.cru
 unfolding begun
 begun-crumbs p now s = refl
 
-left-crumbs : (C : ℕ) (matched : Spot) (segment : ℕ) (s : State) → matched ≡ Nowhere
+left-crumbs : (C : ℕ) (matched : Option Point) (segment : ℕ) (s : State) → matched ≡ None
     → (leave_at C matched segment s).state.track.crumbs ≡ s.track.crumbs
 unfolding leave_at
-left-crumbs C matched segment s e = ap (λ (m : Spot). (leave_at C m segment s).state.track.crumbs) e
+left-crumbs C matched segment s e = ap (λ (m : Option Point). (leave_at C m segment s).state.track.crumbs) e
 
-stop-crumbs : (on : Line) (C : ℕ) (s : State) → (on ≡ line.Breadcrumb → s.follow.matched ≡ Nowhere)
+stop-crumbs : (on : Line) (C : ℕ) (s : State) → (on ≡ line.Breadcrumb → s.follow.matched ≡ None)
     → (stop_on on C s).state.track.crumbs ≡ s.track.crumbs
 unfolding stop_on stop_nothing stop_course stop_breadcrumb forgotten
 stop-crumbs line.Nothing C s loose = refl
@@ -107,10 +104,10 @@ module _ (C : ℕ) (course : List Crumb) (p : Point) (now : ℕ) (s : State) (lo
       by true b = ended-crumbs event.Dropped
       by false b = other b
 
-  match-crumbs : (best : Best) → crumbs_after (match_from best C course p now s) ≡ s.track.crumbs
+  match-crumbs : (best : Option Nearest) → crumbs_after (match_from best C course p now s) ≡ s.track.crumbs
   unfolding match_from
-  match-crumbs Nothing = refl
-  match-crumbs (Found near) = matched-to-crumbs (widened course p near s)
+  match-crumbs None = refl
+  match-crumbs (Some near) = matched-to-crumbs (widened course p near s)
 
   follow-crumbs : crumbs_after (follow_on C course p now s) ≡ s.track.crumbs
   unfolding follow_on

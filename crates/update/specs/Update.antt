@@ -1,13 +1,11 @@
 -- The guide after a fix. Document 01, "Guide and event"; homing.rs, `update`.
-use Rattle.std.specs.Prelude.{ℕ, Bool, true, false, ◌&&◌, List, leb, length, Float}
+use Rattle.std.specs.Prelude.{ℕ, Bool, true, false, ◌&&◌, List, leb, length, Float, Option, Some, None}
 use Rattle.std.specs.Float.Ieee.{lt, le}
 use Rattle.binary32.specs.Arithmetic.{constant}
 use Rattle.plane.specs.declared.Point.{Point}
 use Rattle.crumbs.specs.declared.Crumb.{Crumb}
 use Rattle.lap.specs.Lap.{step_pass}
 use Rattle.segments.specs.declared.costs.Nearest.{Nearest}
-use Rattle.segments.specs.declared.Best.{Best}
-use Rattle.segments.specs.declared.Best.TheVariants.{Nothing, Found}
 use Rattle.matching.specs.Distances.{drop_m}
 use Rattle.state.specs.declared.Event.{Event}
 use Rattle.state.specs.declared.Event.TheVariants as event
@@ -54,9 +52,9 @@ matched_to C course p now near s =
     ]
 
 -- where no segment is in reach the guide stays as it was
-unfoldable pub match_from : Best → ℕ → List Crumb → Point → ℕ → State → Done Event
-match_from Nothing C course p now s = done event.Nothing s
-match_from (Found near) C course p now s = matched_to C course p now (widened course p near s) s
+unfoldable pub match_from : Option Nearest → ℕ → List Crumb → Point → ℕ → State → Done Event
+match_from None C course p now s = done event.Nothing s
+match_from (Some near) C course p now s = matched_to C course p now (widened course p near s) s
 
 unfoldable pub follow_on : ℕ → List Crumb → Point → ℕ → State → Done Event
 follow_on C course p now s =

@@ -18,9 +18,9 @@ use guide::{Display, Standing};
 use matching::followed::Followed;
 use matching::{distances, followed};
 use plane::Point;
-use segments::Best;
 use segments::costs::Nearest;
-use state::{Course, Event, Guided, Line, Shown};
+use segments::costs::Nearest;
+use state::{Course, Event, Guide, Guided, Line};
 
 // A rider this near the course comes to its end there.
 const COURSE_END_M: f32 = 25.0;
@@ -81,7 +81,7 @@ fn follow_on(f: Followed, crumbs: &[f32], line: &[f32], p: Point) -> Outcome
         (λ course s. ((C at : ℕ) → follow_on C course p at s ≡ comes_to result C course p at s) × MatchedIn f.len result) }
 {
     let best = followed::matched(f, crumbs, line, p);
-    let Best::Found(near) = best else {
+    let Some(near) = best else {
         return Outcome::Stays;
     };
     let on = f.on;
@@ -173,7 +173,7 @@ fn shown(h: Guided, course: Course, p: Point, now_ms: u64, d: Display) -> Update
         follow,
         course,
         arrived: a.arrived,
-        guide: Shown::Guide(guide),
+        guide: Some(guide),
         ..h
     };
     Updated { guided, event }

@@ -3,10 +3,10 @@ use mathlib.Core.Path.{sym, ap}
 use Rattle.course.specs.Course.{no_origin}
 use Rattle.course.proofs.no_origin.Goals as goal
 
-pub returns-in-At : goal.returns-in-At
+pub returns-in-Some : goal.returns-in-Some
 unfolding no_origin
-returns-in-At c = sym (ap no_origin c.in-At.is)
+returns-in-Some c = sym (ap no_origin c.in-Some.is)
 
-pub returns-in-Missing : goal.returns-in-Missing
+pub returns-in-None : goal.returns-in-None
 unfolding no_origin
-returns-in-Missing c = sym (ap no_origin c.in-Missing.is)
+returns-in-None c = sym (ap no_origin c.in-None.is)

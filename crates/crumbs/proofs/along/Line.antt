@@ -2,7 +2,7 @@
 use Prim.Native.Nat.{ℕ, zero, suc, ◌+◌, ◌-◌, ◌≤◌, ◌<◌}
 use mathlib.Core.Path.{◌≡◌, refl, sym, ap, ap₂, ◌∙◌}
 use mathlib.Core.List.{List, [], ◌∷◌, ◌++◌, append_assoc, append-nil}
-use mathlib.Core.Option.{none, some}
+use Rattle.std.specs.Prelude.{Some, None}
 use native.Mathlib.Omega.{arith}
 use native.Mathlib.Numerals.{add-one}
 use lib.ListN.{length, take, drop, set, drop_of_length-le}
@@ -28,13 +28,13 @@ last-is n b =
     ∙ (take-suc l n (crumb_at b n) h
     ∙ ap₂ (λ m c. m ++ c ∷ []) (take-crumbs n (suc n) b (omega arith)) (get_d-crumbs (suc n) b n (crumb_at b n) (omega arith)))
 
-pub last-crumbs : (n : ℕ) (b : List Float) → 0 < n → last (crumbs n b) ≡ some (crumb_at b (n - 1))
+pub last-crumbs : (n : ℕ) (b : List Float) → 0 < n → last (crumbs n b) ≡ Some (crumb_at b (n - 1))
 last-crumbs zero b h = absurd (omega arith)
 last-crumbs (suc n) b h =
     let e : n ≡ suc n - 1 = omega arith in
-    ap last (last-is n b) ∙ (last_snoc (crumbs n b) (crumb_at b n) ∙ ap (λ k. some (crumb_at b k)) e)
+    ap last (last-is n b) ∙ (last_snoc (crumbs n b) (crumb_at b n) ∙ ap (λ k. Some (crumb_at b k)) e)
 
-pub last_none : (b : List Float) → last (crumbs 0 b) ≡ none
+pub last_none : (b : List Float) → last (crumbs 0 b) ≡ None
 unfolding crumbs
 last_none b = refl
 

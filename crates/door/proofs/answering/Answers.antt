@@ -5,7 +5,7 @@ use mathlib.Core.Path.{◌≡◌, refl, sym, ap, subst, ◌∙◌}
 use mathlib.Core.Logic.{◌≢◌}
 use mathlib.Core.Bool.{Bool, true, false, not}
 use mathlib.Core.List.{List, []}
-use mathlib.Core.Option.{Option, none, some}
+use Rattle.std.specs.Prelude.{Option, Some, None}
 use borrow.Author.Tests.{not-true, not-false, le-leb, lt-leb}
 use lib.ListN.{length}
 use lib.Ieee.{Float}
@@ -20,33 +20,33 @@ use Rattle.door.specs.GuideWords.{guide_size}
 use Rattle.door.specs.Answers.{with_room, Answers, Parts}
 
 -- ---- what is read
-pub loaded : {w : List ℕ} {n : List Float} {h : Homing} {b : Bool} → Loads w n h b → not b ≡ false → stored w n ≡ some h
+pub loaded : {w : List ℕ} {n : List Float} {h : Homing} {b : Bool} → Loads w n h b → not b ≡ false → stored w n ≡ Some h
 loaded l e = l.there (not-false _ e)
 
-pub unloaded : {w : List ℕ} {n : List Float} {h : Homing} {b : Bool} → Loads w n h b → not b ≡ true → stored w n ≡ none
+pub unloaded : {w : List ℕ} {n : List Float} {h : Homing} {b : Bool} → Loads w n h b → not b ≡ true → stored w n ≡ None
 unloaded l e = l.nothing (not-true _ e)
 
 pub roomy : (guide : List ℕ) {held x : Option Homing} → guide_size ≤ length guide → held ≡ x → with_room guide held ≡ x
 unfolding with_room
 roomy guide long e = simp (le-leb guide_size (length guide) long) e
 
-pub no_room : (guide : List ℕ) (held : Option Homing) → length guide < guide_size → with_room guide held ≡ none
+pub no_room : (guide : List ℕ) (held : Option Homing) → length guide < guide_size → with_room guide held ≡ None
 unfolding with_room
 no_room guide held short = simp (lt-leb guide_size (length guide) short)
 
-pub held_same : {S : Type 0} {held : Option S} {h k : S} → held ≡ some h → held ≡ some k → h ≡ k
+pub held_same : {S : Type 0} {held : Option S} {h k : S} → held ≡ Some h → held ≡ Some k → h ≡ k
 held_same e f = cc
 
-pub held_none : {S B : Type 0} {held : Option S} {h : S} → held ≡ some h → held ≡ none → B
+pub held_none : {S B : Type 0} {held : Option S} {h : S} → held ≡ Some h → held ≡ None → B
 held_none e f = let z : ◌≡◌ {A = ℕ} 0 1 = cc in absurd (omega arith)
 
 -- ---- values
 module _ {S R A W : Type 0} {held : Option S} {unread : ℕ} {promise : S → R → Type 0} {says : R → Answer A} {write : A → W → W}
     {was : W} where
-  pub not-held : {number : ℕ} → held ≡ none → number ≡ unread → Answers held unread promise says write number was was
+  pub not-held : {number : ℕ} → held ≡ None → number ≡ unread → Answers held unread promise says write number was was
   not-held e told = record { nothing = λ _. (told, refl); asked = λ h f. held_none f e }
 
-  pub handed : {h : S} {number : ℕ} {is : W} → held ≡ some h → (r : R) → promise h r → number ≡ number_of (says r)
+  pub handed : {h : S} {number : ℕ} {is : W} → held ≡ Some h → (r : R) → promise h r → number ≡ number_of (says r)
       → is ≡ values_of write (says r) was
       → Answers held unread promise says write number was is
   handed e r p told written =
@@ -56,12 +56,12 @@ module _ {S R A W : Type 0} {held : Option S} {unread : ℕ} {promise : S → R 
       }
 
   -- the answer r is taken apart as x
-  pub answered-with : {h : S} {r x : R} {is : W} → held ≡ some h → promise h r → r ≡ x → is ≡ values_of write (says x) was
+  pub answered-with : {h : S} {r x : R} {is : W} → held ≡ Some h → promise h r → r ≡ x → is ≡ values_of write (says x) was
       → Answers held unread promise says write (number_of (says x)) was is
   answered-with {r = r} e p told written =
       handed e r p (sym (ap (λ (y : R). number_of (says y)) told)) (written ∙ sym (ap (λ (y : R). values_of write (says y) was) told))
 
-  pub answered : {h : S} {r x : R} → held ≡ some h → promise h r → r ≡ x
+  pub answered : {h : S} {r x : R} → held ≡ Some h → promise h r → r ≡ x
       → Answers held unread promise says write (number_of (says x)) was (values_of write (says x) was)
   answered e p told = answered-with e p told refl
 
@@ -82,11 +82,11 @@ in-front b part (suc k) count n front same empty counted =
     empty ne ∙ sym (ap (λ (m : ℕ). in_front m b) (none_left part empty counted ne))
 
 module _ {S : Type 0} {held : Option S} {unread : ℕ} {promise : S → ℕ → List Float → Type 0} {b : List Float} where
-  pub no_part : {number told count : ℕ} → held ≡ none → told ≡ unread → (number ≡ told) × (count ≡ 0)
+  pub no_part : {number told count : ℕ} → held ≡ None → told ≡ unread → (number ≡ told) × (count ≡ 0)
       → Parts held unread promise b number count
   no_part e is empty = record { nothing = λ _. (empty.0 ∙ is, empty.1); asked = λ h f. held_none f e }
 
-  pub part-returned : {h : S} {number count : ℕ} → held ≡ some h → (part : List Float) → promise h number part → (n : ℕ)
+  pub part-returned : {h : S} {number count : ℕ} → held ≡ Some h → (part : List Float) → promise h number part → (n : ℕ)
       → (number ≡ 0 → part ≡ in_front n b) → (number ≡ 0 → crumbs (capacity (length part)) part ≡ crumbs n b) → (number ≢ 0 → part ≡ [])
       → count ≡ capacity (length part) → Parts held unread promise b number count
   part-returned {number = number} e part p n front same empty counted =

@@ -5,12 +5,10 @@ use mathlib.Core.Path.{◌≡◌, refl, sym, ap, ◌∙◌}
 use mathlib.Core.Logic.{◌≢◌}
 use mathlib.Core.Bool.{Bool, true, false, ◌&&◌, cond, not, and-eq-true_iff}
 use mathlib.Core.List.{List, [], ◌∷◌, ◌++◌}
-use mathlib.Core.Option.{none, some}
 use borrow.Author.Tests.{leb-true, le-leb, lt-leb, not-true, not-false}
 use lib.Dec.{leb}
 use lib.ListN.{length, drop, set}
-use Rattle.plane.specs.declared.Heading.{Heading}
-use Rattle.plane.specs.declared.Heading.TheVariants as heading
+use Rattle.std.specs.Prelude.{Option, Some, None, ℕ}
 use Rattle.state.specs.declared.Mode.{Mode}
 use Rattle.state.specs.declared.Mode.TheVariants as mode
 use Rattle.state.specs.declared.Guide.{Guide}
@@ -91,11 +89,11 @@ unfolding guide_read heading_at
 read_plain w r a b c =
     simp (le-leb _ most32 a, le-leb _ most32 b, le-leb _ most32 c, le-leb _ most16 r.bearing, le-leb _ most16 r.heading)
 
-pub guide-read : {b : Bool} (w : List ℕ) → b ≡ are_guide w → not b ≡ false → guide_of w ≡ some (guide_read w 0)
+pub guide-read : {b : Bool} (w : List ℕ) → b ≡ are_guide w → not b ≡ false → guide_of w ≡ Some (guide_read w 0)
 unfolding guide_of
 guide-read w told e = let yes : are_guide w ≡ true = sym told ∙ not-false _ e in simp yes
 
-pub no-guide : {b : Bool} (w : List ℕ) → b ≡ are_guide w → not b ≡ true → guide_of w ≡ none
+pub no-guide : {b : Bool} (w : List ℕ) → b ≡ are_guide w → not b ≡ true → guide_of w ≡ None
 unfolding guide_of
 no-guide w told e = let no : are_guide w ≡ false = sym told ∙ not-true _ e in simp no
 
@@ -110,9 +108,9 @@ flag-most : (b : Bool) → leb (flag_of b) 1 ≡ true
 flag-most true = refl
 flag-most false = refl
 
-known-most : (h : Heading) → leb (heading_flag h) 1 ≡ true
-known-most (heading.Known a) = refl
-known-most heading.Unknown = refl
+known-most : (h : Option ℕ) → leb (heading_flag h) 1 ≡ true
+known-most (Some a) = refl
+known-most None = refl
 
 long-enough : (n : ℕ) → guide_size ≤ suc (suc (suc (suc (suc (suc (suc (suc (suc (suc n)))))))))
 long-enough n = omega arith
@@ -133,5 +131,5 @@ guide-read-back g fits ws =
     let bearing : leb g.bearing most16 ≡ true = at 7 (omega arith) in
     let way : leb (heading_in g.heading) most16 ≡ true = at 9 (omega arith) in
     let yes = are_words g bearing way ws in
-    ap (λ b. cond b (some (guide_read (guide_words g ++ ws) 0)) none) yes
-    ∙ ap some (guide-same g ws (at 4 (omega arith)) (at 5 (omega arith)) (at 6 (omega arith)) bearing way)
+    ap (λ b. cond b (Some (guide_read (guide_words g ++ ws) 0)) None) yes
+    ∙ ap Some (guide-same g ws (at 4 (omega arith)) (at 5 (omega arith)) (at 6 (omega arith)) bearing way)

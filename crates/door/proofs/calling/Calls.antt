@@ -11,8 +11,8 @@ use lib.ListN.{length}
 use lib.Signed.{mag}
 use lib.Ieee.{Float}
 use Rattle.state.specs.declared.Homing.{Homing}
-use Rattle.state.specs.declared.Place.TheVariants as place
-use Rattle.course.specs.Fix.{Fix}
+use Rattle.std.specs.Prelude.{Some}
+use Rattle.plane.specs.declared.Fix.{Fix}
 use Rattle.course.proofs.Fixes.{handed}
 use Rattle.fix.proofs.Arriving.{fix_at, handed-fix}
 use Rattle.calls.specs.Questions.{question1, unless, ◌or_else◌}
@@ -78,7 +78,7 @@ module _ (lat lon : ℤ) (a : mag lat < 2 ^ 31) (b : mag lon < 2 ^ 31) {now : �
   replayed {h = h} {r = r} = subst (λ (x : Fix). Replays x now h entry r exit) (handed-fix lat lon a b)
 
   pub observed : {line : List Float} {event event' : ℕ} {w w' : List ℕ} {n n' : List Float} {number : ℕ}
-      → Observe line (place.At (handed lat) (handed lon)) now entry event exit event' w n number w' n'
-      → Observe line (place.At lat lon) now entry event exit event' w n number w' n'
+      → Observe line (Some (handed lat) (handed lon)) now entry event exit event' w n number w' n'
+      → Observe line (Some lat lon) now entry event exit event' w n number w' n'
   observed {line} {event} {event'} {w} {w'} {n} {n'} {number} =
-      subst (λ (x : Fix). Observe line (place.At x.lat x.lon) now entry event exit event' w n number w' n') (handed-fix lat lon a b)
+      subst (λ (x : Fix). Observe line (Some x.lat x.lon) now entry event exit event' w n number w' n') (handed-fix lat lon a b)

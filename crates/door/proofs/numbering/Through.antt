@@ -3,7 +3,8 @@ use mathlib.Core.Path.{◌≡◌, refl, sym, ◌∙◌, subst}
 use Prim.Native.Nat.{ℕ, ◌≤◌}
 use mathlib.Core.Bool.{Bool, true, false, not}
 use mathlib.Core.List.{List}
-use mathlib.Core.Option.{none, some, none-ne-some, some-injective}
+use Rattle.std.proofs.lemmas.Option.{none-some, same_Some}
+use Rattle.std.specs.Prelude.{Some, None}
 use lib.ListN.{length}
 use lib.Ieee.{Float}
 use Rattle.state.specs.declared.Homing.{Homing}
@@ -22,10 +23,10 @@ was-true {b = false} e = sym e
 was-true {b = true} e = refl
 
 module _ {w : List ℕ} {n : List Float} {h : Homing} {held : Bool} (loads : Loads w n h held) where
-  pub none_read : not held ≡ true → stored w n ≡ none
+  pub none_read : not held ≡ true → stored w n ≡ None
   none_read e = loads.nothing (was-false e)
 
-  pub state-read : not held ≡ false → stored w n ≡ some h
+  pub state-read : not held ≡ false → stored w n ≡ Some h
   state-read e = loads.there (was-true e)
 
   -- there is room to store a state where one was read
@@ -34,12 +35,12 @@ module _ {w : List ℕ} {n : List Float} {h : Homing} {held : Bool} (loads : Loa
 
   module _ {unread : ℕ} {does : Homing → Homing → ℕ → Type 0} {untouched : Type 0} {number : ℕ} where
     pub not-held : not held ≡ true → number ≡ unread → untouched → ChangesStored unread does untouched w n number w n
-    not-held e u t = record { nothing = λ _. (u, (refl, (refl, t))); state = λ g z. absurd (none-ne-some g (sym (none_read e) ∙ z)) }
+    not-held e u t = record { nothing = λ _. (u, (refl, (refl, t))); state = λ g z. absurd (none-some g (sym (none_read e) ∙ z)) }
 
     pub on-held : {r : Homing} {w' : List ℕ} {n' : List Float} → not held ≡ false → does h r number → Leaves number r w n w' n'
         → ChangesStored unread does untouched w n number w' n'
     on-held {r = r} e d l =
         record {
-          nothing = λ z. absurd (none-ne-some h (sym z ∙ state-read e));
-          state = λ g z. (r, (subst (λ (k : Homing). does k r number) (some-injective h g (sym (state-read e) ∙ z)) d, l));
+          nothing = λ z. absurd (none-some h (sym z ∙ state-read e));
+          state = λ g z. (r, (subst (λ (k : Homing). does k r number) (same_Some h g (sym (state-read e) ∙ z)) d, l));
         }

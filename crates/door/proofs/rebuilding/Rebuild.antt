@@ -5,12 +5,11 @@ use mathlib.Core.Path.{◌≡◌, refl, sym, ap, subst, ◌∙◌}
 use mathlib.Core.Logic.{◌≢◌}
 use mathlib.Core.Bool.{Bool, true, false, not, ◌&&◌, and-eq-true_iff, false≢true}
 use mathlib.Core.List.{List}
-use mathlib.Core.Option.{none, some}
+use Rattle.std.specs.Prelude.{Some, None, Option, ℕ}
 use borrow.Author.Tests.{not-true, not-false, le-leb, lt-leb}
 use lib.ListN.{length}
 use lib.Ieee.{Float}
 use Rattle.state.specs.declared.Homing.{Homing}
-use Rattle.ride_log.specs.declared.Utc.{Utc}
 use Rattle.rebuild.specs.declared.Rebuild.{Rebuild}
 use Rattle.rebuild.specs.Rebuild.{new_rebuild, caught_up}
 use Rattle.restart.specs.declared.Settled.{Settled}
@@ -24,15 +23,15 @@ use Rattle.door.specs.Through.{no_state, Leaves}
 use Rattle.door.specs.Rebuild.{LeavesRebuild, RebuildNew, RebuildCaughtUp, Slices, OnBoth}
 use Rattle.door.proofs.answering.Answers.{held_same, held_none}
 
-pub begun : {v : List ℕ} {r : Rebuild} {b : Bool} → LoadsRebuild v r b → not b ≡ false → stored_rebuild v ≡ some r
+pub begun : {v : List ℕ} {r : Rebuild} {b : Bool} → LoadsRebuild v r b → not b ≡ false → stored_rebuild v ≡ Some r
 begun l e = l.there (not-false _ e)
 
-pub not-begun : {v : List ℕ} {r : Rebuild} {b : Bool} → LoadsRebuild v r b → not b ≡ true → stored_rebuild v ≡ none
+pub not-begun : {v : List ℕ} {r : Rebuild} {b : Bool} → LoadsRebuild v r b → not b ≡ true → stored_rebuild v ≡ None
 not-begun l e = l.nothing (not-true _ e)
 
 -- both are held where the test of both lets the call go on
 pub both-held : {v w : List ℕ} {n : List Float} {r : Rebuild} {h : Homing} {a b : Bool} → LoadsRebuild v r a → Loads w n h b
-    → not (a && b) ≡ false → (stored_rebuild v ≡ some r) × (stored w n ≡ some h)
+    → not (a && b) ≡ false → (stored_rebuild v ≡ Some r) × (stored w n ≡ Some h)
 both-held {a = a} {b = b} l m e =
     let two = (and-eq-true_iff a b).0 (not-false _ e) in
     (l.there two.0, m.there two.1)
@@ -60,10 +59,10 @@ new-stored {v = v} {v' = v'} recovered long made s =
     }
 
 module _ {v : List ℕ} {was : ℕ} (upper : ℕ) where
-  pub no-rebuild : stored_rebuild v ≡ none → RebuildCaughtUp upper v 10 was was
+  pub no-rebuild : stored_rebuild v ≡ None → RebuildCaughtUp upper v 10 was was
   no-rebuild e = record { nothing = λ _. (refl, refl); rebuild = λ r f. held_none f e }
 
-  pub caught : {r : Rebuild} {is : ℕ} → stored_rebuild v ≡ some r → is ≡ flag_of (caught_up upper r) → RebuildCaughtUp upper v 0 was is
+  pub caught : {r : Rebuild} {is : ℕ} → stored_rebuild v ≡ Some r → is ≡ flag_of (caught_up upper r) → RebuildCaughtUp upper v 0 was is
   caught e told =
       record {
         nothing = λ f. held_none e f;
@@ -80,7 +79,7 @@ module _ {unread : ℕ} {untouched : Type 0} {does : Rebuild → Homing → Type
   without-one false b l m e told same =
       record { no_rebuild = λ _. (told, same); no_guide = λ _. (told, same); both = λ r h f g. held_none f (l.nothing refl) }
 
-  pub with-both : (r : Rebuild) (h : Homing) → (stored_rebuild s.rebuild ≡ some r) × (stored s.words s.numbers ≡ some h)
+  pub with-both : (r : Rebuild) (h : Homing) → (stored_rebuild s.rebuild ≡ Some r) × (stored s.words s.numbers ≡ Some h)
       → does r h → OnBoth unread untouched does s number
   with-both r h (e, f) d =
       record {
@@ -89,8 +88,8 @@ module _ {unread : ℕ} {untouched : Type 0} {does : Rebuild → Homing → Type
         both = λ k l g m. subst (λ (x : Rebuild). does x l) (held_same e g) (subst (λ (y : Homing). does r y) (held_same f m) d);
       }
 
-pub settled_at : {t u : Utc} {r : Rebuild} {h : Homing} {s : Settled} → t ≡ u → SettlesBreadcrumb t r h s → SettlesBreadcrumb u r h s
-settled_at {r = r} {h = h} {s = s} e p = subst (λ (x : Utc). SettlesBreadcrumb x r h s) e p
+pub settled_at : {t u : Option ℕ} {r : Rebuild} {h : Homing} {s : Settled} → t ≡ u → SettlesBreadcrumb t r h s → SettlesBreadcrumb u r h s
+settled_at {r = r} {h = h} {s = s} e p = subst (λ (x : Option ℕ). SettlesBreadcrumb x r h s) e p
 
 -- ---- what is kept
 pub rebuild-kept : {r : Rebuild} {v v' : List ℕ} → StoresRebuild r v v' → LeavesRebuild 0 r v v'

@@ -2,9 +2,9 @@
 use Rattle.calls.specs.Fix.{is_at}
 use Rattle.fix.proofs.is_at.Goals as goal
 
-pub returns-in-At : goal.returns-in-At
+pub returns-in-Some : goal.returns-in-Some
 unfolding is_at
-returns-in-At c = simp c.in-At.is
+returns-in-Some c = simp c.in-Some.is
 
 pub returns-in_default : goal.returns-in_default
 unfolding is_at

@@ -13,14 +13,12 @@ use mir.Syntax.{w32}
 use mir.Val.{to_z, of_z}
 use mir.ValLaws.{to_z-of_z}
 use Rattle.plane.specs.declared.Point.{Point}
-use Rattle.plane.specs.declared.Spot.{Spot}
-use Rattle.plane.specs.declared.Spot.TheVariants as spot
+use Rattle.std.specs.Prelude.{Option, Some, None}
+use Rattle.plane.specs.declared.Fix.{Fix}
 use Rattle.crumbs.specs.declared.Crumb.{Crumb}
 use Rattle.crumbs.specs.Crumb.{crumbs}
 use Rattle.motion.specs.declared.Motion.{Motion}
 use Rattle.motion.specs.Heading.{elapsed, track_heading}
-use Rattle.state.specs.declared.Place.{Place}
-use Rattle.state.specs.declared.Place.TheVariants as place
 use Rattle.state.specs.declared.Line.{Line}
 use Rattle.state.specs.declared.Event.TheVariants as event
 use Rattle.state.specs.declared.Frame.{Frame}
@@ -37,7 +35,7 @@ use Rattle.update.specs.Update.{update}
 use Rattle.update.specs.View.{Updates, told_in}
 use Rattle.matching.proofs.Choosing.{picked, passed-by}
 use Rattle.update.proofs.Updating.{fit_same}
-use Rattle.course.specs.Fix.{Fix, located, framed}
+use Rattle.course.specs.Fix.{located, framed}
 use Rattle.calls.specs.Fix.{still_ms, eq_z, same_fix, headed, still_at, fix_on, arrived_at, new_fix, seen}
 use Rattle.fix.specs.Ready.{Ready}
 use Rattle.fix.proofs.recording.Moving.{ready-same}
@@ -75,7 +73,7 @@ words-eq a b f g = by (eqb (of_z w32 a) (of_z w32 b)) refl
     by false e = sym (eq_z-other a b (λ h. eqb-false _ _ e (ap (λ z. of_z w32 z) h)))
 
 -- the state with another frame, place, clock and motion
-abbrev pub moved_as : Homing → Frame → Place → Spot → ℕ → Motion → Homing
+abbrev pub moved_as : Homing → Frame → Option Fix → Option Point → ℕ → Motion → Homing
 moved_as h frame fed here now motion =
     record {
       trail = h.trail;
@@ -96,7 +94,7 @@ moved_as h frame fed here now motion =
 
 -- at a new fix
 abbrev pub moved_to : Homing → Fix → ℕ → Frame → Point → Motion → Homing
-moved_to h x now f p m = moved_as h f (place.At x.lat x.lon) (spot.At p) now m
+moved_to h x now f p m = moved_as h f (Some x.lat x.lon) (Some p) now m
 
 -- where only the motion is another
 abbrev pub moved_on : Homing → Motion → Homing
@@ -114,22 +112,22 @@ arrives h x now {f} {p} {m} ef ep em =
       same = λ b.
           let s = with_here_ms now (state_of h b) in
           let at : Frame → Point → State =
-          λ g q. headed q now (with_here (spot.At q) (with_frame g (with_fed (place.At x.lat x.lon) s))) in
-          ap (λ (n : Motion). with_motion n (with_here (spot.At p) (with_frame f (with_fed (place.At x.lat x.lon) s)))) em
+          λ g q. headed q now (with_here (Some q) (with_frame g (with_fed (Some x.lat x.lon) s))) in
+          ap (λ (n : Motion). with_motion n (with_here (Some p) (with_frame f (with_fed (Some x.lat x.lon) s)))) em
           ∙ ap (λ (q : Point). at f q) ep
           ∙ ap (λ (g : Frame). at g (framed g x)) ef;
       trail = refl;
     }
 
-module _ (fed : Place) (x : Fix) where
-  pub never-fed : fed ≡ place.Missing → false ≡ same_fix fed x
+module _ (fed : Option Fix) (x : Fix) where
+  pub never-fed : fed ≡ None → false ≡ same_fix fed x
   unfolding same_fix
-  never-fed e = sym (ap (λ (f : Place). same_fix f x) e)
+  never-fed e = sym (ap (λ (f : Option Fix). same_fix f x) e)
 
-  module _ (lat lon : ℤ) (e : fed ≡ place.At lat lon) where
+  module _ (lat lon : ℤ) (e : fed ≡ Some lat lon) where
     told : same_fix fed x ≡ (eq_z lat x.lat && eq_z lon x.lon)
     unfolding same_fix
-    told = ap (λ (f : Place). same_fix f x) e
+    told = ap (λ (f : Option Fix). same_fix f x) e
 
     pub same-lat : mag lat < 2 ^ 31 → mag lon < 2 ^ 31 → mag x.lat < 2 ^ 31 → mag x.lon < 2 ^ 31 → of_z w32 lat ≡ of_z w32 x.lat
         → eqb (of_z w32 lon) (of_z w32 x.lon) ≡ same_fix fed x
@@ -140,22 +138,22 @@ module _ (fed : Place) (x : Fix) where
     pub other-lat : (of_z w32 lat ≡ of_z w32 x.lat → ⊥) → false ≡ same_fix fed x
     other-lat a = sym (told ∙ ap (λ (b : Bool). b && eq_z lon x.lon) (eq_z-other lat x.lat (λ e. a (ap (λ z. of_z w32 z) e))))
 
-module _ (here : Spot) (C : ℕ) (course : List Crumb) (now : ℕ) (s : State) where
-  pub still-nowhere : here ≡ spot.Nowhere → still_at here C course now s ≡ done event.Nothing s
+module _ (here : Option Point) (C : ℕ) (course : List Crumb) (now : ℕ) (s : State) where
+  pub still-nowhere : here ≡ None → still_at here C course now s ≡ done event.Nothing s
   unfolding still_at
-  still-nowhere e = ap (λ (x : Spot). still_at x C course now s) e
+  still-nowhere e = ap (λ (x : Option Point). still_at x C course now s) e
 
-  module _ (p : Point) (e : here ≡ spot.At p) where
+  module _ (p : Point) (e : here ≡ Some p) where
     pub still-early : ltb (elapsed now s.updated_ms) still_ms ≡ true → still_at here C course now s ≡ done event.Nothing s
     unfolding still_at
     still-early t =
-        ap (λ (x : Spot). still_at x C course now s) e
+        ap (λ (x : Option Point). still_at x C course now s) e
         ∙ picked (done event.Nothing s) (update C course p now (headed p now s)) (ltb (elapsed now s.updated_ms) still_ms) t
 
     pub still-due : ltb (elapsed now s.updated_ms) still_ms ≡ false → still_at here C course now s ≡ update C course p now (headed p now s)
     unfolding still_at
     still-due t =
-        ap (λ (x : Spot). still_at x C course now s) e
+        ap (λ (x : Option Point). still_at x C course now s) e
         ∙ passed-by (done event.Nothing s) (update C course p now (headed p now s)) (ltb (elapsed now s.updated_ms) still_ms) t
 
 -- ---- repeated or new

@@ -10,13 +10,10 @@ use lib.Ieee.{Float, le}
 use borrow.Author.Tests.{eqb-false}
 use Rattle.binary32.specs.Limits.{plus_zero}
 use Rattle.plane.specs.declared.Point.{Point}
-use Rattle.plane.specs.declared.Heading.{Heading}
-use Rattle.plane.specs.declared.Heading.TheVariants.{Known, Unknown}
+use Rattle.std.specs.Prelude.{Option, Some, None, ℕ}
 use Rattle.crumbs.specs.declared.Crumb.{Crumb}
 use Rattle.crumbs.specs.Crumb.{capacity, crumbs}
 use Rattle.crumbs.proofs.Crumbs.{length-crumbs}
-use Rattle.search.specs.declared.Join.{Join}
-use Rattle.search.specs.declared.Join.TheVariants.{Segment, NoSegment}
 use Rattle.search.specs.Course.{joined}
 use Rattle.search.proofs.Theorems.{joined_end}
 use Rattle.trail.specs.declared.Trail.{Trail}
@@ -77,18 +74,18 @@ fit-held h r room line_room f t w c =
 
 -- ---- along the course
 module _ (course : List Crumb) (p : Point) where
-  on-course : (j : Join) (s : State) → (join_on j s).answer ≡ true → ((end : ℕ) → j ≡ Segment end → (1 ≤ end) × (end < length course))
+  on-course : (j : Option ℕ) (s : State) → (join_on j s).answer ≡ true → ((end : ℕ) → j ≡ Some end → (1 ≤ end) × (end < length course))
       → (1 ≤ (join_on j s).state.course.join_end) × ((join_on j s).state.course.join_end < length course)
   unfolding join_on joined_to
-  on-course NoSegment s said on = absurd (false≢true said)
-  on-course (Segment end) s said on = on end refl
+  on-course None s said on = absurd (false≢true said)
+  on-course (Some end) s said on = on end refl
 
-  with-heading : (heading : Heading) (s : State) (end : ℕ) → join_with heading course p s ≡ Segment end → (1 ≤ end) × (end < length course)
+  with-heading : (heading : Option ℕ) (s : State) (end : ℕ) → join_with heading course p s ≡ Some end → (1 ≤ end) × (end < length course)
   unfolding join_with
-  with-heading Unknown s end e = let z : ◌≡◌ {A = ℕ} 0 1 = cc in absurd (omega arith)
-  with-heading (Known heading) s end e = by (may_join course s) e
+  with-heading None s end e = let z : ◌≡◌ {A = ℕ} 0 1 = cc in absurd (omega arith)
+  with-heading (Some heading) s end e = by (may_join course s) e
     where
-      by : (b : Bool) → cond b (joined course p heading) NoSegment ≡ Segment end → (1 ≤ end) × (end < length course)
+      by : (b : Bool) → cond b (joined course p heading) None ≡ Some end → (1 ≤ end) × (end < length course)
       by true f = joined_end course p heading end f
       by false f = let z : ◌≡◌ {A = ℕ} 0 1 = cc in absurd (omega arith)
 
@@ -97,37 +94,37 @@ module _ (course : List Crumb) (p : Point) where
   unfolding joining
   joins-on s said = on-course (join_with s.motion.heading course p s) s said (λ end e. with-heading s.motion.heading s end e)
 
-  join-line : (j : Join) (s : State) → (join_on j s).state.course.line_len ≡ s.course.line_len
+  join-line : (j : Option ℕ) (s : State) → (join_on j s).state.course.line_len ≡ s.course.line_len
   unfolding join_on joined_to
-  join-line NoSegment s = refl
-  join-line (Segment end) s = refl
+  join-line None s = refl
+  join-line (Some end) s = refl
 
   pub joining-line : (s : State) → (joining course p s).state.course.line_len ≡ s.course.line_len
   unfolding joining
   joining-line s = join-line _ s
 
-  join-follow : (j : Join) (s : State) → (join_on j s).state.follow ≡ s.follow
+  join-follow : (j : Option ℕ) (s : State) → (join_on j s).state.follow ≡ s.follow
   unfolding join_on
-  join-follow NoSegment s = refl
-  join-follow (Segment end) s = refl
+  join-follow None s = refl
+  join-follow (Some end) s = refl
 
   pub joining-follow : (s : State) → (joining course p s).state.follow ≡ s.follow
   unfolding joining
   joining-follow s = join-follow _ s
 
-  join-track : (j : Join) (s : State) → (join_on j s).state.track ≡ s.track
+  join-track : (j : Option ℕ) (s : State) → (join_on j s).state.track ≡ s.track
   unfolding join_on
-  join-track NoSegment s = refl
-  join-track (Segment end) s = refl
+  join-track None s = refl
+  join-track (Some end) s = refl
 
   pub joining-track : (s : State) → (joining course p s).state.track ≡ s.track
   unfolding joining
   joining-track s = join-track _ s
 
-  join-auto : (j : Join) (s : State) → (join_on j s).state.auto_follow ≡ s.auto_follow
+  join-auto : (j : Option ℕ) (s : State) → (join_on j s).state.auto_follow ≡ s.auto_follow
   unfolding join_on
-  join-auto NoSegment s = refl
-  join-auto (Segment end) s = refl
+  join-auto None s = refl
+  join-auto (Some end) s = refl
 
   pub joining-auto : (s : State) → (joining course p s).state.auto_follow ≡ s.auto_follow
   unfolding joining

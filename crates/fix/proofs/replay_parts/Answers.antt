@@ -1,6 +1,7 @@
 -- `fix::replay_parts` meets its contract.
 use mathlib.Core.Path.{ap, ◌∙◌}
-use Rattle.course.specs.Fix.{Fix, located, framed}
+use Rattle.course.specs.Fix.{located, framed}
+use Rattle.plane.specs.declared.Fix.{Fix}
 use Rattle.fix.specs.Ridden.{ridden}
 use Rattle.fix.proofs.Arriving.{handed-fix, replays-parts}
 use Rattle.fix.proofs.replay_parts.Goals as goal

@@ -16,8 +16,7 @@ use Rattle.plane.specs.declared.Point.{Point}
 use Rattle.crumbs.specs.declared.Crumb.{Crumb}
 use Rattle.segments.specs.declared.costs.Nearest.{Nearest}
 use Rattle.segments.specs.Cost.{plain}
-use Rattle.segments.specs.declared.SoFar.{SoFar}
-use Rattle.segments.specs.declared.SoFar.TheVariants.{Empty, Least}
+use Rattle.std.specs.Prelude.{Option, Some, None}
 use Rattle.matching.specs.Distances.{drop_m}
 use Rattle.segments.specs.Segment.{nearest_on, cheaper, considered, found}
 use Rattle.segments.specs.Square.{square_on}
@@ -71,60 +70,60 @@ less-most x y z h k =
 
 -- ---- the search
 module _ (line : List Crumb) (p : Point) where
-  abbrev rule : ℕ → SoFar → SoFar
+  abbrev rule : ℕ → Option (Nearest × Float) → Option (Nearest × Float)
   rule = considered line p (cost_anywhere line p)
 
-  abbrev shown : SoFar → Bool
+  abbrev shown : Option (Nearest × Float) → Bool
   shown best = found_any (closer drop_m (found best))
 
   abbrev near : ℕ → Nearest
   near end = nearest_on line p end
 
-  one_on : (k : ℕ) (best : SoFar) → shown (falling rule (suc k) (suc k) best) ≡ shown (falling rule k k (rule (suc k) best))
+  one_on : (k : ℕ) (best : Option (Nearest × Float)) → shown (falling rule (suc k) (suc k) best) ≡ shown (falling rule k k (rule (suc k) best))
   unfolding falling
   one_on k best = let e : suc k - 1 ≡ k = omega arith in ap (λ (n : ℕ). shown (falling rule k n (rule (suc k) best))) e
 
   considers : (k : ℕ) (old : Nearest) (cost : Float)
-      → rule (suc k) (Least old cost) ≡ cond (lt (near (suc k)).off cost) (Least (near (suc k)) (near (suc k)).off) (Least old cost)
+      → rule (suc k) (Some (old, cost)) ≡ cond (lt (near (suc k)).off cost) (Some ((near (suc k)), (near (suc k)).off)) (Some (old, cost))
   unfolding considered cost_anywhere plain cheaper
   considers k old cost = refl
 
   -- within 500 m, and it stays so
   stays-near : (k : ℕ) (old : Nearest) (cost : Float) → old.off ≡ cost → le cost drop_m ≡ true
-      → shown (falling rule k k (Least old cost)) ≡ true
+      → shown (falling rule k k (Some (old, cost))) ≡ true
   unfolding falling found closer found_any
   stays-near zero old cost e h = let g : le old.off drop_m ≡ true = rw e h in rw g
   stays-near (suc k) old cost e h =
-      one_on k (Least old cost) ∙ ap (λ (b : SoFar). shown (falling rule k k b)) (considers k old cost)
+      one_on k (Some (old, cost)) ∙ ap (λ (b : Option (Nearest × Float)). shown (falling rule k k b)) (considers k old cost)
       ∙ go (λ (c : Float) (n : Nearest). stays-near k n c) (lt (near (suc k)).off cost) refl
     where
-      go : ((c : Float) (n : Nearest) → n.off ≡ c → le c drop_m ≡ true → shown (falling rule k k (Least n c)) ≡ true)
+      go : ((c : Float) (n : Nearest) → n.off ≡ c → le c drop_m ≡ true → shown (falling rule k k (Some (n, c))) ≡ true)
           → (b : Bool) → lt (near (suc k)).off cost ≡ b
-          → shown (falling rule k k (cond b (Least (near (suc k)) (near (suc k)).off) (Least old cost))) ≡ true
+          → shown (falling rule k k (cond b (Some ((near (suc k)), (near (suc k)).off)) (Some (old, cost)))) ≡ true
       go below true l = below (near (suc k)).off (near (suc k)) refl (less-most (near (suc k)).off cost drop_m l h)
       go below false l = below cost old e h
 
   -- a NaN away, and it stays so
-  stays-lost : (k : ℕ) (old : Nearest) → old.off ≡ nan → shown (falling rule k k (Least old nan)) ≡ false
+  stays-lost : (k : ℕ) (old : Nearest) → old.off ≡ nan → shown (falling rule k k (Some (old, nan))) ≡ false
   unfolding falling found closer found_any le lt eq
   stays-lost zero old e = rw (e, closer)
   stays-lost (suc k) old e =
-      one_on k (Least old nan) ∙ ap (λ (b : SoFar). shown (falling rule k k b)) (considers k old nan
-      ∙ ap (λ (b : Bool). cond b (Least (near (suc k)) (near (suc k)).off) (Least old nan)) (under-nan (near (suc k)).off))
+      one_on k (Some (old, nan)) ∙ ap (λ (b : Option (Nearest × Float)). shown (falling rule k k b)) (considers k old nan
+      ∙ ap (λ (b : Bool). cond b (Some ((near (suc k)), (near (suc k)).off)) (Some (old, nan))) (under-nan (near (suc k)).off))
       ∙ stays-lost k old e
 
   -- further off than 500 m: those below decide
   still-far : (k : ℕ) (old : Nearest) (cost : Float) → old.off ≡ cost → T (real cost) → le cost drop_m ≡ false
-      → shown (falling rule k k (Least old cost)) ≡ some_near line p k
+      → shown (falling rule k k (Some (old, cost))) ≡ some_near line p k
   unfolding falling found closer found_any some_near lies_near
   still-far zero old cost e r h = let g : le old.off drop_m ≡ false = rw e h in rw g
   still-far (suc k) old cost e r h =
-      one_on k (Least old cost) ∙ ap (λ (b : SoFar). shown (falling rule k k b)) (considers k old cost)
+      one_on k (Some (old, cost)) ∙ ap (λ (b : Option (Nearest × Float)). shown (falling rule k k b)) (considers k old cost)
       ∙ go (λ (c : Float) (n : Nearest). still-far k n c) (le (near (suc k)).off drop_m) (lt (near (suc k)).off cost) refl refl
     where
-      go : ((c : Float) (n : Nearest) → n.off ≡ c → T (real c) → le c drop_m ≡ false → shown (falling rule k k (Least n c))
+      go : ((c : Float) (n : Nearest) → n.off ≡ c → T (real c) → le c drop_m ≡ false → shown (falling rule k k (Some (n, c)))
           ≡ some_near line p k) → (d b : Bool) → le (near (suc k)).off drop_m ≡ d → lt (near (suc k)).off cost ≡ b
-          → shown (falling rule k k (cond b (Least (near (suc k)) (near (suc k)).off) (Least old cost)))
+          → shown (falling rule k k (cond b (Some ((near (suc k)), (near (suc k)).off)) (Some (old, cost))))
           ≡ elim d [ true ↦ true | false ↦ some_near line p k ]
       go below true true n l = stays-near k (near (suc k)) (near (suc k)).off refl n
       go below true false n l =
@@ -133,22 +132,22 @@ module _ (line : List Crumb) (p : Point) where
       go below false true n l = below (near (suc k)).off (near (suc k)) refl (left-real (near (suc k)).off cost l) n
       go below false false n l = below cost old e r h
 
-  first : (k : ℕ) → rule (suc k) Empty ≡ Least (near (suc k)) (near (suc k)).off
+  first : (k : ℕ) → rule (suc k) None ≡ Some ((near (suc k)), (near (suc k)).off)
   unfolding considered cost_anywhere plain cheaper
   first k = refl
 
-  begins : (k : ℕ) → shown (falling rule (suc k) (suc k) Empty) ≡ shown (falling rule k k (Least (near (suc k)) (near (suc k)).off))
-  begins k = one_on k Empty ∙ ap (λ (b : SoFar). shown (falling rule k k b)) (first k)
+  begins : (k : ℕ) → shown (falling rule (suc k) (suc k) None) ≡ shown (falling rule k k (Some ((near (suc k)), (near (suc k)).off)))
+  begins k = one_on k None ∙ ap (λ (b : Option (Nearest × Float)). shown (falling rule k k b)) (first k)
 
   whole-lost : (k : ℕ) → eq (square_on line p (suc k)) (square_on line p (suc k)) ≡ false
-      → shown (falling rule (suc k) (suc k) Empty) ≡ false
+      → shown (falling rule (suc k) (suc k) None) ≡ false
   unfolding root
   whole-lost k h =
       let e : (near (suc k)).off ≡ nan = on-is line p (suc k) ∙ ap (root binary32) (no_number (square_on line p (suc k)) h) in
-      begins k ∙ ap (λ (c : Float). shown (falling rule k k (Least (near (suc k)) c))) e ∙ stays-lost k (near (suc k)) e
+      begins k ∙ ap (λ (c : Float). shown (falling rule k k (Some ((near (suc k)), c)))) e ∙ stays-lost k (near (suc k)) e
 
   whole : (k : ℕ) → eq (square_on line p (suc k)) (square_on line p (suc k)) ≡ true
-      → shown (falling rule (suc k) (suc k) Empty) ≡ some_near line p (suc k)
+      → shown (falling rule (suc k) (suc k) None) ≡ some_near line p (suc k)
   unfolding some_near lies_near
   whole k h = begins k ∙ go (le (near (suc k)).off drop_m) refl
     where
@@ -157,28 +156,28 @@ module _ (line : List Crumb) (p : Point) where
           (root-real binary32 (square_on line p (suc k)) (on-not-below line p (suc k)) (number (square_on line p (suc k)) h))
 
       go : (d : Bool) → le (near (suc k)).off drop_m ≡ d
-          → shown (falling rule k k (Least (near (suc k)) (near (suc k)).off)) ≡ elim d [ true ↦ true | false ↦ some_near line p k ]
+          → shown (falling rule k k (Some ((near (suc k)), (near (suc k)).off))) ≡ elim d [ true ↦ true | false ↦ some_near line p k ]
       go true n = stays-near k (near (suc k)) (near (suc k)).off refl n
       go false n = still-far k (near (suc k)) (near (suc k)).off refl r n
 
   abbrev any : Bool
   any = found_any (course_near line p drop_m)
 
-  any-is : any ≡ shown (falling rule (length line - 1) (length line - 1) Empty)
+  any-is : any ≡ shown (falling rule (length line - 1) (length line - 1) None)
   unfolding course_near
-  any-is = let e : count (every line) ≡ length line - 1 = omega arith in ap (λ (n : ℕ). shown (falling rule n (length line - 1) Empty)) e
+  any-is = let e : count (every line) ≡ length line - 1 = omega arith in ap (λ (n : ℕ). shown (falling rule n (length line - 1) None)) e
 
   module _ {len : ℕ} (L : length line ≡ len) where
     pub near_none : len < 2 → false ≡ any
     unfolding falling found closer found_any
-    near_none h = let e : length line - 1 ≡ 0 = omega arith in sym (any-is ∙ ap (λ (n : ℕ). shown (falling rule n n Empty)) e)
+    near_none h = let e : length line - 1 ≡ 0 = omega arith in sym (any-is ∙ ap (λ (n : ℕ). shown (falling rule n n None)) e)
 
     pub near-lost : {s : Float} → 2 ≤ len → s ≡ square_on line p (len - 1) → eq s s ≡ false → false ≡ any
     near-lost {s} more S h =
         let e : length line - 1 ≡ suc (len - 2) = omega arith in
         let d : len - 1 ≡ suc (len - 2) = omega arith in
         let g = S ∙ ap (square_on line p) d in
-        sym (any-is ∙ ap (λ (n : ℕ). shown (falling rule n n Empty)) e ∙ whole-lost (len - 2) (subst (λ (z : Float). eq z z ≡ false) g h))
+        sym (any-is ∙ ap (λ (n : ℕ). shown (falling rule n n None)) e ∙ whole-lost (len - 2) (subst (λ (z : Float). eq z z ≡ false) g h))
 
     pub near-some : {s : Float} {r : Bool} → 2 ≤ len → s ≡ square_on line p (len - 1) → eq s s ≡ true → r ≡ some_near line p (len - 1)
         → r ≡ any
@@ -187,7 +186,7 @@ module _ (line : List Crumb) (p : Point) where
         let d : len - 1 ≡ suc (len - 2) = omega arith in
         let g = S ∙ ap (square_on line p) d in
         R ∙ ap (some_near line p) d
-        ∙ sym (any-is ∙ ap (λ (n : ℕ). shown (falling rule n n Empty)) e ∙ whole (len - 2) (subst (λ (z : Float). eq z z ≡ true) g h))
+        ∙ sym (any-is ∙ ap (λ (n : ℕ). shown (falling rule n n None)) e ∙ whole (len - 2) (subst (λ (z : Float). eq z z ≡ true) g h))
 
   -- ---- the loop
   module _ (end : ℕ) {b : Bool} (B : b ≡ lies_near line p end) (more : 0 < end) where

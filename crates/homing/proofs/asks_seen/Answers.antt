@@ -1,6 +1,6 @@
 -- `homing::asks_seen` meets its contract.
 use mathlib.Core.Path.{ap, ◌∙◌}
-use Rattle.course.specs.Fix.{Fix}
+use Rattle.plane.specs.declared.Fix.{Fix}
 use Rattle.calls.specs.Questions.{asks_fix}
 use Rattle.calls.specs.Calls.{asks, asks_place}
 use Rattle.fix.proofs.Arriving.{handed-fix}

@@ -1,6 +1,6 @@
 -- `homing::missing` meets its contract.
 use mathlib.Core.Path.{refl, sym, ◌∙◌}
-use Rattle.state.specs.declared.Place.TheVariants as place
+use Rattle.std.specs.Prelude.{None}
 use Rattle.calls.specs.Fix.{missing, observe}
 use Rattle.calls.specs.Calls as call
 use Rattle.calls.specs.Calls.{asks, asks_place, performs}
@@ -16,7 +16,7 @@ returns-then-number-ne0 c =
     let e = or_nothing c.asks_both-number.ensures in
     record {
       answered = no e _ c.if-number-ne0.true;
-      called = refuses (call.Observe g.line.now place.Missing g.now_ms) g.h g.crumbs.now e c.if-number-ne0.true;
+      called = refuses (call.Observe g.line.now None g.now_ms) g.h g.crumbs.now e c.if-number-ne0.true;
     }
 
 pub returns : goal.returns
@@ -28,6 +28,6 @@ returns c =
     let k = c.missing-homing in
     record {
       answered = yes e c.if-number-ne0.false refl;
-      called = takes (call.Observe g.line.now place.Missing g.now_ms) g.h k.result b b (sym e ∙ c.if-number-ne0.false)
+      called = takes (call.Observe g.line.now None g.now_ms) g.h k.result b b (sym e ∙ c.if-number-ne0.false)
           (k.ensures.same b) refl refl;
     }

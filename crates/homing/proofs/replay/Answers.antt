@@ -3,7 +3,7 @@ use mathlib.Core.Path.{refl, sym, ap, ◌∙◌, subst}
 use lib.ListN.{length}
 use Rattle.crumbs.specs.Crumb.{capacity}
 use Rattle.state.specs.State.{state_of}
-use Rattle.course.specs.Fix.{Fix}
+use Rattle.plane.specs.declared.Fix.{Fix}
 use Rattle.calls.specs.Fix.{replay}
 use Rattle.calls.specs.Calls as call
 use Rattle.calls.specs.Calls.{asks, performs}

@@ -2,10 +2,9 @@
 use mathlib.Core.Path.{sym, ap, ◌∙◌}
 use lib.ListN.{length}
 use Rattle.crumbs.specs.Crumb.{capacity}
-use Rattle.state.specs.declared.Place.{Place}
-use Rattle.state.specs.declared.Place.TheVariants as place
+use Rattle.std.specs.Prelude.{Option, Some}
+use Rattle.plane.specs.declared.Fix.{Fix}
 use Rattle.state.specs.State.{state_of}
-use Rattle.course.specs.Fix.{Fix}
 use Rattle.calls.specs.Fix.{seen, observe}
 use Rattle.calls.specs.Calls as call
 use Rattle.calls.specs.Calls.{asks, course_in, performs}
@@ -22,11 +21,11 @@ returns-then-number-ne0 c =
     let g = c.args in
     let b = g.crumbs.now in
     let e = c.asks_seen-number.ensures g.now_ms
-    ∙ ap (λ (x : Place). asks (length b) (call.Observe g.line.now x g.now_ms) (state_of g.h b))
+    ∙ ap (λ (x : Option Fix). asks (length b) (call.Observe g.line.now x g.now_ms) (state_of g.h b))
     (same_at g.lat g.lon c.ranges.lat.sfits c.ranges.lon.sfits) in
     record {
       answered = no e _ c.if-number-ne0.true;
-      called = refuses (call.Observe g.line.now (place.At g.lat g.lon) g.now_ms) g.h b e c.if-number-ne0.true;
+      called = refuses (call.Observe g.line.now (Some g.lat g.lon) g.now_ms) g.h b e c.if-number-ne0.true;
     }
 
 pub seen-t-requires : goal.seen-t-requires
@@ -43,7 +42,7 @@ returns c =
     let l = course_in g.line.now (state_of g.h b) in
     let same = handed-fix g.lat g.lon c.ranges.lat.sfits c.ranges.lon.sfits in
     let e = c.asks_seen-number.ensures g.now_ms
-    ∙ ap (λ (x : Place). asks (length b) (call.Observe g.line.now x g.now_ms) (state_of g.h b))
+    ∙ ap (λ (x : Option Fix). asks (length b) (call.Observe g.line.now x g.now_ms) (state_of g.h b))
     (same_at g.lat g.lon c.ranges.lat.sfits c.ranges.lon.sfits) in
     let u = c.seen-t in
     let C = capacity (length b) in
@@ -51,7 +50,7 @@ returns c =
       answered = yes e c.if-number-ne0.false
           (u.ensures.told ∙ ap (λ (x : Fix). (seen C l x g.now_ms (state_of g.h b)).answer) same);
       called =
-          takes-rule (call.Observe g.line.now (place.At g.lat g.lon) g.now_ms) g.h u.result.homing b u.new.crumbs
+          takes-rule (call.Observe g.line.now (Some g.lat g.lon) g.now_ms) g.h u.result.homing b u.new.crumbs
           (λ D. seen D l _ g.now_ms) (sym e ∙ c.if-number-ne0.false)
           (ap (λ (x : Fix). (seen C l x g.now_ms (state_of g.h b)).state) same)
           u.ensures.follows;

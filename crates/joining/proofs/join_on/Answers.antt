@@ -2,12 +2,12 @@
 use Rattle.joining.specs.Join.{join_on, joined_to}
 use Rattle.joining.proofs.join_on.Goals as goal
 
-pub returns-in-Segment : goal.returns-in-Segment
+pub returns-in-Some : goal.returns-in-Some
 unfolding join_on joined_to
-returns-in-Segment c = λ s.
-    let told = c.in-Segment.is in
+returns-in-Some c = λ s.
+    let told = c.in-Some.is in
     record { answered = simp (told, ← c.one_more-fixes.ensures); same = simp (told, ← c.one_more-fixes.ensures) }
 
-pub returns-in-NoSegment : goal.returns-in-NoSegment
+pub returns-in-None : goal.returns-in-None
 unfolding join_on joined_to
-returns-in-NoSegment c = λ s. record { answered = simp c.in-NoSegment.is; same = simp c.in-NoSegment.is }
+returns-in-None c = λ s. record { answered = simp c.in-None.is; same = simp c.in-None.is }

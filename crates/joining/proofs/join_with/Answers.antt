@@ -11,11 +11,11 @@ pub returns-then-may_join : goal.returns-then-may_join
 returns-then-may_join c = λ s.
     let g = c.args in
     c.joined.ensures
-    ∙ found g.auto_follow g.c g.line.now s g.p g.heading c.in-Known.known c.in-Known.is c.may_join.result
+    ∙ found g.auto_follow g.c g.line.now s g.p g.heading c.in-Some.known c.in-Some.is c.may_join.result
     c.may_join.ensures c.if-may_join.true
 
 pub returns : goal.returns
 returns c = λ s.
     let g = c.args in
-    none g.auto_follow g.c g.line.now s g.p g.heading c.in-Known.known c.in-Known.is c.may_join.result
+    none g.auto_follow g.c g.line.now s g.p g.heading c.in-Some.known c.in-Some.is c.may_join.result
     c.may_join.ensures c.if-may_join.false

@@ -9,14 +9,11 @@ use lib.Ieee.{Float, lt}
 use borrow.Author.Tests.{lt-leb, le-leb, leb-true}
 use Rattle.binary32.specs.Arithmetic.{◌⊖◌}
 use Rattle.plane.specs.declared.Point.{Point}
-use Rattle.plane.specs.declared.Heading.{Heading}
-use Rattle.plane.specs.declared.Heading.TheVariants.{Known, Unknown}
+use Rattle.std.specs.Prelude.{Option, Some, None, ℕ}
 use Rattle.crumbs.specs.declared.Crumb.{Crumb}
 use Rattle.crumbs.specs.Crumb.{crumbs}
 use Rattle.crumbs.proofs.Crumbs.{length-crumbs}
 use Rattle.segments.specs.declared.costs.Nearest.{Nearest}
-use Rattle.segments.specs.declared.Best.{Best}
-use Rattle.segments.specs.declared.Best.TheVariants.{Nothing, Found}
 use Rattle.segments.specs.Line.{at}
 use Rattle.search.specs.Search.{nearest_on_breadcrumb}
 use Rattle.search.specs.Along.{ends}
@@ -25,20 +22,20 @@ use Rattle.joining.specs.Retrace.{retrace_m, retrace_skip_m, backwards, against_
 use Rattle.segments.specs.Inner.{InLine}
 
 -- ---- the nearest segment
-pub on_line : (len : ℕ) (best : Best) (near : Nearest) → best ≡ Found near → InLine len best → (1 ≤ near.end) × (near.end < len)
-on_line len best near e h = subst (λ (b : Best). InLine len b) e h
+pub on_line : (len : ℕ) (best : Option Nearest) (near : Nearest) → best ≡ Some near → InLine len best → (1 ≤ near.end) × (near.end < len)
+on_line len best near e h = subst (λ (b : Option Nearest). InLine len b) e h
 
-module _ (l : List Crumb) (heading : ℕ) (best : Best) where
-  pub nothing-near : best ≡ Nothing → false ≡ against_near l heading best
+module _ (l : List Crumb) (heading : ℕ) (best : Option Nearest) where
+  pub nothing-near : best ≡ None → false ≡ against_near l heading best
   unfolding against_near
-  nothing-near e = sym (ap (λ (b : Best). against_near l heading b) e)
+  nothing-near e = sym (ap (λ (b : Option Nearest). against_near l heading b) e)
 
-  module _ (near : Nearest) (e : best ≡ Found near) where
+  module _ (near : Nearest) (e : best ≡ Some near) where
     tested : (b : Bool) → lt near.off retrace_m ≡ b
         → against_near l heading best ≡ (b && backwards heading (at l (near.end - 1)) (at l near.end))
     unfolding against_near
     tested b t =
-        ap (λ (x : Best). against_near l heading x) e ∙ ap (λ (x : Bool). x && backwards heading (at l (near.end - 1)) (at l near.end)) t
+        ap (λ (x : Option Nearest). against_near l heading x) e ∙ ap (λ (x : Bool). x && backwards heading (at l (near.end - 1)) (at l near.end)) t
 
     pub near-against : lt near.off retrace_m ≡ true
         → backwards heading (at l (near.end - 1)) (at l near.end) ≡ against_near l heading best
@@ -53,24 +50,24 @@ unfolding nearest_before
 before-in-line l p n len few = by (nearest_before l p n) refl
   where
     within : (near : Nearest) (b : Bool) → leb 2 n ≡ b
-        → cond b (nearest_on_breadcrumb l p (record { from = 1; to = n - 1 })) Nothing ≡ Found near → (1 ≤ near.end) × (near.end < len)
+        → cond b (nearest_on_breadcrumb l p (record { from = 1; to = n - 1 })) None ≡ Some near → (1 ≤ near.end) × (near.end < len)
     within near true t f =
         let m = breadcrumb-met l p (record { from = 1; to = n - 1 }) near f in
         let two : 2 ≤ n = leb-true 2 n t in
         (m.from, omega (arith, m.to, two))
     within near false t f = let z : ◌≡◌ {A = ℕ} 0 1 = cc in absurd (omega arith)
 
-    by : (best : Best) → nearest_before l p n ≡ best → InLine len best
-    by Nothing e = tt
-    by (Found near) e = within near (leb 2 n) refl e
+    by : (best : Option Nearest) → nearest_before l p n ≡ best → InLine len best
+    by None e = tt
+    by (Some near) e = within near (leb 2 n) refl e
 
 -- ---- by the heading and the length
-module _ (len : ℕ) (b : List Float) (p : Point) (heading : Heading) where
-  pub no-heading : heading ≡ Unknown → false ≡ rides_back heading (crumbs len b) p
+module _ (len : ℕ) (b : List Float) (p : Point) (heading : Option ℕ) where
+  pub no-heading : heading ≡ None → false ≡ rides_back heading (crumbs len b) p
   unfolding rides_back
-  no-heading e = sym (ap (λ (x : Heading). rides_back x (crumbs len b) p) e)
+  no-heading e = sym (ap (λ (x : Option ℕ). rides_back x (crumbs len b) p) e)
 
-  module _ (known : ℕ) (e : heading ≡ Known known) where
+  module _ (known : ℕ) (e : heading ≡ Some known) where
     abbrev limit : Float
     limit = (at (crumbs len b) (len - 1)).along ⊖ retrace_skip_m
 
@@ -78,7 +75,7 @@ module _ (len : ℕ) (b : List Float) (p : Point) (heading : Heading) where
         → rides_back heading (crumbs len b) p
         ≡ cond t (against_near (crumbs len b) known (nearest_before (crumbs len b) p (ends (crumbs len b) limit))) false
     unfolding rides_back
-    chosen t h = ap (λ (x : Heading). rides_back x (crumbs len b) p) e ∙ simp (length-crumbs, h)
+    chosen t h = ap (λ (x : Option ℕ). rides_back x (crumbs len b) p) e ∙ simp (length-crumbs, h)
 
     pub too_short : len < 2 → false ≡ rides_back heading (crumbs len b) p
     too_short h = sym (chosen false (lt-leb _ _ h))

@@ -3,7 +3,7 @@ use mathlib.Core.Path.{◌≡◌, refl, sym, ap, ◌∙◌}
 use mathlib.Core.Bool.{Bool}
 use mathlib.Core.List.{List}
 use lib.Ieee.{Float}
-use Rattle.plane.specs.declared.Heading.{Heading}
+use Rattle.std.specs.Prelude.{Option, ℕ}
 use Rattle.plane.specs.declared.Point.{Point}
 use Rattle.crumbs.specs.Crumb.{crumbs}
 use Rattle.trail.specs.declared.Trail.{Trail}
@@ -15,9 +15,9 @@ use Rattle.joining.specs.Join.{with_retrace}
 use Rattle.joining.proofs.Counting.{rode-back, rode-on}
 use Rattle.joining.proofs.retracing.Goals as goal
 
-rides : (t : Trail) (b : List Float) (p : Point) {x y : Heading} {yes : Bool} → x ≡ y
+rides : (t : Trail) (b : List Float) (p : Point) {x y : Option ℕ} {yes : Bool} → x ≡ y
     → rides_back y (crumbs t.len b) p ≡ yes → rides_back x (crumbs t.len b) p ≡ yes
-rides t b p same is = ap (λ (h : Heading). rides_back h (crumbs t.len b) p) same ∙ is
+rides t b p same is = ap (λ (h : Option ℕ). rides_back h (crumbs t.len b) p) same ∙ is
 
 pub returns-then-rides_back : goal.returns-then-rides_back
 unfolding track with_retrace

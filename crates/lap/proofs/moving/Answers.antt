@@ -3,9 +3,9 @@ use mathlib.Core.Path.{sym, ap}
 use Rattle.lap.specs.Lap.{moving_at}
 use Rattle.lap.proofs.moving.Goals as goal
 
-pub returns-in-Known : goal.returns-in-Known
+pub returns-in-Some : goal.returns-in-Some
 unfolding moving_at
-returns-in-Known c = sym (ap moving_at c.in-Known.is)
+returns-in-Some c = sym (ap moving_at c.in-Some.is)
 
 pub returns-in_default : goal.returns-in_default
 unfolding moving_at

@@ -11,13 +11,13 @@ returns-in_default c =
 pub returns-then-s : goal.returns-then-s
 returns-then-s c =
     let g = c.args in
-    completed g.l g.p c.in-At.from g.heading c.moving-is_moving.result c.lap_start-start.result
-    c.moving-is_moving.ensures c.lap_start-start.ensures c.in-At.is
+    completed g.l g.p c.in-Some.from g.heading c.moving-is_moving.result c.lap_start-start.result
+    c.moving-is_moving.ensures c.lap_start-start.ensures c.in-Some.is
     c.step_by-s.result c.distance.result c.distance.ensures c.step_by-s.ensures c.if-s.true
 
 pub returns : goal.returns
 returns c =
     let g = c.args in
-    went_on g.l g.p c.in-At.from g.heading c.moving-is_moving.result c.lap_start-start.result
-    c.moving-is_moving.ensures c.lap_start-start.ensures c.in-At.is
+    went_on g.l g.p c.in-Some.from g.heading c.moving-is_moving.result c.lap_start-start.result
+    c.moving-is_moving.ensures c.lap_start-start.ensures c.in-Some.is
     c.step_by-s.result c.distance.result c.distance.ensures c.step_by-s.ensures c.if-s.false

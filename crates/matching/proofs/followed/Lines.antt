@@ -11,8 +11,7 @@ use Rattle.crumbs.specs.declared.Crumb.{Crumb}
 use Rattle.crumbs.specs.Crumb.{capacity, crumbs}
 use Rattle.crumbs.proofs.Crumbs.{length-crumbs}
 use Rattle.segments.specs.declared.costs.Nearest.{Nearest}
-use Rattle.segments.specs.declared.Best.{Best}
-use Rattle.segments.specs.declared.Best.TheVariants.{Nothing, Found}
+use Rattle.std.specs.Prelude.{Option, Some, None}
 use Rattle.segments.specs.Inner.{InLine}
 use Rattle.search.specs.declared.Range.{Range}
 use Rattle.search.specs.declared.course_match.Progress.{Progress}
@@ -85,7 +84,7 @@ module _ (segment course held : ℕ) where
   last_on line.Nothing l t c = absurd (false≢true l)
 
 -- ---- the nearest segment, by the line's own crumbs
-unfoldable pub nearest_by : Line → Progress → List Crumb → Point → Range → Best
+unfoldable pub nearest_by : Line → Progress → List Crumb → Point → Range → Option Nearest
 nearest_by line.Course was l p ends = nearest_on_course l p ends was
 nearest_by line.Nothing was l p ends = nearest_on_breadcrumb l p ends
 nearest_by line.Breadcrumb was l p ends = nearest_on_breadcrumb l p ends
@@ -120,7 +119,7 @@ module _ (f : Followed) (on : Line) (told : f.on ≡ on) where
 
 -- ---- the match of a fix
 module _ {f : Followed} {l course : List Crumb} {s : State} (i : IsFollowed f l course s) (p : Point) where
-  abbrev nearest_in : Range → Best
+  abbrev nearest_in : Range → Option Nearest
   nearest_in ends = nearest s.follow.line course p ends s
 
   abbrev whole : ℕ → Range
@@ -129,35 +128,35 @@ module _ {f : Followed} {l course : List Crumb} {s : State} (i : IsFollowed f l 
   lost-too : (near : Nearest) (t : Bool) → (f.off || lt off_m near.off) ≡ t → (s.follow.off || lt off_m near.off) ≡ t
   lost-too near t e = sym (ap (λ (x : Followed). x.off || lt off_m near.off) i.parts) ∙ e
 
-  pub widened-off : (near : Nearest) (best : Best) → (f.off || lt off_m near.off) ≡ true → best ≡ nearest_in (whole f.len)
+  pub widened-off : (near : Nearest) (best : Option Nearest) → (f.off || lt off_m near.off) ≡ true → best ≡ nearest_in (whole f.len)
       → nearer near best ≡ widened course p near s
   unfolding widened
   widened-off near best t e =
-      ap (λ (x : Best). nearer near x) (e ∙ ap (λ (x : Followed). nearest_in (whole x.len)) i.parts)
+      ap (λ (x : Option Nearest). nearer near x) (e ∙ ap (λ (x : Followed). nearest_in (whole x.len)) i.parts)
       ∙ sym (picked (nearer near (nearest_in (whole (length (followed course s))))) near _ (lost-too near true t))
 
   pub widened-on : (near : Nearest) → (f.off || lt off_m near.off) ≡ false → near ≡ widened course p near s
   unfolding widened
   widened-on near t = sym (passed-by (nearer near (nearest_in (whole (length (followed course s))))) near _ (lost-too near false t))
 
-  pub matched-from : (from to : ℕ) (best : Best) → from ≡ max (f.segment - 64) 1 → to ≡ min (f.segment + 4) (f.len - 1)
+  pub matched-from : (from to : ℕ) (best : Option Nearest) → from ≡ max (f.segment - 64) 1 → to ≡ min (f.segment + 4) (f.len - 1)
       → best ≡ nearest_in (record { from = from; to = to }) → widened_from best course p s ≡ match_in course p s
   unfolding match_in around_segment
   matched-from from to best low high e =
-      ap (λ (x : Best). widened_from x course p s)
+      ap (λ (x : Option Nearest). widened_from x course p s)
       (e
       ∙ ap (λ (n : ℕ). nearest_in (record { from = n; to = to })) low
       ∙ ap (λ (n : ℕ). nearest_in (record { from = max (f.segment - 64) 1; to = n })) high
       ∙ ap (λ (x : Followed). nearest_in (record { from = max (x.segment - 64) 1; to = min (x.segment + 4) (x.len - 1) })) i.parts)
 
-module _ (best : Best) (course : List Crumb) (p : Point) (s : State) where
-  pub matched-none : best ≡ Nothing → Nothing ≡ widened_from best course p s
+module _ (best : Option Nearest) (course : List Crumb) (p : Point) (s : State) where
+  pub matched-none : best ≡ None → None ≡ widened_from best course p s
   unfolding widened_from
-  matched-none told = sym (ap (λ (x : Best). widened_from x course p s) told)
+  matched-none told = sym (ap (λ (x : Option Nearest). widened_from x course p s) told)
 
-  pub matched-some : (near : Nearest) → best ≡ Found near → Found (widened course p near s) ≡ widened_from best course p s
+  pub matched-some : (near : Nearest) → best ≡ Some near → Some (widened course p near s) ≡ widened_from best course p s
   unfolding widened_from
-  matched-some near told = sym (ap (λ (x : Best). widened_from x course p s) told)
+  matched-some near told = sym (ap (λ (x : Option Nearest). widened_from x course p s) told)
 
 -- ---- what is found lies on the line
 pub low_end : (from segment : ℕ) → from ≡ max (segment - 64) 1 → 1 ≤ from
@@ -167,9 +166,9 @@ pub high_end : (to segment len : ℕ) → 2 ≤ len → to ≡ min (segment + 4)
 high_end to segment len n e = omega (arith, n, e)
 
 module _ (p : Point) (ends : Range) (len : ℕ) (low : 1 ≤ ends.from) (high : ends.to < len) where
-  met-in : (l : List Crumb) (best : Best) → OnlyMet l p ends best → InLine len best
-  met-in l Nothing met = tt
-  met-in l (Found near) met = let m = met near refl in (omega (arith, m.from, low), omega (arith, m.to, high))
+  met-in : (l : List Crumb) (best : Option Nearest) → OnlyMet l p ends best → InLine len best
+  met-in l None met = tt
+  met-in l (Some near) met = let m = met near refl in (omega (arith, m.from, low), omega (arith, m.to, high))
 
   nearest_in_line : (on : Line) (course : List Crumb) (s : State) → InLine len (nearest on course p ends s)
   unfolding nearest
@@ -177,12 +176,12 @@ module _ (p : Point) (ends : Range) (len : ℕ) (low : 1 ≤ ends.from) (high : 
   nearest_in_line line.Nothing course s = met-in s.track.crumbs _ (breadcrumb-met s.track.crumbs p ends)
   nearest_in_line line.Breadcrumb course s = met-in s.track.crumbs _ (breadcrumb-met s.track.crumbs p ends)
 
-nearer-in : (len : ℕ) (near : Nearest) (best : Best) → InLine len (Found near) → InLine len best → InLine len (Found (nearer near best))
+nearer-in : (len : ℕ) (near : Nearest) (best : Option Nearest) → InLine len (Some near) → InLine len best → InLine len (Some (nearer near best))
 unfolding nearer
-nearer-in len near Nothing on in-line = on
-nearer-in len near (Found other) on in-line = by (lt other.off near.off)
+nearer-in len near None on in-line = on
+nearer-in len near (Some other) on in-line = by (lt other.off near.off)
   where
-    by : (b : Bool) → InLine len (Found (elim b [ true ↦ other | false ↦ near ]))
+    by : (b : Bool) → InLine len (Some (elim b [ true ↦ other | false ↦ near ]))
     by true = in-line
     by false = on
 
@@ -190,21 +189,21 @@ module _ (course : List Crumb) (p : Point) (s : State) where
   abbrev len : ℕ
   len = length (followed course s)
 
-  widened-in : (near : Nearest) → InLine len (Found near) → InLine len (Found (widened course p near s))
+  widened-in : (near : Nearest) → InLine len (Some near) → InLine len (Some (widened course p near s))
   unfolding widened
   widened-in near on = by (s.follow.off || lt off_m near.off)
     where
       all : Range
       all = record { from = 1; to = len - 1 }
 
-      by : (t : Bool) → InLine len (Found (elim t [ true ↦ nearer near (nearest s.follow.line course p all s) | false ↦ near ]))
+      by : (t : Bool) → InLine len (Some (elim t [ true ↦ nearer near (nearest s.follow.line course p all s) | false ↦ near ]))
       by true = nearer-in len near _ on (nearest_in_line p all len (omega arith) (omega (arith, on.1)) s.follow.line course s)
       by false = on
 
-  widened-from-in : (best : Best) → InLine len best → InLine len (widened_from best course p s)
+  widened-from-in : (best : Option Nearest) → InLine len best → InLine len (widened_from best course p s)
   unfolding widened_from
-  widened-from-in Nothing on = tt
-  widened-from-in (Found near) on = widened-in near on
+  widened-from-in None on = tt
+  widened-from-in (Some near) on = widened-in near on
 
   pub match-in : 2 ≤ len → InLine len (match_in course p s)
   unfolding match_in around_segment

@@ -6,8 +6,8 @@ pub returns-in_default : goal.returns-in_default
 returns-in_default c = nearer-none _ _ c.in_default.is
 
 pub returns-then-anywhere-near : goal.returns-then-anywhere-near
-returns-then-anywhere-near c = nearer-other _ _ _ c.in-Found.is c.if-anywhere-near.true
+returns-then-anywhere-near c = nearer-other _ _ _ c.in-Some.is c.if-anywhere-near.true
 
 pub returns : goal.returns
 returns c =
-    nearer-own _ _ c.in-Found.anywhere c.in-Found.is c.if-anywhere-near.false
+    nearer-own _ _ c.in-Some.anywhere c.in-Some.is c.if-anywhere-near.false

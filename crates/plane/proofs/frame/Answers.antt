@@ -24,14 +24,21 @@ passed d a b A B e = e ∙ ap (λ (y : ℤ). y -ℤ to_z w32 (of_z w32 b)) (at32
 pub returns : goal.returns
 unfolding frame m_per_e7 constant of_bits
 returns c =
-    let s = c.args in
-    let d = s.lon -ℤ s.lon0 in
-    let h = minus-size s.lon s.lon0 c.ranges.lon c.ranges.lon0 in
-    let e = passed c.difference.result s.lon s.lon0 c.ranges.lon c.ranges.lon0 c.difference.ensures in
+    let s = c.args.fix in
+    let o = c.args.origin in
+    let from = c.well_formed.0.1.1 in
+    let at = c.well_formed.1.1.0.1.1 in
+    let lat0 : SFits w32 o.lat = record { sfits = from.0.1 } in
+    let lon0 : SFits w32 o.lon = record { sfits = from.1.0.1 } in
+    let lat : SFits w32 s.lat = record { sfits = at.0.1 } in
+    let lon : SFits w32 s.lon = record { sfits = at.1.0.1 } in
+    let d = s.lon -ℤ o.lon in
+    let h = minus-size s.lon o.lon lon lon0 in
+    let e = passed c.difference.result s.lon o.lon lon lon0 c.difference.ensures in
     let east = rounded c.wrapped.result (wrapped d) c.as_f32.result
     (c.wrapped.ensures ∙ ap (λ (y : ℤ). wrapped (to_z w64 (of_z w64 y))) e ∙ ap wrapped (at64 d h)) (wrapped-size d h)
     c.as_f32.ensures in
-    let north = rounded c.difference-2.result (s.lat -ℤ s.lat0) c.as_f32-2.result
-    (passed c.difference-2.result s.lat s.lat0 c.ranges.lat c.ranges.lat0 c.difference-2.ensures)
-    (minus-size s.lat s.lat0 c.ranges.lat c.ranges.lat0) c.as_f32-2.ensures in
+    let north = rounded c.difference-2.result (s.lat -ℤ o.lat) c.as_f32-2.result
+    (passed c.difference-2.result s.lat o.lat lat lat0 c.difference-2.ensures)
+    (minus-size s.lat o.lat lat lat0) c.as_f32-2.ensures in
     simp (east, north)

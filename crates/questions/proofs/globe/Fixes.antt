@@ -14,7 +14,7 @@ use lib.Signed.{le_z}
 use mir.Syntax.{w32}
 use mir.Val.{SFits, to_z, of_z}
 use mir.ValLaws.{to_z-of_z}
-use Rattle.course.specs.Fix.{Fix}
+use Rattle.plane.specs.declared.Fix.{Fix}
 use Rattle.course.specs.Course.{fixes}
 use Rattle.calls.specs.Questions.{asks_fix, asks_fixes, ◌or_else◌}
 

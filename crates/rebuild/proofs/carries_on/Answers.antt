@@ -2,26 +2,25 @@
 use mathlib.Core.Path.{sym, ap, ◌∙◌}
 use Prim.Native.Nat.{ℕ}
 use lib.Dec.{leb}
-use Rattle.ride_log.specs.declared.Utc.{Utc}
-use Rattle.ride_log.specs.declared.Utc.TheVariants as utc
+use Rattle.std.specs.Prelude.{Option, Some, ℕ}
 use Rattle.rebuild.specs.Rebuild.{continue_ms, carries_on}
 use Rattle.rebuild.proofs.carries_on.Goals as goal
 
 pub returns-in_default : goal.returns-in_default
 unfolding carries_on
-returns-in_default c = sym (ap (λ (t : Utc). carries_on t c.args.first) c.in_default.is)
+returns-in_default c = sym (ap (λ (t : Option ℕ). carries_on t c.args.first) c.in_default.is)
 
 pub returns-in_default-first : goal.returns-in_default-first
 unfolding carries_on
 returns-in_default-first c =
-    sym (ap (λ (t : Utc). carries_on t c.args.first) c.in-At.is
-    ∙ ap (λ (t : Utc). carries_on (utc.At c.in-At.a) t) c.in_default-first.is)
+    sym (ap (λ (t : Option ℕ). carries_on t c.args.first) c.in-Some.is
+    ∙ ap (λ (t : Option ℕ). carries_on (Some c.in-Some.a) t) c.in_default-first.is)
 
 pub returns : goal.returns
 unfolding carries_on
 returns c =
     ap (λ (n : ℕ). leb n continue_ms) c.apart.ensures
-    ∙ sym (ap (λ (t : Utc). carries_on t c.args.first)
-    c.in-At.is
-    ∙ ap (λ (t : Utc). carries_on (utc.At c.in-At.a) t)
-    c.in-At-first.is)
+    ∙ sym (ap (λ (t : Option ℕ). carries_on t c.args.first)
+    c.in-Some.is
+    ∙ ap (λ (t : Option ℕ). carries_on (Some c.in-Some.a) t)
+    c.in-Some-first.is)

@@ -12,11 +12,11 @@ returns-in_default c =
 pub returns-then-skips : goal.returns-then-skips
 returns-then-skips c =
     let g = c.args in
-    skipped g.later g.sample g.r c.ticked-on.result c.ticked-on.ensures (fix_at c.in-At.field-0 c.in-At.field-1) c.in-At.is
+    skipped g.later g.sample g.r c.ticked-on.result c.ticked-on.ensures (fix_at c.in-Some.field-0 c.in-Some.field-1) c.in-Some.is
     (sym c.skips.ensures ∙ c.if-skips.true)
 
 pub returns : goal.returns
 returns c =
     let g = c.args in
-    not-skipped g.later g.sample g.r c.ticked-on.result c.ticked-on.ensures (fix_at c.in-At.field-0 c.in-At.field-1) c.in-At.is
+    not-skipped g.later g.sample g.r c.ticked-on.result c.ticked-on.ensures (fix_at c.in-Some.field-0 c.in-Some.field-1) c.in-Some.is
     (sym c.skips.ensures ∙ c.if-skips.false) c.stage_behind-stage.ensures c.starts_anew-anew.ensures

@@ -3,10 +3,10 @@ use Rattle.rebuild.specs.Rebuild.{known_or}
 use borrow.Author.Rules.{rules}
 use Rattle.rebuild.proofs.or_else.Goals as goal
 
-pub returns-in-At : goal.returns-in-At
+pub returns-in-Some : goal.returns-in-Some
 unfolding known_or
-returns-in-At c = search rules
+returns-in-Some c = search rules
 
-pub returns-in-Unknown : goal.returns-in-Unknown
+pub returns-in-None : goal.returns-in-None
 unfolding known_or
-returns-in-Unknown c = search rules
+returns-in-None c = search rules

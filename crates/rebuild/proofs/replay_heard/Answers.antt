@@ -13,8 +13,8 @@ replay_parts-requires c = c.requires
 pub returns : goal.returns
 returns c =
     record {
-      makes = (λ h. one-replayed c.args.x (fix_at c.in-At.lat c.in-At.lon) c.in-At.is
-          (handed-fix c.in-At.lat c.in-At.lon c.in-At.known_told-1-own.given.0.1 c.in-At.known_told-1-own.given.1.0.1)
+      makes = (λ h. one-replayed c.args.x (fix_at c.in-Some.lat c.in-Some.lon) c.in-Some.is
+          (handed-fix c.in-Some.lat c.in-Some.lon c.in-Some.known_told-1-own.given.0.1 c.in-Some.known_told-1-own.given.1.0.1)
           (c.replay_parts.ensures.follows h));
       window_len = c.replay_parts.ensures.window_len;
     }

@@ -16,8 +16,8 @@ use lib.Signed.{mag}
 use mir.Syntax.{w32}
 use mir.Val.{to_z, of_z}
 use mir.ValLaws.{to_z-of_z}
-use Rattle.state.specs.declared.Place.{Place}
-use Rattle.state.specs.declared.Place.TheVariants as place
+use Rattle.std.specs.Prelude.{Option, Some}
+use Rattle.plane.specs.declared.Fix.{Fix}
 use Rattle.calls.specs.Questions.{asks_fix, ◌or_else◌}
 use Rattle.ride_log.specs.Entry.{next_of, record_count, records_from, chain, count_of, sample_start, sample_at, no_sample, sample_of}
 use Rattle.ride_log.specs.Entry.{samples_of, used, kind_number, entry_at}
@@ -128,7 +128,7 @@ module _ {f : List ℕ} {count index left : ℕ} (before : Walking f count index
     walking-none h = sym (ap (asks_records f) (walk_none left f index h)) ∙ before.rest ∙ all
 
 -- ---- a place
-pub place-asked : (p : Place) (lat lon : ℤ) {n : ℕ} → p ≡ place.At lat lon → mag lat < 2 ^ 31 → mag lon < 2 ^ 31
+pub place-asked : (p : Option Fix) (lat lon : ℤ) {n : ℕ} → p ≡ Some lat lon → mag lat < 2 ^ 31 → mag lon < 2 ^ 31
     → n ≡ asks_fix (record { lat = to_z w32 (of_z w32 lat); lon = to_z w32 (of_z w32 lon) }) → n ≡ asks_place p
 unfolding asks_place
 place-asked p lat lon is x y e =
@@ -159,7 +159,7 @@ pub using-start : (f : List ℕ) (r count : ℕ) → Using f r count 0
 using-start f r count = record { rest = ap (λ n. asks_samples (take n (samples_of f r))) (sub-zero count) }
 
 module _ {f : List ℕ} {r count k : ℕ} (before : Using f r count k) (told : count ≡ count_of f r) where
-  module _ {n : ℕ} {p : Place} (most : count ≤ 4) (more : k < count) (read : p ≡ (sample_at f (sample_start r k)).place)
+  module _ {n : ℕ} {p : Option Fix} (most : count ≤ 4) (more : k < count) (read : p ≡ (sample_at f (sample_start r k)).place)
       (asked : n ≡ asks_place p) where
     sample-split : (n or_else asks_samples (take (count - (k + 1)) (drop (k + 1) (samples_of f r))))
         ≡ asks_samples (take count (samples_of f r))

@@ -3,7 +3,7 @@ use Prim.Native.Nat.{ℕ, zero, suc, ◌+◌}
 use mathlib.Core.Path.{◌≡◌, refl, sym, ap, ◌∙◌}
 use mathlib.Core.Bool.{true, or-true}
 use mathlib.Core.Logic.{◌≢◌}
-use mathlib.Core.Option.{none, some}
+use Rattle.std.specs.Prelude.{Some, None}
 use mathlib.Core.List.{List, [], ◌∷◌, map, nil≢cons, cons≢nil, head-eq_of_cons-eq, tail-eq_of_cons-eq}
 use native.Mathlib.Numerals.{add-one}
 use borrow.Author.Tests.{eq-eqb}
@@ -18,15 +18,15 @@ use Rattle.questions.proofs.Given.{neither, passed}
 
 -- ---- a list from place k on
 module _ {A : Type 0} (g : ℕ → A) where
-  elem-none : (k : ℕ) (l : List ℕ) → drop k l ≡ [] → get_elem? (map g l) k ≡ none
+  elem-none : (k : ℕ) (l : List ℕ) → drop k l ≡ [] → get_elem? (map g l) k ≡ None
   elem-none k [] e = refl
   elem-none zero (x ∷ l) e = absurd (cons≢nil e)
   elem-none (suc k) (x ∷ l) e = elem-none k l e
 
-  elem-here : (k : ℕ) (l : List ℕ) {r : ℕ} {rest : List ℕ} → drop k l ≡ r ∷ rest → get_elem? (map g l) k ≡ some (g r)
+  elem-here : (k : ℕ) (l : List ℕ) {r : ℕ} {rest : List ℕ} → drop k l ≡ r ∷ rest → get_elem? (map g l) k ≡ Some (g r)
   elem-here zero [] e = absurd (nil≢cons e)
   elem-here (suc k) [] e = absurd (nil≢cons e)
-  elem-here zero (x ∷ l) e = ap (λ y. some (g y)) (head-eq_of_cons-eq e)
+  elem-here zero (x ∷ l) e = ap (λ y. Some (g y)) (head-eq_of_cons-eq e)
   elem-here (suc k) (x ∷ l) e = elem-here k l e
 
 drop-on : (k : ℕ) (l : List ℕ) {r : ℕ} {rest : List ℕ} → drop k l ≡ r ∷ rest → drop (suc k) l ≡ rest
@@ -61,7 +61,7 @@ module _ {f : List ℕ} {k r : ℕ} (b : Before f k r) where
     none_left : drop k (chain f) ≡ []
     none_left = b.here ∙ ends-over b.ends h
 
-    pub slot-none : slot f k ≡ none
+    pub slot-none : slot f k ≡ None
     unfolding slot entries
     slot-none = elem-none (entry_at f) k (chain f) none_left
 
@@ -73,7 +73,7 @@ module _ {f : List ℕ} {k r : ℕ} (b : Before f k r) where
     there : drop k (chain f) ≡ r ∷ (ends_on b.ends h).rest
     there = b.here ∙ (ends_on b.ends h).here
 
-    pub slot-here : slot f k ≡ some (entry_at f r)
+    pub slot-here : slot f k ≡ Some (entry_at f r)
     unfolding slot entries
     slot-here = elem-here (entry_at f) k (chain f) there
 

@@ -8,8 +8,8 @@ returns-in_default c = simp c.in_default.is
 
 pub returns-then-near-most : goal.returns-then-near-most
 unfolding closer
-returns-then-near-most c = simp (c.in-Found.is, c.if-near-most.true)
+returns-then-near-most c = simp (c.in-Some.is, c.if-near-most.true)
 
 pub returns : goal.returns
 unfolding closer
-returns c = simp (c.in-Found.is, c.if-near-most.false)
+returns c = simp (c.in-Some.is, c.if-near-most.false)

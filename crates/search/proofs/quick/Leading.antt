@@ -15,13 +15,9 @@ use Rattle.plane.specs.Square.{off_square}
 use Rattle.crumbs.specs.declared.Crumb.{Crumb}
 use Rattle.crumbs.specs.Crumb.{point}
 use Rattle.segments.specs.declared.costs.Nearest.{Nearest}
-use Rattle.segments.specs.declared.costs.Cost.TheVariants.{Out, Metres}
+use Rattle.std.specs.Prelude.{Option, Some, None}
 use Rattle.segments.specs.declared.costs.Ranking.TheVariants.{Plain}
 use Rattle.segments.specs.Cost.{plain, cost_of}
-use Rattle.segments.specs.declared.Best.{Best}
-use Rattle.segments.specs.declared.Best.TheVariants.{Nothing, Found}
-use Rattle.segments.specs.declared.SoFar.{SoFar}
-use Rattle.segments.specs.declared.SoFar.TheVariants.{Empty, Least}
 use Rattle.segments.specs.declared.Stretch.{Stretch}
 use Rattle.segments.specs.Line.{at}
 use Rattle.segments.specs.Segment.{nearest_on, cheaper, cost_within, considered, found}
@@ -35,9 +31,9 @@ use Rattle.segments.proofs.Ranging.{on-is, on_fits, on-not-below}
 use Rattle.search.specs.Square.{reaches, overtakes, takes_lead}
 
 module _ (line : List Crumb) (p : Point) where
-  abbrev pub Tracks : SoFar → Lead → Type 0
-  Tracks Empty lead = lead.best ≡ 0
-  Tracks (Least near cost) lead =
+  abbrev pub Tracks : Option (Nearest × Float) → Lead → Type 0
+  Tracks None lead = lead.best ≡ 0
+  Tracks (Some (near, cost)) lead =
       (0 < lead.best) × (cost ≡ root binary32 lead.least) × T (fits binary32 lead.least)
       × (lt (root binary32 lead.least) (root binary32 lead.before) ≡ true → near ≡ nearest_on line p lead.best)
 
@@ -45,9 +41,9 @@ module _ (line : List Crumb) (p : Point) where
   off-is = on-is line p
 
   -- one more, by the test of the squares and that of the roots
-  step : (near : Nearest) (cost : Float) (end : ℕ) (lead : Lead) → 0 < end → Tracks (Least near cost) lead → (b d : Bool)
+  step : (near : Nearest) (cost : Float) (end : ℕ) (lead : Lead) → 0 < end → Tracks (Some (near, cost)) lead → (b d : Bool)
       → lt (square_on line p end) lead.least ≡ b → lt (nearest_on line p end).off cost ≡ d
-      → Tracks (cond d (Least (nearest_on line p end) (nearest_on line p end).off) (Least near cost))
+      → Tracks (cond d (Some ((nearest_on line p end), (nearest_on line p end).off)) (Some (near, cost)))
       (cond b (record { best = end; least = square_on line p end; before = lead.least }) lead)
   step near cost end lead E t true true B D = (E, off-is end, on_fits line p end, λ k. refl)
   step near cost end lead E t true false B D =
@@ -67,52 +63,52 @@ module _ (line : List Crumb) (p : Point) where
   step near cost end lead E t false false B D = t
 
   first : (end : ℕ) (lead : Lead) (b : Bool) → eqb lead.best 0 ≡ b → lead.best ≡ 0 → 0 < end
-      → Tracks (Least (nearest_on line p end) (nearest_on line p end).off)
+      → Tracks (Some ((nearest_on line p end), (nearest_on line p end).off))
       (cond b (record { best = end; least = square_on line p end; before = lead.before })
       (cond (lt (square_on line p end) lead.least) (record { best = end; least = square_on line p end; before = lead.least }) lead))
   first end lead true e z E = (E, off-is end, on_fits line p end, λ k. refl)
   first end lead false e z E = absurd (eqb-false lead.best 0 e z)
 
   later : (near : Nearest) (cost : Float) (end : ℕ) (lead : Lead) (b : Bool) → eqb lead.best 0 ≡ b → 0 < end
-      → Tracks (Least near cost) lead
-      → Tracks (cond (lt (nearest_on line p end).off cost) (Least (nearest_on line p end) (nearest_on line p end).off) (Least near cost))
+      → Tracks (Some (near, cost)) lead
+      → Tracks (cond (lt (nearest_on line p end).off cost) (Some ((nearest_on line p end), (nearest_on line p end).off)) (Some (near, cost)))
       (cond b (record { best = end; least = square_on line p end; before = lead.before })
       (cond (lt (square_on line p end) lead.least) (record { best = end; least = square_on line p end; before = lead.least }) lead))
   later near cost end lead true e E t = let z = eqb-true lead.best 0 e in let g = t.0 in absurd (omega arith)
   later near cost end lead false e E t =
       step near cost end lead E t (lt (square_on line p end) lead.least) (lt (nearest_on line p end).off cost) refl refl
 
-  inside : (sofar : SoFar) (end : ℕ) (lead : Lead) → 0 < end → Tracks sofar lead
-      → Tracks (cheaper sofar (nearest_on line p end) (Metres (nearest_on line p end).off)) (overtakes end (square_on line p end) lead)
+  inside : (sofar : Option (Nearest × Float)) (end : ℕ) (lead : Lead) → 0 < end → Tracks sofar lead
+      → Tracks (cheaper sofar (nearest_on line p end) (Some (nearest_on line p end).off)) (overtakes end (square_on line p end) lead)
   unfolding cheaper overtakes
-  inside Empty end lead E t = first end lead (eqb lead.best 0) refl t E
-  inside (Least near cost) end lead E t = later near cost end lead (eqb lead.best 0) refl E t
+  inside None end lead E t = first end lead (eqb lead.best 0) refl t E
+  inside (Some (near, cost)) end lead E t = later near cost end lead (eqb lead.best 0) refl E t
 
   module _ (within : Stretch) where
-    pub tracks_on : (sofar : SoFar) (end : ℕ) (lead : Lead) → 0 < end → Tracks sofar lead
+    pub tracks_on : (sofar : Option (Nearest × Float)) (end : ℕ) (lead : Lead) → 0 < end → Tracks sofar lead
         → Tracks (considered line p (cost_within line p within Plain) end sofar) (takes_lead line p within end lead)
     unfolding considered cost_within takes_lead reaches cost_of plain cheaper
     tracks_on sofar end lead E t = go (lt (at line end).along within.floor || lt within.ceiling (at line (end - 1)).along)
       where
         go : (o : Bool)
             → Tracks (cheaper sofar (nearest_on line p end)
-            (elim o [ true ↦ Out | false ↦ cost_of Plain (nearest_on line p end) (at line (end - 1)) (at line end) ]))
+            (elim o [ true ↦ None | false ↦ cost_of Plain (nearest_on line p end) (at line (end - 1)) (at line end) ]))
             (cond (not o) (overtakes end (square_on line p end) lead) lead)
         go true = t
         go false = inside sofar end lead E t
 
   -- ---- what is found
-  pub none_found : (sofar : SoFar) (lead : Lead) → Tracks sofar lead → lead.best ≡ 0 → found sofar ≡ Nothing
+  pub none_found : (sofar : Option (Nearest × Float)) (lead : Lead) → Tracks sofar lead → lead.best ≡ 0 → found sofar ≡ None
   unfolding found
-  none_found Empty lead t z = refl
-  none_found (Least near cost) lead t z = let g = t.0 in absurd (omega arith)
+  none_found None lead t z = refl
+  none_found (Some (near, cost)) lead t z = let g = t.0 in absurd (omega arith)
 
-  pub one_found : (sofar : SoFar) (lead : Lead) → Tracks sofar lead → (lead.best ≡ 0 → ⊥)
+  pub one_found : (sofar : Option (Nearest × Float)) (lead : Lead) → Tracks sofar lead → (lead.best ≡ 0 → ⊥)
       → lt (root binary32 lead.least) (root binary32 lead.before) ≡ true
-      → found sofar ≡ Found (nearest_on line p lead.best)
+      → found sofar ≡ Some (nearest_on line p lead.best)
   unfolding found
-  one_found Empty lead t z k = absurd (z t)
-  one_found (Least near cost) lead t z k = ap Found (t.3 k)
+  one_found None lead t z k = absurd (z t)
+  one_found (Some (near, cost)) lead t z k = ap Some (t.3 k)
 
 -- ---- the cases of the functions
 pub counted : (n : ℕ) → (n ≡ 0 → ⊥) → 1 ≤ n
@@ -166,17 +162,17 @@ reaches-is line within end B A R = cc
 
 -- ---- the loop: the rule's best so far, of which the ends still to be considered decide, and the lead that tracks it
 module _ (line : List Crumb) (p : Point) (within : Stretch) (ends : Range) where
-  abbrev rule : ℕ → SoFar → SoFar
+  abbrev rule : ℕ → Option (Nearest × Float) → Option (Nearest × Float)
   rule = considered line p (cost_within line p within Plain)
 
   pub record Races (lead : Lead) (end : ℕ) : Type 0 where
-    pub sofar : SoFar
+    pub sofar : Option (Nearest × Float)
     pub rises : Rises rule ends sofar end
     pub tracks : Tracks line p sofar lead
     pub upto : lead.best ≤ ends.to
 
   pub races-start : (least before : Float) → Races (record { best = 0; least = least; before = before }) ends.from
-  races-start least before = record { sofar = Empty; rises = rises-start; tracks = refl; upto = omega arith }
+  races-start least before = record { sofar = None; rises = rises-start; tracks = refl; upto = omega arith }
 
   upto-on : (end : ℕ) (lead : Lead) → lead.best ≤ ends.to → end ≤ ends.to → (takes_lead line p within end lead).best ≤ ends.to
   unfolding takes_lead overtakes
@@ -208,28 +204,28 @@ module _ (line : List Crumb) (p : Point) (within : Stretch) (ends : Range) where
         upto = subst (λ (z : Lead). z.best ≤ ends.to) (sym e) (upto-on end lead v.upto more);
       }
 
-  abbrev result : Best
-  result = found (rising rule (count ends) ends.from Empty)
+  abbrev result : Option Nearest
+  result = found (rising rule (count ends) ends.from None)
 
-  pub races-none : {lead : Lead} {end : ℕ} → Races lead end → ends.to < end → lead.best ≡ 0 → Nothing ≡ result
+  pub races-none : {lead : Lead} {end : ℕ} → Races lead end → ends.to < end → lead.best ≡ 0 → None ≡ result
   races-none {lead} v past z = sym (none_found line p v.sofar lead v.tracks z) ∙ ap found (rises-out v.rises past)
 
   pub races-one : {lead : Lead} {end : ℕ} {a b : Float} {near : Nearest} → Races lead end → ends.to < end → (lead.best ≡ 0 → ⊥)
       → a ≡ root binary32 lead.least → b ≡ root binary32 lead.before → lt a b ≡ true → near ≡ nearest_on line p lead.best
-      → Found near ≡ result
+      → Some near ≡ result
   races-one {lead} v past z A B h N =
       let k : lt (root binary32 lead.least) (root binary32 lead.before) ≡ true = rw (← A, ← B) h in
-      ap Found N ∙ sym (one_found line p v.sofar lead v.tracks z k) ∙ ap found (rises-out v.rises past)
+      ap Some N ∙ sym (one_found line p v.sofar lead v.tracks z k) ∙ ap found (rises-out v.rises past)
 
   -- ---- the same downwards
   pub record Chases (lead : Lead) (end : ℕ) : Type 0 where
-    pub sofar : SoFar
+    pub sofar : Option (Nearest × Float)
     pub falls : Falls rule ends sofar end
     pub tracks : Tracks line p sofar lead
     pub upto : lead.best ≤ ends.to
 
   pub chases-start : (least before : Float) → Chases (record { best = 0; least = least; before = before }) ends.to
-  chases-start least before = record { sofar = Empty; falls = falls-start; tracks = refl; upto = omega arith }
+  chases-start least before = record { sofar = None; falls = falls-start; tracks = refl; upto = omega arith }
 
   pub chases-on : {lead next : Lead} {end : ℕ} → Chases lead end → 1 ≤ ends.from → ends.from ≤ end
       → next ≡ takes_lead line p within end lead → Chases next (end - 1)
@@ -243,15 +239,15 @@ module _ (line : List Crumb) (p : Point) (within : Stretch) (ends : Range) where
         upto = subst (λ (z : Lead). z.best ≤ ends.to) (sym e) (upto-on end lead v.upto f);
       }
 
-  abbrev down : Best
-  down = found (falling rule (count ends) ends.to Empty)
+  abbrev down : Option Nearest
+  down = found (falling rule (count ends) ends.to None)
 
-  pub chases-none : {lead : Lead} {end : ℕ} → Chases lead end → end < ends.from → lead.best ≡ 0 → Nothing ≡ down
+  pub chases-none : {lead : Lead} {end : ℕ} → Chases lead end → end < ends.from → lead.best ≡ 0 → None ≡ down
   chases-none {lead} v past z = sym (none_found line p v.sofar lead v.tracks z) ∙ ap found (falls_out v.falls past)
 
   pub chases-one : {lead : Lead} {end : ℕ} {a b : Float} {near : Nearest} → Chases lead end → end < ends.from → (lead.best ≡ 0 → ⊥)
       → a ≡ root binary32 lead.least → b ≡ root binary32 lead.before → lt a b ≡ true → near ≡ nearest_on line p lead.best
-      → Found near ≡ down
+      → Some near ≡ down
   chases-one {lead} v past z A B h N =
       let k : lt (root binary32 lead.least) (root binary32 lead.before) ≡ true = rw (← A, ← B) h in
-      ap Found N ∙ sym (one_found line p v.sofar lead v.tracks z k) ∙ ap found (falls_out v.falls past)
+      ap Some N ∙ sym (one_found line p v.sofar lead v.tracks z k) ∙ ap found (falls_out v.falls past)

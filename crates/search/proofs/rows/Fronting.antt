@@ -16,14 +16,10 @@ use Rattle.binary32.proofs.roots.Monotone.{root-less}
 use Rattle.plane.specs.declared.Point.{Point}
 use Rattle.crumbs.specs.declared.Crumb.{Crumb}
 use Rattle.segments.specs.declared.costs.Nearest.{Nearest}
-use Rattle.segments.specs.declared.costs.Cost.{Cost}
-use Rattle.segments.specs.declared.costs.Cost.TheVariants.{Out, Metres}
+use Rattle.std.specs.Prelude.{Option, Some, None, Float}
 use Rattle.segments.specs.declared.costs.Ranking.TheVariants.{Plain}
 use Rattle.segments.specs.Cost.{plain, cost_of}
-use Rattle.segments.specs.declared.Best.TheVariants.{Found}
-use Rattle.segments.specs.declared.SoFar.{SoFar}
 use Rattle.segments.specs.declared.Stretch.{Stretch}
-use Rattle.segments.specs.declared.SoFar.TheVariants.{Empty, Least}
 use Rattle.segments.specs.Line.{at}
 use Rattle.segments.specs.Segment.{nearest_on, cheaper, cost_within, considered, found}
 use Rattle.segments.specs.Square.{square_on}
@@ -90,31 +86,31 @@ module _ (line : List Crumb) (p : Point) where
     leads-still = record { from = v.from; to = v.to; least = lowered; before = v.before }
 
   -- ---- the rule's best so far stays a number of metres away once it is one
-  abbrev cost : ℕ → Cost
+  abbrev cost : ℕ → Option Float
   cost = cost_within line p anywhere Plain
 
-  abbrev rule : ℕ → SoFar → SoFar
+  abbrev rule : ℕ → Option (Nearest × Float) → Option (Nearest × Float)
   rule = considered line p cost
 
-  record Counted (best : SoFar) : Type 0 where
+  record Counted (best : Option (Nearest × Float)) : Type 0 where
     near : Nearest
     metres : Float
-    is : best ≡ Least near metres
+    is : best ≡ Some (near, metres)
     number : Number metres
 
-  counted_next : (near : Nearest) (metres : Float) → Number metres → (end : ℕ) → Counted (rule end (Least near metres))
+  counted_next : (near : Nearest) (metres : Float) → Number metres → (end : ℕ) → Counted (rule end (Some (near, metres)))
   unfolding considered cheaper
   counted_next near metres N end = by-cost (cost end)
     where
-      by-test : (x : Float) (b : Bool) → lt x metres ≡ b → Counted (cond b (Least (nearest_on line p end) x) (Least near metres))
+      by-test : (x : Float) (b : Bool) → lt x metres ≡ b → Counted (cond b (Some ((nearest_on line p end), x)) (Some (near, metres)))
       by-test x true h = record { near = nearest_on line p end; metres = x; is = refl; number = (less-number x metres h).0 }
       by-test x false h = record { near = near; metres = metres; is = refl; number = N }
 
-      by-cost : (k : Cost) → Counted (cheaper (Least near metres) (nearest_on line p end) k)
-      by-cost Out = record { near = near; metres = metres; is = refl; number = N }
-      by-cost (Metres x) = by-test x (lt x metres) refl
+      by-cost : (k : Option Float) → Counted (cheaper (Some (near, metres)) (nearest_on line p end) k)
+      by-cost None = record { near = near; metres = metres; is = refl; number = N }
+      by-cost (Some x) = by-test x (lt x metres) refl
 
-  counted : (left end : ℕ) (best : SoFar) → Counted best → Counted (rising rule left end best)
+  counted : (left end : ℕ) (best : Option (Nearest × Float)) → Counted best → Counted (rising rule left end best)
   unfolding rising
   counted zero end best v = v
   counted (suc left) end best v =
@@ -122,27 +118,27 @@ module _ (line : List Crumb) (p : Point) where
       (subst (λ b. Counted (rule end b)) (sym v.is) (counted_next v.near v.metres v.number end))
 
   -- a segment that has a cost costs how far off it is, the root of its square
-  cost-is : (e : ℕ) (c : Float) → cost e ≡ Metres c → c ≡ root binary32 (square_on line p e)
+  cost-is : (e : ℕ) (c : Float) → cost e ≡ Some c → c ≡ root binary32 (square_on line p e)
   unfolding cost_within cost_of plain
   cost-is e c h = by (lt (at line e).along anywhere.floor || lt anywhere.ceiling (at line (e - 1)).along) h
     where
-      by : (o : Bool) → elim o [ true ↦ Out | false ↦ cost_of Plain (nearest_on line p e) (at line (e - 1)) (at line e) ] ≡ Metres c
+      by : (o : Bool) → elim o [ true ↦ None | false ↦ cost_of Plain (nearest_on line p e) (at line (e - 1)) (at line e) ] ≡ Some c
           → c ≡ root binary32 (square_on line p e)
       by true k = let z : ◌≡◌ {A = ℕ} 0 1 = cc in absurd (omega arith)
       by false k = let f : (nearest_on line p e).off ≡ c = cc in sym f ∙ on-is line p e
 
-  first-costs : (e : ℕ) → reaches line anywhere e ≡ true → cost e ≡ Metres (nearest_on line p e).off
+  first-costs : (e : ℕ) → reaches line anywhere e ≡ true → cost e ≡ Some (nearest_on line p e).off
   unfolding reaches cost_within cost_of plain
   first-costs e h = by (lt (at line e).along anywhere.floor || lt anywhere.ceiling (at line (e - 1)).along) h
     where
       by : (o : Bool) → not o ≡ true
-          → elim o [ true ↦ Out | false ↦ cost_of Plain (nearest_on line p e) (at line (e - 1)) (at line e) ]
-          ≡ Metres (nearest_on line p e).off
+          → elim o [ true ↦ None | false ↦ cost_of Plain (nearest_on line p e) (at line (e - 1)) (at line e) ]
+          ≡ Some (nearest_on line p e).off
       by true k = absurd (true≢false (sym k))
       by false k = refl
 
-  abbrev state : Range → SoFar
-  state ends = rising rule (count ends) ends.from Empty
+  abbrev state : Range → Option (Nearest × Float)
+  state ends = rising rule (count ends) ends.from None
 
   chosen : (ends : Range) → Chosen line p cost Lower lower-one-way (Tried line p cost Lower lower-one-way ends) (state ends)
   chosen ends = rising-all line p cost Lower lower-one-way (λ e f h. h) ends
@@ -156,7 +152,7 @@ module _ (line : List Crumb) (p : Point) where
     abbrev near : Nearest
     near = nearest_on line p front.first
 
-    costs : cost front.first ≡ Metres near.off
+    costs : cost front.first ≡ Some near.off
     costs = first-costs front.first w.counts
 
     is_number : Number near.off
@@ -168,9 +164,9 @@ module _ (line : List Crumb) (p : Point) where
     first-number r N =
         let n : count ends ≡ suc (count ends - 1) = omega (arith, v.from, v.to) in
         let first = nearest_on line p ends.from in
-        subst Counted (sym (ap (λ k. rising rule k ends.from Empty) n))
-        (counted (count ends - 1) (ends.from + 1) (rule ends.from Empty)
-        (record { near = first; metres = first.off; is = ap (cheaper Empty first) (first-costs ends.from r); number = N }))
+        subst Counted (sym (ap (λ k. rising rule k ends.from None) n))
+        (counted (count ends - 1) (ends.from + 1) (rule ends.from None)
+        (record { near = first; metres = first.off; is = ap (cheaper None first) (first-costs ends.from r); number = N }))
 
     all : Counted (state ends)
     all = elim w.behind [
@@ -236,12 +232,12 @@ module _ (line : List Crumb) (p : Point) where
       same : other ≡ near
       same = l.there ∙ ap (nearest_on line p) same_end
 
-    nearest-of-all : Found near ≡ nearest_on_breadcrumb line p ends
+    nearest-of-all : Some near ≡ nearest_on_breadcrumb line p ends
     unfolding nearest_on_breadcrumb found
     nearest-of-all =
         let a = all in
         let l = subst (Chosen line p cost Lower lower-one-way (Tried line p cost Lower lower-one-way ends)) a.is (chosen ends) in
-        sym (ap found a.is ∙ ap Found (same a.near a.metres l a.number))
+        sym (ap found a.is ∙ ap Some (same a.near a.metres l a.number))
 
 -- ---- the cases of the functions
 reaches-anywhere : (line : List Crumb) (end : ℕ) {within : Stretch} {r : Bool} → within ≡ anywhere → r ≡ reaches line within end
@@ -267,9 +263,9 @@ module _ {line : List Crumb} {p : Point} {from : ℕ} {front : Front} {off : Flo
 
 pub nearest-in-front : {line : List Crumb} {p : Point} {ends : Range} {front : Front} {near : Nearest}
     → InFront line p ends 1 (ends.to + 1) front → near ≡ nearest_on line p front.first → Settled line p ends.from front near.off
-    → Found near ≡ nearest_on_breadcrumb line p ends
+    → Some near ≡ nearest_on_breadcrumb line p ends
 nearest-in-front {line} {p} {ends} {front} {near} v N w =
-    ap Found N ∙ nearest-of-all line p ends front v (subst (λ (n : Nearest). Settled line p ends.from front n.off) N w)
+    ap Some N ∙ nearest-of-all line p ends front v (subst (λ (n : Nearest). Settled line p ends.from front n.off) N w)
 
 pub front-end : {line : List Crumb} {p : Point} {ends : Range} {front : Front} {end : ℕ} → end ≤ ends.to + 1 → ends.to < end
     → InFront line p ends row_length end front → InFront line p ends row_length (ends.to + 1) front

@@ -2,10 +2,10 @@
 use Rattle.segments.specs.Segment.{found}
 use Rattle.segments.proofs.found.Goals as goal
 
-pub returns-in-Empty : goal.returns-in-Empty
+pub returns-in-None : goal.returns-in-None
 unfolding found
-returns-in-Empty c = simp c.in-Empty.is
+returns-in-None c = simp c.in-None.is
 
-pub returns-in-Least : goal.returns-in-Least
+pub returns-in-Some : goal.returns-in-Some
 unfolding found
-returns-in-Least c = simp c.in-Least.is
+returns-in-Some c = simp c.in-Some.is

@@ -7,13 +7,11 @@ use mathlib.Core.List.{List}
 use lib.ListN.{length}
 use lib.Ieee.{Float}
 use Rattle.plane.specs.declared.Point.{Point}
-use Rattle.plane.specs.declared.Spot.{Spot}
-use Rattle.plane.specs.declared.Spot.TheVariants.{At, Nowhere}
+use Rattle.std.specs.Prelude.{Option, Some, None}
 use Rattle.crumbs.specs.declared.Crumb.{Crumb}
 use Rattle.crumbs.specs.Crumb.{capacity, crumbs, behind}
 use Rattle.crumbs.proofs.Crumbs.{length-crumbs, behind_more}
 use Rattle.segments.specs.declared.costs.Nearest.{Nearest}
-use Rattle.segments.specs.declared.Best.TheVariants.{Found}
 use Rattle.trail.specs.declared.Trail.{Trail}
 use Rattle.trail.specs.View as trail
 use Rattle.state.specs.declared.Line.TheVariants as line
@@ -133,22 +131,22 @@ module _ {A : Type 0} (first : ℕ → State → Done A) (rule : ℕ → State �
 
 -- ---- brought up to date
 module _ (h : Homing) (entry lent : List Float) (now : ℕ) where
-  pub brought-nowhere : h.here ≡ Nowhere → trail.TrailFit h.trail (length entry)
+  pub brought-nowhere : h.here ≡ None → trail.TrailFit h.trail (length entry)
       → Decides (λ C. brought C (course_of h lent) now) h entry (record { homing = h; yes = true }) entry
   unfolding brought update_here
   brought-nowhere n f =
       decides-as (λ C. brought C (course_of h lent) now) (λ C s. done true s) h entry _ entry
-      (ap (λ (x : Spot). update_here x (capacity (length entry)) (course_of h lent) now (state_of h entry)) n)
+      (ap (λ (x : Option Point). update_here x (capacity (length entry)) (course_of h lent) now (state_of h entry)) n)
       (decides-still true h entry f)
 
-  pub brought-at : (p : Point) (t : Told) (exit : List Float) → h.here ≡ At p
+  pub brought-at : (p : Point) (t : Told) (exit : List Float) → h.here ≡ Some p
       → Updates (λ C. update C (course_of h lent) p now) h entry t exit
       → Decides (λ C. brought C (course_of h lent) now) h entry (record { homing = t.homing; yes = true }) exit
   unfolding brought update_here
   brought-at p t exit n u =
       decides-as (λ C. brought C (course_of h lent) now)
       (λ C s. and_then (update C (course_of h lent) p now s) λ _ after. done true after) h entry _ exit
-      (ap (λ (x : Spot). update_here x (capacity (length entry)) (course_of h lent) now (state_of h entry)) n)
+      (ap (λ (x : Option Point). update_here x (capacity (length entry)) (course_of h lent) now (state_of h entry)) n)
       (record {
         answered = refl;
         follows =
@@ -178,7 +176,7 @@ module _ (h f : Homing) (e r : Answered) (entry mid exit lent : List Float) (now
 module _ (h g : Homing) (near : Nearest) (r : Answered) (entry exit lent : List Float) (now : ℕ) where
   pub goes-on-course : Changes (engage_at (course_of h lent) line.Course near.end now) h g
       → Decides (λ C. brought C (course_of g lent) now) g entry r exit
-      → Decides (λ C. follow (Found near) C (course_of h lent) now) h entry r exit
+      → Decides (λ C. follow (Some near) C (course_of h lent) now) h entry r exit
   unfolding follow
   goes-on-course c d =
       let course = course_of h lent in

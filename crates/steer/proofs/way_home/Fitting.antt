@@ -9,13 +9,12 @@ use lib.ListN.{length}
 use lib.Ieee.{Float, le}
 use borrow.Author.Tests.{leb-true}
 use Rattle.binary32.specs.Limits.{plus_zero}
-use Rattle.plane.specs.declared.Spot.{Spot}
-use Rattle.plane.specs.declared.Spot.TheVariants.{At, Nowhere}
+use Rattle.std.specs.Prelude.{Option, Some, None}
+use Rattle.segments.specs.declared.costs.Nearest.{Nearest}
+use Rattle.plane.specs.declared.Point.{Point}
 use Rattle.crumbs.specs.declared.Crumb.{Crumb}
 use Rattle.crumbs.specs.Crumb.{capacity, crumbs}
 use Rattle.crumbs.proofs.Crumbs.{length-crumbs}
-use Rattle.segments.specs.declared.Best.{Best}
-use Rattle.segments.specs.declared.Best.TheVariants.{Nothing, Found}
 use Rattle.search.specs.Course.{course_near}
 use Rattle.matching.specs.Distances.{drop_m}
 use Rattle.search.proofs.Theorems.{course-near-met}
@@ -91,11 +90,11 @@ module _ (h f : Homing) (entry mid : List Float) (d : Follows flush_in h entry f
   flushed-fits line_room l = (d.fit.held, subst (λ (n : ℕ). n ≤ capacity line_room) (sym line-flushed) l)
 
 -- ---- following ended
-left-idle : (C : ℕ) (matched : Spot) (segment : ℕ) (s : State) → s.follow.line ≡ line.Nothing
+left-idle : (C : ℕ) (matched : Option Point) (segment : ℕ) (s : State) → s.follow.line ≡ line.Nothing
     → (leave_at C matched segment s).state.follow.line ≡ line.Nothing
 unfolding leave_at keep_in recorded recorded_in cut_to
-left-idle C Nowhere segment s n = n
-left-idle C (At p) segment s n = thinned-line _ s.follow n
+left-idle C None segment s n = n
+left-idle C (Some p) segment s n = thinned-line _ s.follow n
 
 stop-on-idle : (l : Line) (C : ℕ) (s : State) → (stop_on l C s).state.follow.line ≡ line.Nothing
 unfolding stop_on stop_nothing stop_course stop_breadcrumb stopped
@@ -200,13 +199,13 @@ module _ (f : Homing) (e : Answered) (course : List Crumb) (now : ℕ) (b : List
       by_answer false g = fit-idle e.homing (length b) line_room t' l' (ap (λ (s : State). s.follow.line) (after false g) ∙ n)
 
 -- ---- the course found near
-pub near-in : (here : Spot) (h : Homing) (b : List Float) → InLine h.course.line_len (near_here here (course_of h b))
+pub near-in : (here : Option Point) (h : Homing) (b : List Float) → InLine h.course.line_len (near_here here (course_of h b))
 unfolding near_here
-near-in Nowhere h b = tt
-near-in (At p) h b = found (course_near (course_of h b) p drop_m) refl
+near-in None h b = tt
+near-in (Some p) h b = found (course_near (course_of h b) p drop_m) refl
   where
-    found : (best : Best) → course_near (course_of h b) p drop_m ≡ best → InLine h.course.line_len best
-    found Nothing e = tt
-    found (Found near) e =
+    found : (best : Option Nearest) → course_near (course_of h b) p drop_m ≡ best → InLine h.course.line_len best
+    found None e = tt
+    found (Some near) e =
         let met = (course-near-met (course_of h b) p drop_m near e).0 in
         (met.from, omega (arith, met.from, met.to, length-crumbs h.course.line_len b))

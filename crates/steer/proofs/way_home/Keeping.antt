@@ -7,12 +7,9 @@ use lib.Dec.{leb}
 use lib.ListN.{length}
 use lib.Ieee.{Float, lt}
 use Rattle.plane.specs.declared.Point.{Point}
-use Rattle.plane.specs.declared.Spot.{Spot}
-use Rattle.plane.specs.declared.Spot.TheVariants.{At, Nowhere}
+use Rattle.std.specs.Prelude.{Option, Some, None}
 use Rattle.crumbs.specs.declared.Crumb.{Crumb}
 use Rattle.segments.specs.declared.costs.Nearest.{Nearest}
-use Rattle.segments.specs.declared.Best.{Best}
-use Rattle.segments.specs.declared.Best.TheVariants.{Nothing, Found}
 use Rattle.matching.specs.Distances.{drop_m}
 use Rattle.trail.specs.Trail.{Track}
 use Rattle.state.specs.declared.Line.{Line}
@@ -70,7 +67,7 @@ module _ (course : List Crumb) (p : Point) where
   unfolding begun
   begun-keeps now s = refl
 
-  begun-matched : (now : ℕ) (s : State) → s.follow.matched ≡ Nowhere → (begun p now s).follow.matched ≡ Nowhere
+  begun-matched : (now : ℕ) (s : State) → s.follow.matched ≡ None → (begun p now s).follow.matched ≡ None
   unfolding begun
   begun-matched now s e = e
 
@@ -78,29 +75,29 @@ module _ (course : List Crumb) (p : Point) where
 abbrev held : {A : Type 0} → Done A → List Crumb
 held d = d.state.track.crumbs
 
-left-keeps : (C segment : ℕ) (matched : Spot) (s : State) → matched ≡ Nowhere → held (leave_at C matched segment s) ≡ s.track.crumbs
+left-keeps : (C segment : ℕ) (matched : Option Point) (s : State) → matched ≡ None → held (leave_at C matched segment s) ≡ s.track.crumbs
 unfolding leave_at
-left-keeps C segment matched s e = ap (λ (m : Spot). held (leave_at C m segment s)) e
+left-keeps C segment matched s e = ap (λ (m : Option Point). held (leave_at C m segment s)) e
 
-stop-on-keeps : (l : Line) (C : ℕ) (s : State) → s.follow.matched ≡ Nowhere → held (stop_on l C s) ≡ s.track.crumbs
+stop-on-keeps : (l : Line) (C : ℕ) (s : State) → s.follow.matched ≡ None → held (stop_on l C s) ≡ s.track.crumbs
 unfolding stop_on stop_nothing stop_course stop_breadcrumb forgotten
 stop-on-keeps line.Nothing C s e = refl
 stop-on-keeps line.Course C s e = refl
 stop-on-keeps line.Breadcrumb C s e = left-keeps C s.follow.segment s.follow.matched _ e
 
-stop-keeps : (C : ℕ) (s : State) → s.follow.matched ≡ Nowhere → held (stop C s) ≡ s.track.crumbs
+stop-keeps : (C : ℕ) (s : State) → s.follow.matched ≡ None → held (stop C s) ≡ s.track.crumbs
 unfolding stop
 stop-keeps C s e = stop-on-keeps s.follow.line C s e
 
 module _ (C : ℕ) (course : List Crumb) (now : ℕ) where
   module _ (p : Point) where
-    ended-keeps : (e : Event) (s : State) → s.follow.matched ≡ Nowhere → held (ended_with e C course p now s) ≡ s.track.crumbs
+    ended-keeps : (e : Event) (s : State) → s.follow.matched ≡ None → held (ended_with e C course p now s) ≡ s.track.crumbs
     unfolding ended_with
     ended-keeps e s n =
         ap (λ (t : Track). t.crumbs) (direct-keeps course p (begun p now (stop C s).state) ∙ begun-keeps course p now (stop C s).state)
         ∙ stop-keeps C s n
 
-    module _ (s : State) (n : s.follow.matched ≡ Nowhere) where
+    module _ (s : State) (n : s.follow.matched ≡ None) where
       matched-to-keeps : (near : Nearest) → held (matched_to C course p now near s) ≡ s.track.crumbs
       unfolding matched_to
       matched-to-keeps near =
@@ -108,10 +105,10 @@ module _ (C : ℕ) (course : List Crumb) (now : ℕ) where
           (either held s.track.crumbs (ended_with event.CourseEnd C course p now s) (matched_at course p now near s) (at_course_end s near)
           (ended-keeps event.CourseEnd s n) (ap (λ (t : Track). t.crumbs) (matched-keeps course p now near s)))
 
-      match-from-keeps : (best : Best) → held (match_from best C course p now s) ≡ s.track.crumbs
+      match-from-keeps : (best : Option Nearest) → held (match_from best C course p now s) ≡ s.track.crumbs
       unfolding match_from
-      match-from-keeps Nothing = refl
-      match-from-keeps (Found near) = matched-to-keeps (widened course p near s)
+      match-from-keeps None = refl
+      match-from-keeps (Some near) = matched-to-keeps (widened course p near s)
 
       follow-on-keeps : held (follow_on C course p now s) ≡ s.track.crumbs
       unfolding follow_on
@@ -119,7 +116,7 @@ module _ (C : ℕ) (course : List Crumb) (now : ℕ) where
           match-from-keeps (nearest s.follow.line course p (around_segment s.follow.segment (length (followed course s))) s)
 
     -- a following that was not matched yet keeps no matched point when it ends
-    unmatched-keeps : (s : State) → s.follow.matched ≡ Nowhere → held (update C course p now s) ≡ s.track.crumbs
+    unmatched-keeps : (s : State) → s.follow.matched ≡ None → held (update C course p now s) ≡ s.track.crumbs
     unfolding update
     unmatched-keeps s n =
         let t = begun p now s in
@@ -138,11 +135,11 @@ module _ (C : ℕ) (course : List Crumb) (now : ℕ) where
         ∙ ap (λ (x : Track). x.crumbs) (direct-keeps course p t)
 
   -- ---- brought up to date
-  here-keeps : (here : Spot) (s : State) → ((p : Point) → held (update C course p now s) ≡ s.track.crumbs)
+  here-keeps : (here : Option Point) (s : State) → ((p : Point) → held (update C course p now s) ≡ s.track.crumbs)
       → held (update_here here C course now s) ≡ s.track.crumbs
   unfolding update_here
-  here-keeps Nowhere s k = refl
-  here-keeps (At p) s k = k p
+  here-keeps None s k = refl
+  here-keeps (Some p) s k = k p
 
   -- nothing is followed
   pub idle-keeps : (s : State) → s.follow.line ≡ line.Nothing → held (brought C course now s) ≡ s.track.crumbs

@@ -7,14 +7,11 @@ use native.Mathlib.Omega.{arith}
 use borrow.Author.Tests.{le-leb}
 use lib.Dec.{leb}
 use lib.ListN.{length}
-use Rattle.plane.specs.declared.Spot.{Spot}
-use Rattle.plane.specs.declared.Spot.TheVariants as spot
-use Rattle.plane.specs.declared.Heading.{Heading}
-use Rattle.plane.specs.declared.Heading.TheVariants as heading
+use Rattle.std.specs.Prelude.{Option, Some, None, ℕ}
+use Rattle.plane.specs.declared.Fix.{Fix}
+use Rattle.plane.specs.declared.Point.{Point}
 use Rattle.lap.specs.declared.Stage.{Stage}
 use Rattle.lap.specs.declared.Stage.TheVariants as stage
-use Rattle.state.specs.declared.Place.{Place}
-use Rattle.state.specs.declared.Place.TheVariants as place
 use Rattle.state.specs.declared.Line.{Line}
 use Rattle.state.specs.declared.Line.TheVariants as line
 use Rattle.state.specs.declared.Mode.{Mode}
@@ -52,17 +49,17 @@ pub flag-most : (b : Bool) → flag_of b ≤ 1
 flag-most true = omega arith
 flag-most false = omega arith
 
-pub spot-most : (s : Spot) → spot_flag s ≤ 1
-spot-most (spot.At p) = omega arith
-spot-most spot.Nowhere = omega arith
+pub spot-most : (s : Option Point) → spot_flag s ≤ 1
+spot-most (Some p) = omega arith
+spot-most None = omega arith
 
-pub heading-most : (h : Heading) → heading_flag h ≤ 1
-heading-most (heading.Known a) = omega arith
-heading-most heading.Unknown = omega arith
+pub heading-most : (h : Option ℕ) → heading_flag h ≤ 1
+heading-most (Some a) = omega arith
+heading-most None = omega arith
 
-pub place-most : (p : Place) → place_flag p ≤ 1
-place-most (place.At a b) = omega arith
-place-most place.Missing = omega arith
+pub place-most : (p : Option Fix) → place_flag p ≤ 1
+place-most (Some x) = omega arith
+place-most None = omega arith
 
 pub line-most : (l : Line) → line_tag l ≤ 2
 line-most line.Nothing = omega arith

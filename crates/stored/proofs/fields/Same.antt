@@ -6,14 +6,11 @@ use lib.Dec.{leb, eqb}
 use lib.IntN.{ℤ}
 use mir.Syntax.{w32}
 use mir.Val.{SFits}
-use Rattle.plane.specs.declared.Spot.{Spot}
-use Rattle.plane.specs.declared.Spot.TheVariants as spot
-use Rattle.plane.specs.declared.Heading.{Heading}
-use Rattle.plane.specs.declared.Heading.TheVariants as heading
+use Rattle.std.specs.Prelude.{Option, Some, None, ℕ}
+use Rattle.plane.specs.declared.Fix.{Fix}
+use Rattle.plane.specs.declared.Point.{Point}
 use Rattle.lap.specs.declared.Stage.{Stage}
 use Rattle.lap.specs.declared.Stage.TheVariants as stage
-use Rattle.state.specs.declared.Place.{Place}
-use Rattle.state.specs.declared.Place.TheVariants as place
 use Rattle.state.specs.declared.Line.{Line}
 use Rattle.state.specs.declared.Line.TheVariants as line
 use Rattle.state.specs.declared.Mode.{Mode}
@@ -47,19 +44,19 @@ mode-same mode.Track = refl
 mode-same mode.OffTrack = refl
 mode-same mode.Arrived = refl
 
-pub spot-same : (s : Spot) → cond (eqb (spot_flag s) 1) (spot.At (point_in s)) spot.Nowhere ≡ s
-spot-same (spot.At p) = refl
-spot-same spot.Nowhere = refl
+pub spot-same : (s : Option Point) → cond (eqb (spot_flag s) 1) (Some (point_in s)) None ≡ s
+spot-same (Some p) = refl
+spot-same None = refl
 
-pub heading-same : (h : Heading) → heading_of (eqb (heading_flag h) 1) (heading_in h) ≡ h
-heading-same (heading.Known a) = refl
-heading-same heading.Unknown = refl
+pub heading-same : (h : Option ℕ) → heading_of (eqb (heading_flag h) 1) (heading_in h) ≡ h
+heading-same (Some a) = refl
+heading-same None = refl
 
-pub place_same : (p : Place) → cond (eqb (place_flag p) 1) (place.At (lat_in p) (lon_in p)) place.Missing ≡ p
-place_same (place.At a b) = refl
-place_same place.Missing = refl
+pub place_same : (p : Option Fix) → cond (eqb (place_flag p) 1) (Some (lat_in p) (lon_in p)) None ≡ p
+place_same (Some x) = refl
+place_same None = refl
 
-pub heading-back : (h : Heading) → leb (heading_in h) most16 ≡ true
+pub heading-back : (h : Option ℕ) → leb (heading_in h) most16 ≡ true
     → heading_of (eqb (heading_flag h) 1) (cond (leb (heading_in h) most16) (heading_in h) 0) ≡ h
 heading-back h l = ap (heading_of (eqb (heading_flag h) 1)) (narrow-same most16 (heading_in h) l) ∙ heading-same h
 

@@ -3,7 +3,7 @@ use Prim.Native.Nat.{ℕ, ◌≤◌, ◌<◌}
 use mathlib.Core.Path.{◌≡◌, refl, sym, ap, ◌∙◌}
 use mathlib.Core.Bool.{Bool, true, false, ◌&&◌, cond, false≢true, true≢false, and-eq-true_iff, and-false}
 use mathlib.Core.List.{List}
-use mathlib.Core.Option.{Option, some, none}
+use Rattle.std.specs.Prelude.{Option, Some, None}
 use native.Mathlib.Omega.{arith}
 use lib.Dec.{eqb}
 use lib.ListN.{length}
@@ -35,20 +35,20 @@ loads-room-rebuild w h = within-room rebuild_mosts w ((and-eq-true_iff (eqb (wor
 pub loads-there-rebuild : (w : List ℕ) {r : Rebuild} → holds_rebuild w ≡ true → r ≡ rebuild_at w → LoadsRebuild w r true
 unfolding stored_rebuild
 loads-there-rebuild w {r} t e =
-    record { there = λ _. ap (λ b. cond b (some (rebuild_at w)) none) t ∙ ap some (sym e); nothing = λ f. absurd (true≢false f) }
+    record { there = λ _. ap (λ b. cond b (Some (rebuild_at w)) None) t ∙ ap Some (sym e); nothing = λ f. absurd (true≢false f) }
 
 pub loads-nothing-rebuild : (w : List ℕ) (r : Rebuild) → holds_rebuild w ≡ false → LoadsRebuild w r false
 unfolding stored_rebuild
-loads-nothing-rebuild w r t = record { there = λ f. absurd (false≢true f); nothing = λ _. ap (λ b. cond b (some (rebuild_at w)) none) t }
+loads-nothing-rebuild w r t = record { there = λ f. absurd (false≢true f); nothing = λ _. ap (λ b. cond b (Some (rebuild_at w)) None) t }
 
 unfoldable is_some : {A : Type 0} → Option A → Bool
-is_some (some x) = true
-is_some none = false
+is_some (Some x) = true
+is_some None = false
 
 pub rebuild-has-room : RebuildHasRoom
 unfolding stored_rebuild is_some
 rebuild-has-room w r e = go (holds_rebuild w) refl e
   where
-    go : (b : Bool) → holds_rebuild w ≡ b → cond b (some (rebuild_at w)) none ≡ some r → rebuild_count ≤ length w
+    go : (b : Bool) → holds_rebuild w ≡ b → cond b (Some (rebuild_at w)) None ≡ Some r → rebuild_count ≤ length w
     go true t e = loads-room-rebuild w t
     go false t e = absurd (false≢true (ap is_some e))

@@ -3,11 +3,9 @@ use Prim.Native.Nat.{ℕ}
 use mathlib.Core.Path.{◌≡◌, refl, ap, ◌∙◌}
 use mathlib.Core.Bool.{true, cond}
 use mathlib.Core.List.{List, ◌++◌}
-use mathlib.Core.Option.{none, some}
 use native.Mathlib.Omega.{arith}
 use lib.Dec.{leb, eqb}
-use Rattle.ride_log.specs.declared.Utc.{Utc}
-use Rattle.ride_log.specs.declared.Utc.TheVariants as utc
+use Rattle.std.specs.Prelude.{Option, Some, None, ℕ}
 use Rattle.rebuild.specs.declared.Stage.{Stage}
 use Rattle.rebuild.specs.declared.Stage.TheVariants as stage
 use Rattle.rebuild.specs.declared.Rebuild.{Rebuild}
@@ -17,9 +15,9 @@ use Rattle.stored.specs.Rebuilt.{pending_in, utc_flag, utc_in, rebuild_words, Re
 use Rattle.stored.proofs.fields.Limits.{within_more, within-at}
 use Rattle.stored.proofs.fields.Same.{narrow-same}
 
-utc-same : (t : Utc) → utc_of (eqb (utc_flag t) 1) (utc_in t) ≡ t
-utc-same (utc.At a) = refl
-utc-same utc.Unknown = refl
+utc-same : (t : Option ℕ) → utc_of (eqb (utc_flag t) 1) (utc_in t) ≡ t
+utc-same (Some a) = refl
+utc-same None = refl
 
 pending-same : (s : Stage) → cond (eqb (pending_flag s) 1) (stage.Pending (pending_in s)) stage.Decided ≡ s
 pending-same (stage.Pending t) = refl
@@ -47,4 +45,4 @@ module _ (r : Rebuild) (fits : within rebuild_mosts (rebuild_words r) ≡ true) 
 pub rebuild-read-back : RebuildReadBack
 unfolding stored_rebuild
 rebuild-read-back r fits ws =
-    ap (λ b. cond b (some (rebuild_at (rebuild_words r ++ ws))) none) (holds-rebuild r fits ws) ∙ ap some (rebuild-back r fits ws)
+    ap (λ b. cond b (Some (rebuild_at (rebuild_words r ++ ws))) None) (holds-rebuild r fits ws) ∙ ap Some (rebuild-back r fits ws)

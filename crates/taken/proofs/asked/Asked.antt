@@ -9,7 +9,7 @@ use lib.Dec.{eqb}
 use Rattle.crumbs.specs.Crumb.{stride, capacity}
 use Rattle.state.specs.State.{State}
 use Rattle.state.specs.Rule.{Done}
-use Rattle.course.specs.Fix.{Fix}
+use Rattle.plane.specs.declared.Fix.{Fix}
 use Rattle.calls.specs.Questions.{question1, state_fits, held_fits, unless, ◌or_else◌, asks_state, asks_crumbs}
 use Rattle.calls.specs.Fix.{replay}
 use Rattle.calls.specs.Line.{new, reset}

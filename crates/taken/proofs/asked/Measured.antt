@@ -5,7 +5,6 @@ use native.Mathlib.Omega.{arith}
 use mathlib.Core.Path.{◌≡◌, refl}
 use mathlib.Core.Bool.{Bool, true, false, ◌&&◌}
 use mathlib.Core.List.{List, [], ◌∷◌, ◌++◌}
-use mathlib.Core.Option.{Option, none, some}
 use borrow.Author.Tests.{eqb-true}
 use lib.Dec.{T, leb, ltb, eqb, lit≤}
 use lib.ListN.{length, take}
@@ -15,8 +14,8 @@ use Rattle.binary32.specs.Arithmetic.{constant}
 use Rattle.binary32.proofs.magnitude.Size.{Within, frac}
 use Rattle.binary32.proofs.magnitude.Signs.{zero-fits}
 use Rattle.plane.specs.declared.Point.{Point}
-use Rattle.plane.specs.declared.Spot.{Spot}
-use Rattle.plane.specs.declared.Spot.TheVariants as spot
+use Rattle.std.specs.Prelude.{Option, Some, None, ℕ}
+use Rattle.plane.specs.declared.Fix.{Fix}
 use Rattle.plane.specs.Fix.{m_per_e7}
 use Rattle.crumbs.specs.declared.Crumb.{Crumb}
 use Rattle.crumbs.specs.Crumb.{capacity, point}
@@ -24,17 +23,11 @@ use Rattle.crumbs.specs.Choice.{Choice, end, leave, strike, last}
 use Rattle.motion.specs.Heading.{elapsed}
 use Rattle.thin.proofs.Theorems.{thins-any}
 use Rattle.segments.specs.declared.costs.Nearest.{Nearest}
-use Rattle.segments.specs.declared.Best.{Best}
-use Rattle.segments.specs.declared.Best.TheVariants.{Nothing, Found}
-use Rattle.search.specs.declared.Join.{Join}
-use Rattle.search.specs.declared.Join.TheVariants.{Segment, NoSegment}
 use Rattle.matching.specs.Distances.{drop_m}
 use Rattle.crumbs.specs.Along.{crumb_of, along_to, along_behind, recorded_m, realong_behind, realong}
 use Rattle.trail.specs.Trail.{Track, fresh, thin, put, wait}
 use Rattle.trail.specs.Trail as trail
 use Rattle.journal.proofs.Walking.{Steps, keeps, flushes, adds}
-use Rattle.state.specs.declared.Place.{Place}
-use Rattle.state.specs.declared.Place.TheVariants as place
 use Rattle.state.specs.declared.Line.{Line}
 use Rattle.state.specs.declared.Line.TheVariants as line
 use Rattle.state.specs.declared.Event.{Event}
@@ -51,7 +44,6 @@ use Rattle.matching.specs.Match.{on_line}
 use Rattle.matching.specs.Followed.{followed, widened}
 use Rattle.guide.specs.Guide.{arrival_from, finished, direct, leave_m, arrive_m}
 use Rattle.update.specs.Update.{begun, matched_at, ended_with, at_course_end, matched_to, match_from, follow_on, update}
-use Rattle.course.specs.Fix.{Fix}
 use Rattle.calls.specs.Fix.{fix_lost_ms, still_ms, is_at, cleared, missing, same_fix, headed, still_at, add_update, tell_following}
 use Rattle.calls.specs.Fix.{joined_course}
 use Rattle.calls.specs.Fix.{turned_back, engaged_back, retraced, may_retrace, joined_or_not, fix_on, arrived_at, new_fix, seen, observe}
@@ -77,8 +69,8 @@ rounded-snoc (a ∷ l) c h k = (h.0, rounded-snoc l c h.1 k)
 
 behind-fits : (o : Option Crumb) (p : Point) → T (fits binary32 (along_behind o p))
 unfolding along_behind along_to
-behind-fits none p = zero-fits binary32
-behind-fits (some a) p = add-fits binary32 a.along _
+behind-fits None p = zero-fits binary32
+behind-fits (Some a) p = add-fits binary32 a.along _
 
 rounded-choice : {m l : List Crumb} → Choice m l → Rounded l → Rounded m
 rounded-choice end h = tt
@@ -147,10 +139,10 @@ engage-measured : (course : List Crumb) (now : ℕ) → Keeps (engage course now
 unfolding engage
 engage-measured course now s h = one_of M (leads s.track.crumbs) (λ _. engaged course line.Breadcrumb _ now s h) (λ _. h)
 
-join-on : (j : Join) → Keeps (join_on j)
+join-on : (j : Option ℕ) → Keeps (join_on j)
 unfolding join_on
-join-on NoSegment s h = h
-join-on (Segment n) s h = h
+join-on None s h = h
+join-on (Some n) s h = h
 
 joining-measured : (course : List Crumb) (p : Point) → Keeps (joining course p)
 unfolding joining
@@ -178,10 +170,10 @@ module _ (C : ℕ) (least : 3 ≤ C) where
   flush-measured s h = recorded-measured (trail.flush C s.track) s h (flushes (rounded-steps C least) s.track h.1)
 
   -- ---- following ends
-  leave-at : (x : Spot) (segment : ℕ) → Keeps (leave_at C x segment)
+  leave-at : (x : Option Point) (segment : ℕ) → Keeps (leave_at C x segment)
   unfolding leave_at cut_to
-  leave-at spot.Nowhere segment s h = h
-  leave-at (spot.At p) segment s h = keep-measured p (cut_to segment s) (h.0, rounded-take segment s.track.crumbs h.1)
+  leave-at None segment s h = h
+  leave-at (Some p) segment s h = keep-measured p (cut_to segment s) (h.0, rounded-take segment s.track.crumbs h.1)
 
   stop-on : (l : Line) → Keeps (stop_on l C)
   unfolding stop_on stop_nothing stop_breadcrumb forgotten
@@ -223,10 +215,10 @@ module _ (C : ℕ) (least : 3 ≤ C) where
           either M (lt drop_m n.off) (λ _. ended-with event.Dropped s h)
           (λ _. either M (at_course_end s n) (λ _. ended-with event.CourseEnd s h) (λ _. matched-at n s h))
 
-      match-from : (found : Best) → Keeps (match_from found C course p now)
+      match-from : (found : Option Nearest) → Keeps (match_from found C course p now)
       unfolding match_from
-      match-from Nothing s h = h
-      match-from (Found n) s h = matched_to_lem (widened course p n s) s h
+      match-from None s h = h
+      match-from (Some n) s h = matched_to_lem (widened course p n s) s h
 
       follow-on : Keeps (follow_on C course p now)
       unfolding follow_on
@@ -278,10 +270,10 @@ module _ (C : ℕ) (least : 3 ≤ C) where
       fix-on line.Nothing s h = joined-or-not _ _ (joining-measured course p s h)
 
     module _ (now : ℕ) where
-      still-at : (here : Spot) → Keeps (still_at here C course now)
+      still-at : (here : Option Point) → Keeps (still_at here C course now)
       unfolding still_at headed
-      still-at spot.Nowhere s h = h
-      still-at (spot.At p) s h =
+      still-at None s h = h
+      still-at (Some p) s h =
           either M (ltb (elapsed now s.updated_ms) still_ms) (λ _. h) (λ _. update-measured p now (headed p now s) h)
 
       new-fix : (x : Fix) → FixOnGlobe x → Keeps (new_fix C course x now)
@@ -297,16 +289,16 @@ module _ (C : ℕ) (least : 3 ≤ C) where
       unfolding missing cleared
       missing-measured s h = one_of Measured (is_at s.here && ltb fix_lost_ms (elapsed now s.here_ms)) (λ _. h) (λ _. h)
 
-      observe-measured : (x : Place) → FixesOnGlobe (point_of x) → Keeps (observe C course x now)
+      observe-measured : (x : Option Fix) → FixesOnGlobe (point_of x) → Keeps (observe C course x now)
       unfolding observe
-      observe-measured (place.At lat lon) g s h = seen-measured (record { lat = lat; lon = lon }) g.0 s h
-      observe-measured place.Missing g s h = missing-measured s h
+      observe-measured (Some x) g s h = seen-measured x g.0 s h
+      observe-measured None g s h = missing-measured s h
 
       -- ---- following, by the rider
-      update_here_lem : (here : Spot) → Keeps (update_here here C course now)
+      update_here_lem : (here : Option Point) → Keeps (update_here here C course now)
       unfolding update_here
-      update_here_lem spot.Nowhere s h = h
-      update_here_lem (spot.At p) s h = update-measured p now s h
+      update_here_lem None s h = h
+      update_here_lem (Some p) s h = update-measured p now s h
 
       brought-measured : Keeps (brought C course now)
       unfolding brought
@@ -321,10 +313,10 @@ module _ (C : ℕ) (least : 3 ≤ C) where
       unfolding way_home
       way_home_lem s h = engaged-or _ _ (engage-measured course now _ (flush-measured s h))
 
-      follow-measured : (found : Best) → Keeps (follow found C course now)
+      follow-measured : (found : Option Nearest) → Keeps (follow found C course now)
       unfolding follow
-      follow-measured (Found n) s h = brought-measured _ (engaged course line.Course n.end now s h)
-      follow-measured Nothing s h = way_home_lem s h
+      follow-measured (Some n) s h = brought-measured _ (engaged course line.Course n.end now s h)
+      follow-measured None s h = way_home_lem s h
 
       follow-from : (l : Line) → Keeps (follow_from l C course now)
       unfolding follow_from
@@ -371,14 +363,14 @@ unfolding new fresh
 new-measured = (record { origin = tt; factor = factor-start }, tt)
 
 -- ---- every call that no question refuses
-place-globe : (x : Place) → asks_place x ≡ 0 → FixesOnGlobe (point_of x)
+place-globe : (x : Option Fix) → asks_place x ≡ 0 → FixesOnGlobe (point_of x)
 unfolding asks_place
-place-globe (place.At lat lon) e = let l = fix-given (record { lat = lat; lon = lon }) e in
+place-globe (Some x) e = let l = fix-given x e in
     (record { latitude = l.latitude; longitude = l.longitude }, tt)
-place-globe place.Missing e = tt
+place-globe None e = tt
 
-fix-globe : (x : Fix) → asks_place (place.At x.lat x.lon) ≡ 0 → FixOnGlobe x
-fix-globe x e = (place-globe (place.At x.lat x.lon) e).0
+fix-globe : (x : Fix) → asks_place (Some x) ≡ 0 → FixOnGlobe x
+fix-globe x e = (place-globe (Some x) e).0
 
 module _ (size : ℕ) (least : 3 ≤ capacity size) where
   performs-measured : (c : Call) (s : State) → asks size c s ≡ 0 → Measured s → M (performs (capacity size) c s)

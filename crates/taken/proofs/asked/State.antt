@@ -9,10 +9,8 @@ use lib.ListN.{length}
 use lib.Ieee.{le}
 use Rattle.binary32.specs.Limits.{plus_zero}
 use Rattle.plane.specs.declared.Point.{Point}
-use Rattle.plane.specs.declared.Spot.{Spot}
-use Rattle.plane.specs.declared.Spot.TheVariants.{At, Nowhere}
-use Rattle.plane.specs.declared.Heading.{Heading}
-use Rattle.plane.specs.declared.Heading.TheVariants.{Known, Unknown}
+use Rattle.std.specs.Prelude.{Option, Some, None, ℕ}
+use Rattle.plane.specs.declared.Fix.{Fix}
 use Rattle.plane.specs.Plane.{turn, distance, bearing}
 use Rattle.plane.proofs.Theorems.{bearing-below}
 use Rattle.motion.specs.declared.Motion.{Motion}
@@ -31,7 +29,7 @@ use Rattle.state.specs.declared.Course.{Course}
 use Rattle.state.specs.State.{State, with_frame}
 use Rattle.follow.specs.Parts.{ended_by_thinning}
 use Rattle.follow.specs.Record.{after_thinning, recorded_in, recorded, add_in}
-use Rattle.course.specs.Fix.{Fix, located}
+use Rattle.course.specs.Fix.{located}
 use Rattle.calls.specs.Questions.{places_fit, spot_fits, along_fits, heading_fits, shown_fits, factor_fits, segment_fits, follow_fits}
 use Rattle.calls.specs.Questions.{retrace_fits}
 use Rattle.calls.specs.Questions.{counts_fit, spots_fit, numbers_fit, state_fits, crumbs_fit, held_fits, place_fits}
@@ -192,7 +190,7 @@ record Followed (len n : ℕ) (f : Follow) : Type 0 where
   on : follow_fits f.line f.segment len n ≡ true
   matched : spot_fits f.matched ≡ true
 
-nowhere-fits : spot_fits Nowhere ≡ true
+nowhere-fits : spot_fits None ≡ true
 unfolding spot_fits
 nowhere-fits = refl
 
@@ -257,14 +255,14 @@ record Moves (m : Motion) : Type 0 where
   from : spot_fits m.from ≡ true
   heading : heading_fits m.heading ≡ true
 
-at-fits : (p : Point) → place_fits p ≡ true → spot_fits (At p) ≡ true
+at-fits : (p : Point) → place_fits p ≡ true → spot_fits (Some p) ≡ true
 unfolding spot_fits
 at-fits p P = P
 
-spot-or : (x : Spot) (p : Point) → spot_fits x ≡ true → place_fits p ≡ true → place_fits (spot_or x p) ≡ true
+spot-or : (x : Option Point) (p : Point) → spot_fits x ≡ true → place_fits p ≡ true → place_fits (spot_or x p) ≡ true
 unfolding spot_or spot_fits
-spot-or (At q) p h P = h
-spot-or Nowhere p h P = P
+spot-or (Some q) p h P = h
+spot-or None p h P = P
 
 renewed-moves : (from p : Point) (now : ℕ) → place_fits p ≡ true → Moves (renewed from p now)
 unfolding renewed
@@ -286,19 +284,19 @@ heading-moves m p now h P =
     one_of Moves (le heading_step_m (distance from p)) (λ t. renewed-moves from p now P)
     (λ t. aged-moves m from now h.heading (spot-or m.from p h.from P))
 
-lap-start : (moving : Bool) (x : Spot) (p : Point) → spot_fits x ≡ true → place_fits p ≡ true → spot_fits (lap_start moving x p) ≡ true
+lap-start : (moving : Bool) (x : Option Point) (p : Point) → spot_fits x ≡ true → place_fits p ≡ true → spot_fits (lap_start moving x p) ≡ true
 unfolding lap_start
-lap-start true (At q) p h P = h
-lap-start false (At q) p h P = h
-lap-start true Nowhere p h P = at-fits p P
-lap-start false Nowhere p h P = h
+lap-start true (Some q) p h P = h
+lap-start false (Some q) p h P = h
+lap-start true None p h P = at-fits p P
+lap-start false None p h P = h
 
-step_from_lem : (x : Spot) (l : Lap) (p : Point) (moving : Bool) → spot_fits x ≡ true → spot_fits (step_from x l p moving).start ≡ true
+step_from_lem : (x : Option Point) (l : Lap) (p : Point) (moving : Bool) → spot_fits x ≡ true → spot_fits (step_from x l p moving).start ≡ true
 unfolding step_from
-step_from_lem (At q) l p moving h = h
-step_from_lem Nowhere l p moving h = h
+step_from_lem (Some q) l p moving h = h
+step_from_lem None l p moving h = h
 
-step_start : (l : Lap) (p : Point) (heading : Heading) → spot_fits l.start ≡ true → place_fits p ≡ true
+step_start : (l : Lap) (p : Point) (heading : Option ℕ) → spot_fits l.start ≡ true → place_fits p ≡ true
     → spot_fits (step_pass l p heading).start ≡ true
 unfolding step_pass
 step_start l p heading h P =

@@ -1,7 +1,7 @@
 -- `door::answering::cittumay_arrow` meets its contract.
 use Rattle.std.proofs.lemmas.Bool.{not_from_false, not_from_true}
 use mathlib.Core.Path.{refl, sym, ap, ◌∙◌}
-use mathlib.Core.Option.{some}
+use Rattle.std.specs.Prelude.{Some}
 use Rattle.answers.specs.Answers.{says_angle}
 use Rattle.door.proofs.answering.Answers.{not-held, answered}
 use Rattle.door.proofs.answering.GuideWords.{guide-read, no-guide}
@@ -17,11 +17,11 @@ guide_at-requires c = sym c.are_guide.ensures ∙ c.if-not-are_guide.false
 pub returns-in-Is : goal.returns-in-Is
 unfolding says_angle number_of
 returns-in-Is c = answered (guide-read _ c.are_guide.ensures
-    (not_from_true _ c.if-not-are_guide.false) ∙ ap some (sym c.guide_at.ensures))
+    (not_from_true _ c.if-not-are_guide.false) ∙ ap Some (sym c.guide_at.ensures))
     c.arrow-answer.ensures c.in-Is.is
 
 pub returns-in-Refused : goal.returns-in-Refused
 unfolding says_angle number_of
 returns-in-Refused c = answered (guide-read _ c.are_guide.ensures
-    (not_from_true _ c.if-not-are_guide.false) ∙ ap some (sym c.guide_at.ensures))
+    (not_from_true _ c.if-not-are_guide.false) ∙ ap Some (sym c.guide_at.ensures))
     c.arrow-answer.ensures c.in-Refused.is

@@ -8,10 +8,10 @@ use Rattle.door.proofs.answering.cittumay_way_back.Goals as goal
 pub returns-then-not-there : goal.returns-then-not-there
 returns-then-not-there c = not-held (unloaded c.load-there.ensures c.if-not-there.true) c.no_state_with.ensures
 
-pub returns-in-Metres : goal.returns-in-Metres
+pub returns-in-Some : goal.returns-in-Some
 unfolding says_back returning number_of
-returns-in-Metres c = answered (loaded c.load-there.ensures
-    c.if-not-there.false) c.way_back-answer.ensures c.in-Metres.is
+returns-in-Some c = answered (loaded c.load-there.ensures
+    c.if-not-there.false) c.way_back-answer.ensures c.in-Some.is
 
 pub returns-in-Nothing : goal.returns-in-Nothing
 unfolding says_back returning number_of

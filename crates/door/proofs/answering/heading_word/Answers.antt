@@ -3,8 +3,8 @@ use mathlib.Core.Path.{sym, ap}
 use Rattle.stored.specs.Fields.{heading_in}
 use Rattle.door.proofs.answering.heading_word.Goals as goal
 
-pub returns-in-Known : goal.returns-in-Known
-returns-in-Known c = sym (ap heading_in c.in-Known.is)
+pub returns-in-Some : goal.returns-in-Some
+returns-in-Some c = sym (ap heading_in c.in-Some.is)
 
-pub returns-in-Unknown : goal.returns-in-Unknown
-returns-in-Unknown c = sym (ap heading_in c.in-Unknown.is)
+pub returns-in-None : goal.returns-in-None
+returns-in-None c = sym (ap heading_in c.in-None.is)

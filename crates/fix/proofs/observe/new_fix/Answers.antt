@@ -4,7 +4,7 @@ use lib.ListN.{length}
 use Rattle.crumbs.specs.Crumb.{capacity}
 use Rattle.state.specs.State.{state_of, with_here_ms}
 use Rattle.follow.specs.View.{course_of}
-use Rattle.course.specs.Fix.{Fix}
+use Rattle.plane.specs.declared.Fix.{Fix}
 use Rattle.course.proofs.Fixes.{handed}
 use Rattle.calls.specs.Fix.{fix_on, new_fix}
 use Rattle.state.specs.Guided.{whole}

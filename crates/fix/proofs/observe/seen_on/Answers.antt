@@ -5,7 +5,7 @@ use lib.ListN.{length}
 use Rattle.crumbs.specs.Crumb.{capacity}
 use Rattle.state.specs.State.{state_of, with_here_ms}
 use Rattle.follow.specs.View.{course_of}
-use Rattle.course.specs.Fix.{Fix}
+use Rattle.plane.specs.declared.Fix.{Fix}
 use Rattle.calls.specs.Fix.{same_fix, still_at, new_fix, seen}
 use Rattle.state.specs.Guided.{whole}
 use Rattle.update.specs.View.{told_in}

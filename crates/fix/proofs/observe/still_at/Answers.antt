@@ -29,12 +29,12 @@ returns-then-elapsed-lt-STILL_MS c = λ w.
     let l = course_of (whole g.h w) g.line.now in
     updates-nothing (λ C. still_at g.here C l g.now_ms) (whole g.h w) g.crumbs.now (c.requires w).trail
     (still-early g.here (capacity (length g.crumbs.now)) l g.now_ms (state_of (whole g.h w) g.crumbs.now)
-    c.in-At.p c.in-At.is
+    c.in-Some.p c.in-Some.is
     (ap (λ (n : ℕ). ltb n still_ms) (sym c.elapsed.ensures) ∙ lt-ltb _ _ c.if-elapsed-lt-STILL_MS.true))
 
 pub update-requires : goal.update-requires
 update-requires c =
-    let p = c.in-At.p in
+    let p = c.in-Some.p in
     let g = c.args in
     λ w. headed-fit p g.now_ms (whole g.h w) _ _ _ (turns p g.now_ms (whole g.h w) c.track_heading-on.ensures) (c.requires w)
 
@@ -43,14 +43,14 @@ returns c = λ w.
     let g = c.args in
     let b = g.crumbs.now in
     let l = course_of (whole g.h w) g.line.now in
-    let p = c.in-At.p in
+    let p = c.in-Some.p in
     let on = moved_on (whole g.h w) c.track_heading-on.result in
     let turned = turns p g.now_ms (whole g.h w) c.track_heading-on.ensures in
     let C = capacity (length b) in
     updates-after (λ C. still_at g.here C l g.now_ms) (λ C. update C l p g.now_ms) (whole g.h w) on b
     c.update.new.crumbs (told_in c.update.result w)
     (same_len (whole g.h w) on refl)
-    (still-due g.here C l g.now_ms (state_of (whole g.h w) b) p c.in-At.is
+    (still-due g.here C l g.now_ms (state_of (whole g.h w) b) p c.in-Some.is
     (ap (λ (n : ℕ). ltb n still_ms) (sym c.elapsed.ensures) ∙ le-ltb _ _ c.if-elapsed-lt-STILL_MS.false)
     ∙ ap (λ (x : State). update C l p g.now_ms x) (sym (turned.same b)))
     (c.update.ensures w)

@@ -12,27 +12,27 @@ returns-in_default c = nothing-near _ _ _ c.in_default.is
 
 pub overflow_sub-near : goal.overflow_sub-near
 overflow_sub-near c =
-    (on_line _ _ _ c.in-Found.is c.requires.1).0
+    (on_line _ _ _ c.in-Some.is c.requires.1).0
 
 pub crumb-a-requires : goal.crumb-a-requires
 crumb-a-requires c =
     let given = c.requires in
-    let on = on_line _ _ _ c.in-Found.is given.1 in
+    let on = on_line _ _ _ c.in-Some.is given.1 in
     (omega (arith, on.0, on.1), given.0)
 
 pub crumb-b-requires : goal.crumb-b-requires
 crumb-b-requires c =
     let given = c.requires in
-    ((on_line _ _ _ c.in-Found.is given.1).1, given.0)
+    ((on_line _ _ _ c.in-Some.is given.1).1, given.0)
 
 pub returns-then-near : goal.returns-then-near
 unfolding retrace_m constant of_bits
 returns-then-near c =
     let g = c.args in
-    let is = near-against (crumbs g.len g.crumbs.now) g.heading g.best c.in-Found.near c.in-Found.is
+    let is = near-against (crumbs g.len g.crumbs.now) g.heading g.best c.in-Some.near c.in-Some.is
     c.if-near.true in
     simp (← is, ← c.crumb-b.ensures, ← c.crumb-a.ensures) c.backwards.ensures
 
 pub returns : goal.returns
 unfolding retrace_m constant of_bits
-returns c = far-off _ _ _ c.in-Found.near c.in-Found.is c.if-near.false
+returns c = far-off _ _ _ c.in-Some.near c.in-Some.is c.if-near.false

@@ -2,10 +2,10 @@
 use Rattle.calls.specs.Questions.{heading_fits}
 use Rattle.questions.proofs.limits.heading_fits.Goals as goal
 
-pub returns-in-Known : goal.returns-in-Known
+pub returns-in-Some : goal.returns-in-Some
 unfolding heading_fits
-returns-in-Known c = simp c.in-Known.is
+returns-in-Some c = simp c.in-Some.is
 
-pub returns-in-Unknown : goal.returns-in-Unknown
+pub returns-in-None : goal.returns-in-None
 unfolding heading_fits
-returns-in-Unknown c = simp c.in-Unknown.is
+returns-in-None c = simp c.in-None.is

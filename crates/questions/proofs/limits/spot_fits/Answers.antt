@@ -2,10 +2,10 @@
 use Rattle.calls.specs.Questions.{spot_fits}
 use Rattle.questions.proofs.limits.spot_fits.Goals as goal
 
-pub returns-in-At : goal.returns-in-At
+pub returns-in-Some : goal.returns-in-Some
 unfolding spot_fits
-returns-in-At c = simp c.in-At.is c.place_fits.ensures
+returns-in-Some c = simp c.in-Some.is c.place_fits.ensures
 
-pub returns-in-Nowhere : goal.returns-in-Nowhere
+pub returns-in-None : goal.returns-in-None
 unfolding spot_fits
-returns-in-Nowhere c = simp c.in-Nowhere.is
+returns-in-None c = simp c.in-None.is

@@ -4,10 +4,10 @@ use Rattle.calls.specs.Calls.{asks_place}
 use Rattle.ride_log.proofs.file_questions.Asking.{place-asked}
 use Rattle.ride_log.proofs.file_questions.asks_place.Goals as goal
 
-pub returns-in-At : goal.returns-in-At
-returns-in-At c = let known = c.in-At.known_told-1-own.given in
-    place-asked _ c.in-At.lat c.in-At.lon c.in-At.is known.0.1 known.1.0.1 c.asks_fix.ensures
+pub returns-in-Some : goal.returns-in-Some
+returns-in-Some c = let known = c.in-Some.known_told-1-own.given in
+    place-asked _ c.in-Some.lat c.in-Some.lon c.in-Some.is known.0.1 known.1.0.1 c.asks_fix.ensures
 
-pub returns-in-Missing : goal.returns-in-Missing
+pub returns-in-None : goal.returns-in-None
 unfolding asks_place
-returns-in-Missing c = sym (ap asks_place c.in-Missing.is)
+returns-in-None c = sym (ap asks_place c.in-None.is)

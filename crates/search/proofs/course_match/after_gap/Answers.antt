@@ -10,4 +10,4 @@ returns-in_default c = simp c.in_default.is
 
 pub returns : goal.returns
 unfolding after_gap hop_m constant of_bits
-returns c = simp (c.in-At.is, c.distance.ensures)
+returns c = simp (c.in-Some.is, c.distance.ensures)

@@ -26,7 +26,7 @@ pub settled-requires : goal.settled-requires
 settled-requires c =
     let g = c.args in
     let h = c.requires in
-    let m = near-met _ g.p g.ends h.0 g.was _ (sym c.on_near.ensures ∙ c.in-Found.is) in
+    let m = near-met _ g.p g.ends h.0 g.was _ (sym c.on_near.ensures ∙ c.in-Some.is) in
     record { le_from = h; le_end = (omega (arith, m.from), omega (arith, m.to)) }
 
 pub returns : goal.returns
@@ -36,7 +36,7 @@ returns c =
       ← c.after_gap.ensures,
       c.if-after_gap.false,
       ← c.on_near.ensures,
-      c.in-Found.is,
+      c.in-Some.is,
       c.settled.ensures,
       nearest_on_course,
     )

@@ -8,4 +8,4 @@ returns-in_default c = simp c.in_default.is
 
 pub returns : goal.returns
 unfolding first_found
-returns c = simp c.in-Found.is
+returns c = simp c.in-Some.is

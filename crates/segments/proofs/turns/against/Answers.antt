@@ -9,8 +9,8 @@ returns-in_default c = simp c.in_default.is
 
 pub returns-then-turn : goal.returns-then-turn
 unfolding against
-returns-then-turn c = simp (c.in-Known.is, ← c.turned_from-turn.ensures, lt-leb _ _ c.if-turn.true)
+returns-then-turn c = simp (c.in-Some.is, ← c.turned_from-turn.ensures, lt-leb _ _ c.if-turn.true)
 
 pub returns : goal.returns
 unfolding against
-returns c = simp (c.in-Known.is, ← c.turned_from-turn.ensures, le-leb _ _ c.if-turn.false)
+returns c = simp (c.in-Some.is, ← c.turned_from-turn.ensures, le-leb _ _ c.if-turn.false)

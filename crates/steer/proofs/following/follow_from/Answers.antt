@@ -3,7 +3,8 @@ use mathlib.Core.Path.{sym, ap, ◌∙◌, subst}
 use mathlib.Core.List.{[]}
 use lib.ListN.{length}
 use Rattle.crumbs.specs.Crumb.{capacity}
-use Rattle.segments.specs.declared.Best.{Best}
+use Rattle.std.specs.Prelude.{Option}
+use Rattle.segments.specs.declared.costs.Nearest.{Nearest}
 use Rattle.state.specs.declared.Line.{Line}
 use Rattle.state.specs.State.{state_of}
 use Rattle.follow.specs.View.{course_of, decided_in}
@@ -23,7 +24,7 @@ follow_best-requires c =
       guided_fit = c.requires;
       line_value = (
         c.in-Nothing.is,
-        subst (λ (b : Best). InLine g.h.course.line_len b)
+        subst (λ (b : Option Nearest). InLine g.h.course.line_len b)
             (sym (c.near_here-best.ensures [])) (near-in g.h.here (whole g.h []) g.line.now),
       );
     }
@@ -42,7 +43,7 @@ returns-in-Nothing c =
     k.new.crumbs
     (ap (λ (x : Line). follow_from x C l g.now_ms (state_of h g.crumbs.now))
     c.in-Nothing.is
-    ∙ sym (ap (λ (b : Best). follow b C l g.now_ms (state_of h g.crumbs.now))
+    ∙ sym (ap (λ (b : Option Nearest). follow b C l g.now_ms (state_of h g.crumbs.now))
     (c.near_here-best.ensures w)))
     k.ensures
 

@@ -13,5 +13,5 @@ returns c = λ w.
     let g = c.args in
     let k = c.update-u in
     brought-at (whole g.h w) g.crumbs.now g.line.now g.now_ms
-    c.in-At.p
-    (told_in k.result w) k.new.crumbs c.in-At.is (k.ensures w)
+    c.in-Some.p
+    (told_in k.result w) k.new.crumbs c.in-Some.is (k.ensures w)

@@ -2,7 +2,8 @@
 use mathlib.Core.Path.{sym, ap, ◌∙◌}
 use lib.Ieee.{of_bits}
 use Rattle.binary32.specs.Arithmetic.{constant}
-use Rattle.plane.specs.declared.Spot.{Spot}
+use Rattle.std.specs.Prelude.{Option}
+use Rattle.plane.specs.declared.Point.{Point}
 use Rattle.follow.specs.View.{course_of}
 use Rattle.matching.specs.Distances.{drop_m}
 use Rattle.calls.specs.Follow.{near_here}
@@ -12,11 +13,11 @@ use Rattle.steer.proofs.way_home.near_here.Goals as goal
 pub returns-in_default : goal.returns-in_default
 unfolding near_here
 returns-in_default c = λ w. let g = c.args in
-    sym (ap (λ (x : Spot). near_here x (course_of (whole g.h w) g.line.now)) c.in_default.is)
+    sym (ap (λ (x : Option Point). near_here x (course_of (whole g.h w) g.line.now)) c.in_default.is)
 
 pub returns : goal.returns
 unfolding near_here drop_m constant of_bits
 returns c = λ w.
     let g = c.args in
     c.course_near.ensures
-    ∙ sym (ap (λ (x : Spot). near_here x (course_of (whole g.h w) g.line.now)) c.in-At.is)
+    ∙ sym (ap (λ (x : Option Point). near_here x (course_of (whole g.h w) g.line.now)) c.in-Some.is)

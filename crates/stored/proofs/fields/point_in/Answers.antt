@@ -4,6 +4,6 @@ use Rattle.stored.specs.Fields.{point_in}
 use mathlib.Core.Path.{sym, ap}
 use Rattle.stored.proofs.fields.point_in.Goals as goal
 
-pub returns-in-Nowhere : goal.returns-in-Nowhere
+pub returns-in-None : goal.returns-in-None
 unfolding of_bits
-returns-in-Nowhere c = sym (ap point_in c.in-Nowhere.is)
+returns-in-None c = sym (ap point_in c.in-None.is)
