@@ -13,7 +13,6 @@ use plane::Point;
 use search::course_match::Progress;
 use search::{Range, course_match, rows};
 use segments::costs::Nearest;
-use segments::costs::Nearest;
 use state::{Course, Follow, Line, Mode};
 
 // What is followed: which line, how many crumbs it has, the segment last matched, whether the rider was off the

@@ -14,7 +14,6 @@ ghost use Rattle.matching.specs.Match.{reminded_at, follow_matched, course_match
 
 use plane::Point;
 use segments::costs::Nearest;
-use segments::costs::Nearest;
 use state::{Course, Event, Follow, Line};
 
 // Segments behind and ahead of the last match searched first.

@@ -4,6 +4,8 @@ ghost use Rattle.std.specs.Prelude.{◌≡◌};
 ghost use Rattle.course.specs.Course.{fixes};
 ghost use Rattle.calls.specs.Questions.{latitude_fits, longitude_fits, asks_fix, asks_fixes};
 
+use plane::Fix;
+
 const LATITUDE_MOST: i32 = 900_000_000;
 
 const LONGITUDE_MOST: i32 = 1_800_000_000;

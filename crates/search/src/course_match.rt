@@ -9,7 +9,6 @@ ghost use Rattle.search.specs.Along.{ends};
 use crate::{Range, quick};
 use plane::Point;
 use segments::costs::{Nearest, Ranking};
-use segments::costs::Nearest;
 use segments::{Stretch, costs, turns};
 
 // The match moves at most this far on towards the course's end in one fix,

@@ -7,7 +7,7 @@
 pub mod costs;
 pub mod turns;
 
-ghost use Rattle.std.specs.Prelude.{◌≡◌, ℕ, ◌-◌, ◌≤◌, ◌<◌, length, List, true, false};
+ghost use Rattle.std.specs.Prelude.{◌≡◌, ℕ, ◌-◌, ◌≤◌, ◌<◌, length, List, true, false, Option, Float};
 ghost use Rattle.plane.specs.Square.{off_square};
 ghost use Rattle.crumbs.specs.declared.Crumb.{Crumb};
 ghost use Rattle.crumbs.specs.Crumb.{capacity, crumbs, point};

@@ -6,7 +6,7 @@ ghost use Rattle.state.specs.Guided.{guided_of, whole};
 
 use lap::Lap;
 use motion::Motion;
-use plane::Point;
+use plane::{Fix, Point};
 use trail::Trail;
 
 // Which line a follow is on.

@@ -19,7 +19,6 @@ use matching::followed::Followed;
 use matching::{distances, followed};
 use plane::Point;
 use segments::costs::Nearest;
-use segments::costs::Nearest;
 use state::{Course, Event, Guide, Guided, Line};
 
 // A rider this near the course comes to its end there.

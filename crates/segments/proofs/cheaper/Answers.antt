@@ -12,8 +12,8 @@ returns-in_default-best c = simp (c.in_default-best.is, c.in-Some.is)
 
 pub returns-then-metres-least : goal.returns-then-metres-least
 unfolding cheaper
-returns-then-metres-least c = simp (c.in-Some.is, c.in-Some.is, c.if-metres-least.true)
+returns-then-metres-least c = simp (c.in-Some-best.is, c.in-Some.is, c.if-metres-least.true)
 
 pub returns : goal.returns
 unfolding cheaper
-returns c = simp (c.in-Some.is, c.in-Some.is, c.if-metres-least.false)
+returns c = simp (c.in-Some-best.is, c.in-Some.is, c.if-metres-least.false)
