@@ -1,5 +1,7 @@
 -- What a call promises: its answer in document 01's terms, and what it does to the state and the crumb buffer.
-use Rattle.std.specs.Prelude.{ℕ, max, ◌≡◌, cond, List, eqb, length, Float}
+use Rattle.std.specs.Prelude.{ℕ, max, ◌≡◌, cond, List, eqb, length, Float, Result, Ok, Err}
+use Rattle.refusal.specs.declared.Refusal.{Refusal}
+use Rattle.refusal.specs.Refusal.{number}
 use Rattle.crumbs.specs.Crumb.{behind}
 use Rattle.state.specs.declared.Homing.{Homing}
 use Rattle.state.specs.State.{state_of}
@@ -9,6 +11,11 @@ use Rattle.calls.specs.Calls.{Call, asks, after_call}
 pub data Answer (A : Type 0) : Type 0 where
   refused : ℕ → Answer A
   gives : A → Answer A
+
+-- what a call's result says: "A refusal carries its number"
+abbrev pub says : {A : Type 0} → Result A Refusal → Answer A
+says (Ok x) = gives x
+says (Err q) = refused (number q)
 
 -- the answer of a call, by the number of the first question that says no, 0 where none does
 unfoldable pub answer : {A : Type 0} → ℕ → A → Answer A
