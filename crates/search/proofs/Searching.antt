@@ -6,7 +6,7 @@ use native.Mathlib.Omega.{arith}
 use Rattle.plane.specs.declared.Point.{Point}
 use Rattle.crumbs.specs.declared.Crumb.{Crumb}
 use Rattle.search.specs.declared.Range.{Range}
-use Rattle.std.specs.Prelude.{Option, None}
+use Rattle.std.specs.Prelude.{Option, None, Float}
 use Rattle.segments.specs.declared.costs.Nearest.{Nearest}
 use Rattle.segments.specs.declared.Stretch.{Stretch}
 use Rattle.segments.specs.declared.costs.Ranking.TheVariants.{Plain}

@@ -54,7 +54,14 @@ fn around(along: f32, on: f32) -> Stretch
 }
 
 // The best segment that the rider can have come to, or gone back to, in one fix.
-fn in_reach(line: &[f32], len: usize, p: Point, ends: Range, along: f32, by: Ranking) -> Option<Nearest>
+fn in_reach(
+    line: &[f32],
+    len: usize,
+    p: Point,
+    ends: Range,
+    along: f32,
+    by: Ranking,
+) -> Option<Nearest>
     requires { (1 ≤ ends.from) × (ends.to < len) × (len ≤ capacity (length line.now)) }
     ensures { result ≡ in_reach (crumbs len line.now) p ends along by }
 {
@@ -102,7 +109,14 @@ fn or_else(first: Option<Nearest>, other: Option<Nearest>) -> Option<Nearest>
 
 // The match on the near stretch settled: sliding back against the rider's way, a pass ridden its own
 // way close by is the one they are on.
-fn settled(line: &[f32], len: usize, p: Point, ends: Range, was: Progress, near: Nearest) -> Option<Nearest>
+fn settled(
+    line: &[f32],
+    len: usize,
+    p: Point,
+    ends: Range,
+    was: Progress,
+    near: Nearest,
+) -> Option<Nearest>
     requires le_from { (1 ≤ ends.from) × (ends.to < len) × (len ≤ capacity (length line.now)) }
     requires le_end { (1 ≤ near.end) × (near.end < len) }
     ensures { result ≡ settled (crumbs len line.now) p ends was near }
@@ -116,7 +130,13 @@ fn settled(line: &[f32], len: usize, p: Point, ends: Range, was: Progress, near:
 }
 
 // The segment of the followed course that the rider is on.
-pub fn nearest_on_course(line: &[f32], len: usize, p: Point, ends: Range, was: Progress) -> Option<Nearest>
+pub fn nearest_on_course(
+    line: &[f32],
+    len: usize,
+    p: Point,
+    ends: Range,
+    was: Progress,
+) -> Option<Nearest>
     requires { (1 ≤ ends.from) × (ends.to < len) × (len ≤ capacity (length line.now)) }
     ensures { result ≡ nearest_on_course (crumbs len line.now) p ends was }
 {

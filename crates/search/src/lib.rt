@@ -15,8 +15,7 @@ ghost use Rattle.search.specs.Along.{share_along, point_along, at_along, ends};
 
 use crumbs::Crumb;
 use plane::{Point, squares};
-use segments::costs::Ranking;
-use segments::costs::Nearest;
+use segments::costs::{Nearest, Ranking};
 use segments::{Stretch, costs, turns};
 
 // Rust's `f32::MAX`,

@@ -12,9 +12,8 @@ ghost use Rattle.search.specs.Rows.{row_length, NoneReaches};
 use crate::{Range, rows};
 use crumbs::Crumb;
 use plane::Point;
-use segments::costs::Ranking;
-use segments::costs::Nearest;
 use segments::Stretch;
+use segments::costs::{Nearest, Ranking};
 
 // The segment with the least square so far, 0 where there is none, that square, and the least of those tried before it.
 #[derive(Clone, Copy)]
@@ -152,7 +151,13 @@ fn over_rows(line: &[f32], len: usize, p: Point, within: Stretch, ends: Range, l
 }
 
 // The nearest segment of the course reaching into the stretch; on a tie the earlier ridden.
-fn plainly_within(line: &[f32], len: usize, p: Point, ends: Range, within: Stretch) -> Option<Nearest>
+fn plainly_within(
+    line: &[f32],
+    len: usize,
+    p: Point,
+    ends: Range,
+    within: Stretch,
+) -> Option<Nearest>
     requires { (1 ≤ ends.from) × (ends.to < len) × (len ≤ capacity (length line.now)) }
     ensures { result ≡ nearest_within (crumbs len line.now) p ends within Plain }
 {
