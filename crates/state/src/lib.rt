@@ -10,14 +10,14 @@ use plane::{Fix, Point};
 use trail::Trail;
 
 // Which line a follow is on.
-#[derive(Clone, Copy)]
+#[derive(Clone, Copy, PartialEq, Eq)]
 pub enum Line {
     Nothing,
     Breadcrumb,
     Course,
 }
 
-#[derive(Clone, Copy)]
+#[derive(Clone, Copy, PartialEq, Eq)]
 pub enum Mode {
     // Straight to the start.
     Direct,
@@ -30,7 +30,7 @@ pub enum Mode {
 }
 
 // What a fix changed, for a nudge.
-#[derive(Clone, Copy)]
+#[derive(Clone, Copy, PartialEq, Eq)]
 pub enum Event {
     Nothing,
     // Following started by itself.
