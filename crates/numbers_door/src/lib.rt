@@ -15,6 +15,12 @@ ghost use Rattle.numbers_door.specs.Points.{point_of};
 
 use plane::{Fix, Point};
 
+fn point(east: f32, north: f32) -> Point
+    ensures { result ≡ point_of east north }
+{
+    Point { east, north }
+}
+
 #[unsafe(no_mangle)]
 pub extern "C" fn cittumay_sqrtf(x: f32) -> f32
     ensures { result ≡ root binary32 x }
@@ -68,15 +74,7 @@ pub extern "C" fn cittumay_atan2f(east: f32, north: f32) -> f32
 pub extern "C" fn cittumay_distance(a_east: f32, a_north: f32, b_east: f32, b_north: f32) -> f32
     ensures { result ≡ distance (point_of a_east a_north) (point_of b_east b_north) }
 {
-    let a = Point {
-        east: a_east,
-        north: a_north,
-    };
-    let b = Point {
-        east: b_east,
-        north: b_north,
-    };
-    plane::distance(a, b)
+    plane::distance(point(a_east, a_north), point(b_east, b_north))
 }
 
 // The share of the way from a to b; the point goes to east and north.
@@ -95,19 +93,8 @@ pub extern "C" fn cittumay_project(
     ensures north_after { point_of east.new north.new
         ≡ (project (point_of p_east p_north) (point_of a_east a_north) (point_of b_east b_north)).point }
 {
-    let p = Point {
-        east: p_east,
-        north: p_north,
-    };
-    let a = Point {
-        east: a_east,
-        north: a_north,
-    };
-    let b = Point {
-        east: b_east,
-        north: b_north,
-    };
-    let found = plane::project(p, a, b);
+    let p = point(p_east, p_north);
+    let found = plane::project(p, point(a_east, a_north), point(b_east, b_north));
     *east = found.point.east;
     *north = found.point.north;
     found.t
@@ -124,19 +111,8 @@ pub extern "C" fn cittumay_off_segment(
 ) -> f32
     ensures { result ≡ off_segment (point_of p_east p_north) (point_of a_east a_north) (point_of b_east b_north) }
 {
-    let p = Point {
-        east: p_east,
-        north: p_north,
-    };
-    let a = Point {
-        east: a_east,
-        north: a_north,
-    };
-    let b = Point {
-        east: b_east,
-        north: b_north,
-    };
-    plane::off_segment(p, a, b)
+    let p = point(p_east, p_north);
+    plane::off_segment(p, point(a_east, a_north), point(b_east, b_north))
 }
 
 #[unsafe(no_mangle)]
@@ -148,15 +124,7 @@ pub extern "C" fn cittumay_bearing(
 ) -> u16
     ensures { result ≡ bearing (point_of from_east from_north) (point_of to_east to_north) }
 {
-    let from = Point {
-        east: from_east,
-        north: from_north,
-    };
-    let to = Point {
-        east: to_east,
-        north: to_north,
-    };
-    plane::bearing(from, to)
+    plane::bearing(point(from_east, from_north), point(to_east, to_north))
 }
 
 #[unsafe(no_mangle)]
