@@ -1,6 +1,7 @@
--- The laws of fixes: handed on by their bits they are the same, and of two lists there are as many as of the shorter. Assumes nothing.
+-- The laws of fixes: the first one is the origin, and of two lists there are as many as of the shorter. Assumes nothing.
 use Prim.Native.Nat.{ℕ, zero, suc, ◌^◌, ◌<◌, min}
-use mathlib.Core.Path.{◌≡◌, refl, sym, ap, ap₂, ◌∙◌}
+use mathlib.Core.Path.{◌≡◌, refl, sym, ap₂}
+use mathlib.Core.Bool.{Bool, true, false, not, true≢false}
 use mathlib.Core.List.{List, [], ◌∷◌}
 use native.Mathlib.Omega.{arith}
 use lib.IntN.{ℤ}
@@ -10,61 +11,48 @@ use lib.Ieee.{Float}
 use mir.Syntax.{w32}
 use mir.Val.{to_z, of_z}
 use mir.ValLaws.{to_z-of_z}
-use Rattle.plane.specs.declared.Point.{Point}
-use Rattle.plane.specs.Fix.{east_per_e7, frame}
-use Rattle.std.specs.Prelude.{Some, None}
+use Rattle.std.specs.Prelude.{Option, Some, None}
+use Rattle.std.specs.Option.{is_some, unwrap_or}
 use Rattle.plane.specs.declared.Fix.{Fix}
+use Rattle.plane.specs.Fix.{east_per_e7, frame}
 use Rattle.state.specs.declared.Frame.{Frame}
-use Rattle.course.specs.Fix.{located, located_from, framed, framed_from}
-use Rattle.course.specs.Course.{fixes}
+use Rattle.course.specs.Fix.{located_from, framed_from}
+use Rattle.course.specs.Course.{fixes, no_origin}
 
--- ---- a fix that is handed on
+-- ---- a fix that is handed on as two numbers
 -- a coordinate, taken out of its bits again
 abbrev pub handed : ℤ → ℤ
 handed z = to_z w32 (of_z w32 z)
 
-pub handed-same : (z : ℤ) → mag z < 2 ^ 31 → handed z ≡ z
-handed-same z h = to_z-of_z w32 z (record { sfits = h })
+abbrev pub fix_at : ℤ → ℤ → Fix
+fix_at lat lon = record { lat = lat; lon = lon }
 
-handed-at : (lat lon : ℤ) → mag lat < 2 ^ 31 → mag lon < 2 ^ 31 → Some (handed lat) (handed lon) ≡ Some lat lon
-handed-at lat lon a b = ap₂ Some (handed-same lat a) (handed-same lon b)
+pub handed-fix : (lat lon : ℤ) → mag lat < 2 ^ 31 → mag lon < 2 ^ 31 → fix_at (handed lat) (handed lon) ≡ fix_at lat lon
+handed-fix lat lon a b = ap₂ fix_at (to_z-of_z w32 lat (record { sfits = a })) (to_z-of_z w32 lon (record { sfits = b }))
 
--- the frame after a fix that is not the first
-pub located-at : (f : Frame) (lat lon : ℤ) {lat0 lon0 : ℤ} → f.origin ≡ Some lat0 lon0 → f ≡ located (record { lat = lat; lon = lon }) f
-unfolding located located_from
-located-at f lat lon told = sym (ap (λ o. located_from o (record { lat = lat; lon = lon }) f) told)
+-- ---- the origin
+pub missing : (origin : Option Fix) (b : Bool) → is_some origin ≡ not b → b ≡ no_origin origin
+unfolding no_origin
+missing (Some x) true e = absurd (true≢false e)
+missing (Some x) false e = refl
+missing None true e = refl
+missing None false e = absurd (true≢false (sym e))
 
-module _ (f : Frame) (lat lon : ℤ) (a : mag lat < 2 ^ 31) (b : mag lon < 2 ^ 31) where
-  abbrev x : Fix
-  x = record { lat = handed lat; lon = handed lon }
+pub located-later : (origin : Option Fix) (x : Fix) (f : Frame) → is_some origin ≡ true → f ≡ located_from origin x f
+unfolding located_from
+located-later (Some y) x f e = refl
+located-later None x f e = absurd (true≢false (sym e))
 
-  same : x ≡ record { lat = lat; lon = lon }
-  same = ap₂ (λ c d. record { lat = c; lon = d }) (handed-same lat a) (handed-same lon b)
+pub located-first : (origin : Option Fix) (x : Fix) (f : Frame) → is_some origin ≡ false
+    → record { origin = Some x; east_per_e7 = east_per_e7 x.lat } ≡ located_from origin x f
+unfolding located_from
+located-first (Some y) x f e = absurd (true≢false e)
+located-first None x f e = refl
 
-  -- after the first
-  pub located-missing : {factor : Float} → f.origin ≡ None → factor ≡ east_per_e7 (handed lat)
-      → record { origin = Some (handed lat) (handed lon); east_per_e7 = factor } ≡ located (record { lat = lat; lon = lon }) f
-  unfolding located located_from
-  located-missing told e =
-      ap (λ y. record { origin = Some (handed lat) (handed lon); east_per_e7 = y }) e
-      ∙ (ap (λ y. located_from None y f) same ∙ sym (ap (λ o. located_from o (record { lat = lat; lon = lon }) f) told))
-
-  -- the place of a fix
-  pub framed-handed : {p : Point} → p ≡ framed f (record { lat = handed lat; lon = handed lon })
-      → p ≡ framed f (record { lat = lat; lon = lon })
-  framed-handed e = e ∙ ap (framed f) same
-
-  -- seen from the origin
-  pub framed_at : {p : Point} (lat0 lon0 : ℤ) → mag lat0 < 2 ^ 31 → mag lon0 < 2 ^ 31 → f.origin ≡ Some lat0 lon0
-      → p ≡ frame (handed lat0) (handed lon0) f.east_per_e7 (handed lat) (handed lon) → p ≡ framed f (record { lat = lat; lon = lon })
-  unfolding framed framed_from
-  framed_at lat0 lon0 a0 b0 told e = framed-handed (e ∙ ap (λ o. framed_from o f.east_per_e7 x) (handed-at lat0 lon0 a0 b0 ∙ sym told))
-
-  -- seen from itself
-  pub framed-missing : {p : Point} → f.origin ≡ None → p ≡ frame (handed lat) (handed lon) f.east_per_e7 (handed lat) (handed lon)
-      → p ≡ framed f (record { lat = lat; lon = lon })
-  unfolding framed framed_from
-  framed-missing told e = framed-handed (e ∙ ap (λ o. framed_from o f.east_per_e7 x) (sym told))
+pub framed-by : (origin : Option Fix) (factor : Float) (x : Fix) → frame (unwrap_or origin x) factor x ≡ framed_from origin factor x
+unfolding framed_from
+framed-by (Some y) factor x = refl
+framed-by None factor x = refl
 
 -- ---- latitudes and longitudes side by side
 pub length-fixes : (lats lons : List ℤ) → length (fixes lats lons) ≡ min (length lats) (length lons)

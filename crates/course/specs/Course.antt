@@ -2,7 +2,6 @@
 -- emptied. No origin yet: line emptied, `unplaced` set. Both are outcomes, not refusals."
 use Rattle.std.specs.Prelude.{ℕ, Bool, true, false, ◌&&◌, cond, List, [], ◌∷◌, reverse, leb, ℤ, length, Option, Some, None}
 use Rattle.plane.specs.declared.Fix.{Fix}
-use Rattle.plane.specs.declared.Point.{Point}
 use Rattle.crumbs.specs.declared.Crumb.{Crumb}
 use Rattle.crumbs.specs.Along.{crumb_of, along_behind}
 use Rattle.state.specs.declared.Frame.{Frame}

@@ -1,5 +1,5 @@
 -- A fix placed in the ride's frame. Document 01, "Fix"; homing.rs, `frame`.
-use Rattle.std.specs.Prelude.{ℤ, Float, Option, Some, None}
+use Rattle.std.specs.Prelude.{Float, Option, Some, None}
 use Rattle.plane.specs.declared.Point.{Point}
 use Rattle.plane.specs.Fix.{east_per_e7, frame}
 use Rattle.plane.specs.declared.Fix.{Fix}

@@ -20,13 +20,12 @@ const FEWEST: usize = 2;
 pub fn located(f: Frame, fix: Fix) -> Frame
     ensures { result ≡ located fix f }
 {
-    let origin = f.origin;
-    match origin {
-        Some(_) => f,
-        None => Frame {
-            origin: Some(fix),
-            east_per_e7: plane::east_per_e7(fix.lat),
-        },
+    if f.origin.is_some() {
+        return f;
+    }
+    Frame {
+        origin: Some(fix),
+        east_per_e7: plane::east_per_e7(fix.lat),
     }
 }
 
@@ -34,32 +33,21 @@ pub fn located(f: Frame, fix: Fix) -> Frame
 pub fn framed(f: Frame, fix: Fix) -> Point
     ensures { result ≡ framed f fix }
 {
-    let origin = f.origin;
-    match origin {
-        Some(start) => plane::frame(start, f.east_per_e7, fix),
-        None => plane::frame(fix, f.east_per_e7, fix),
-    }
+    plane::frame(f.origin.unwrap_or(fix), f.east_per_e7, fix)
 }
 
 // Whether the ride has no first fix yet.
 fn no_origin(f: Frame) -> bool
     ensures { result ≡ no_origin f.origin }
 {
-    let origin = f.origin;
-    match origin {
-        Some(_) => false,
-        None => true,
-    }
+    f.origin.is_none()
 }
 
 // How many points a course has: those with both a latitude and a longitude.
 pub fn count(lats: &[i32], lons: &[i32]) -> usize
     ensures { result ≡ length (fixes lats.now lons.now) }
 {
-    if lats.len() < lons.len() {
-        return lats.len();
-    }
-    lons.len()
+    lats.len().min(lons.len())
 }
 
 // Whether a course waits for the ride's first fix to be placed.

@@ -3,8 +3,5 @@ use native.Mathlib.Omega.{arith}
 use Rattle.course.proofs.Fixes.{length-fixes}
 use Rattle.course.proofs.count.Goals as goal
 
-pub returns-then-lats-lons : goal.returns-then-lats-lons
-returns-then-lats-lons c = omega (arith, length-fixes c.args.lats.now c.args.lons.now)
-
 pub returns : goal.returns
-returns c = omega (arith, length-fixes c.args.lats.now c.args.lons.now)
+returns c = omega (arith, c.min.ensures, length-fixes c.args.lats.now c.args.lons.now)

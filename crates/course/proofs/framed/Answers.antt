@@ -1,14 +1,14 @@
 -- `course::framed` meets its contract: the fix, seen from the origin or from itself.
-use borrow.Author.Rules.{rules}
-use Rattle.course.proofs.Fixes.{framed_at, framed-missing}
+use mathlib.Core.Path.{ap, ◌∙◌}
+use Rattle.plane.specs.declared.Fix.{Fix}
+use Rattle.plane.specs.Fix.{frame}
+use Rattle.course.specs.Fix.{framed}
+use Rattle.course.proofs.Fixes.{framed-by}
 use Rattle.course.proofs.framed.Goals as goal
 
-pub returns-in-Some : goal.returns-in-Some
-returns-in-Some c =
-    framed_at c.args.f c.args.lat c.args.lon c.ranges.lat.sfits c.ranges.lon.sfits
-    c.in-Some.lat0 c.in-Some.lon0 (search rules) (search rules) c.in-Some.is c.frame.ensures
-
-pub returns-in-None : goal.returns-in-None
-returns-in-None c =
-    framed-missing c.args.f c.args.lat c.args.lon c.ranges.lat.sfits c.ranges.lon.sfits c.in-None.is
-    c.frame-in-None.ensures
+pub returns : goal.returns
+unfolding framed
+returns c =
+    let g = c.args in
+    c.frame.ensures ∙ ap (λ (x : Fix). frame x g.f.east_per_e7 g.fix) c.unwrap_or.ensures
+    ∙ framed-by g.f.origin g.f.east_per_e7 g.fix

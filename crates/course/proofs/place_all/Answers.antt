@@ -3,7 +3,9 @@ use Prim.Native.Nat.{◌-◌}
 use borrow.Author.Rules.{rules}
 use lib.IntN.{pos}
 use lib.ListN.{get_or}
-use Rattle.course.proofs.Fixes.{framed-handed}
+use mathlib.Core.Path.{ap, ◌∙◌}
+use Rattle.course.specs.Fix.{framed}
+use Rattle.course.proofs.Fixes.{handed-fix}
 use Rattle.course.proofs.Placing.{placing-start, placing-on, placing-end}
 use Rattle.course.proofs.place_all.Goals as goal
 
@@ -16,8 +18,8 @@ loop-k-preserved c =
     let s = c.args in
     let at = c.count-n.result - 1 - c.loop-k.k in
     placing-on c.loop-k.invariant c.loop-k-test.true
-    (framed-handed s.f (get_or s.lats.now at (pos 0)) (get_or s.lons.now at (pos 0)) (search rules) (search rules)
-    c.framed-p.ensures)
+    (c.framed-p.ensures
+    ∙ ap (framed s.f) (handed-fix (get_or s.lats.now at (pos 0)) (get_or s.lons.now at (pos 0)) (search rules) (search rules)))
     c.recorded_m.ensures c.put.ensures
 
 pub returns : goal.returns
