@@ -14,7 +14,6 @@ use Rattle.state.specs.declared.Line.{Line}
 use Rattle.state.specs.declared.Line.TheVariants as line
 use Rattle.state.specs.declared.Mode.{Mode}
 use Rattle.state.specs.declared.Mode.TheVariants as mode
-use Rattle.state.specs.declared.Course.{Course}
 use Rattle.matching.specs.Distances.{drop_m}
 
 -- once the breadcrumb is this long

@@ -1,12 +1,10 @@
 -- The count of the fixes back along the breadcrumb. Assumes nothing.
 use mathlib.Core.Path.{◌≡◌}
-use Prim.Native.Nat.{◌-◌, ◌+◌}
+use Prim.Native.Nat.{◌+◌}
 use mathlib.Core.Bool.{true, false}
 use lib.Dec.{leb}
 use Rattle.plane.specs.declared.Point.{Point}
-use Rattle.crumbs.specs.Crumb.{crumbs}
 use Rattle.trail.specs.Trail.{retrace_fixes}
-use Rattle.trail.specs.View.{track}
 use Rattle.state.specs.State.{State, with_track}
 use Rattle.state.specs.Rule.{done}
 use Rattle.joining.specs.Retrace.{rides_back, len_before}

@@ -72,7 +72,13 @@ fn may_join(auto_follow: bool, c: Course) -> bool
     false
 }
 
-fn join_with(auto_follow: bool, c: Course, heading: Option<u16>, line: &[f32], p: Point) -> Option<usize>
+fn join_with(
+    auto_follow: bool,
+    c: Course,
+    heading: Option<u16>,
+    line: &[f32],
+    p: Point,
+) -> Option<usize>
     requires { c.line_len ≤ capacity (length line.now) }
     ensures { (s : State) → result ≡ join_with heading (held c.line_len line.now) p
         (with_course c (with_auto_follow auto_follow s)) }

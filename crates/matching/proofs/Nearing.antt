@@ -1,6 +1,5 @@
 -- A match elsewhere on the line. Assumes nothing.
 use mathlib.Core.Path.{◌≡◌, sym, ap, ◌∙◌}
-use Prim.Native.Nat.{◌-◌}
 use mathlib.Core.Bool.{true, false}
 use lib.Ieee.{lt}
 use Rattle.segments.specs.declared.costs.Nearest.{Nearest}

@@ -1,11 +1,10 @@
 -- The followed line, and the way on along it. Document 01, "Guide and event"; homing.rs, `nearest`, `update`.
-use Rattle.std.specs.Prelude.{◌-◌, Bool, true, false, ◌||◌, List, length, Float, Option}
+use Rattle.std.specs.Prelude.{◌-◌, Bool, true, false, ◌||◌, List, length, Option}
 use Rattle.std.specs.Float.Ieee.{lt}
 use Rattle.binary32.specs.Arithmetic.{◌⊕◌, ◌⊖◌}
 use Rattle.binary32.specs.Limits.{max_zero}
 use Rattle.plane.specs.declared.Point.{Point}
 use Rattle.crumbs.specs.declared.Crumb.{Crumb}
-use Rattle.crumbs.specs.Crumb.{point}
 use Rattle.segments.specs.declared.costs.Nearest.{Nearest}
 use Rattle.search.specs.declared.Range.{Range}
 use Rattle.search.specs.declared.course_match.Progress.{Progress}
@@ -15,7 +14,6 @@ use Rattle.search.specs.Along.{at_along}
 use Rattle.state.specs.declared.Line.{Line}
 use Rattle.state.specs.declared.Line.TheVariants as line
 use Rattle.state.specs.declared.Mode.TheVariants as mode
-use Rattle.state.specs.declared.Course.{Course}
 use Rattle.state.specs.State.{State}
 use Rattle.matching.specs.declared.followed.Way.{Way}
 use Rattle.matching.specs.Distances.{off_m, lookahead_m}

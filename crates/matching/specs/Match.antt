@@ -3,7 +3,6 @@ use Rattle.std.specs.Prelude.{ℕ, ◌+◌, ◌-◌, min, max, Bool, true, false
 use Rattle.std.specs.Float.{nan, inf, fin}
 use Rattle.std.specs.Float.Ieee.{lt, le}
 use Rattle.plane.specs.declared.Point.{Point}
-use Rattle.crumbs.specs.Crumb.{point}
 use Rattle.motion.specs.Heading.{elapsed}
 use Rattle.segments.specs.declared.costs.Nearest.{Nearest}
 use Rattle.search.specs.declared.Range.{Range}

@@ -136,7 +136,11 @@ fn meets(a: Crumb, b: Crumb, p: Point, end: usize) -> Nearest
 }
 
 // The best so far, or `near` where that costs less.
-pub fn cheaper(best: Option<(Nearest, f32)>, near: Nearest, cost: Option<f32>) -> Option<(Nearest, f32)>
+pub fn cheaper(
+    best: Option<(Nearest, f32)>,
+    near: Nearest,
+    cost: Option<f32>,
+) -> Option<(Nearest, f32)>
     ensures { result ≡ cheaper best near cost }
 {
     let Some(metres) = cost else {

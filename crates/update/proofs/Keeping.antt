@@ -9,7 +9,6 @@ use lib.Ieee.{Float, lt}
 use Rattle.plane.specs.declared.Point.{Point}
 use Rattle.std.specs.Prelude.{Option, Some, None}
 use Rattle.crumbs.specs.declared.Crumb.{Crumb}
-use Rattle.crumbs.specs.Crumb.{crumbs}
 use Rattle.crumbs.proofs.Crumbs.{length-crumbs}
 use Rattle.segments.specs.declared.costs.Nearest.{Nearest}
 use Rattle.matching.specs.Distances.{drop_m}

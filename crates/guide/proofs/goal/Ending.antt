@@ -1,9 +1,7 @@
 -- The course's end. Assumes nothing.
 use mathlib.Core.Path.{◌≡◌, refl}
 use mathlib.Core.List.{List, [], ◌∷◌}
-use Rattle.state.specs.declared.Course.{Course}
 use Rattle.guide.specs.Goal.{goal_on}
-use Prim.Native.Nat.{◌-◌}
 use Rattle.plane.specs.declared.Point.{Point}
 use Rattle.crumbs.specs.declared.Crumb.{Crumb}
 use Rattle.crumbs.specs.Along.{start_of}

@@ -1,7 +1,7 @@
 -- `update::matched_at` meets its contract.
 use mathlib.Core.Path.{refl, ap, ◌∙◌}
 use mathlib.Core.Bool.{Bool}
-use Rattle.matching.specs.Match.{off_event, due}
+use Rattle.matching.specs.Match.{off_event}
 use Rattle.update.proofs.Matching.{matches}
 use Rattle.update.proofs.matched_at.Goals as goal
 

@@ -1,5 +1,4 @@
 -- `guide::goal::some_near` meets its contract: the ends below decide.
-use Prim.Native.Nat.{◌-◌}
 use mathlib.Core.Path.{refl, sym, ◌∙◌}
 use native.Mathlib.Omega.{arith}
 use Rattle.guide.proofs.goal.Nearing.{some-here, some_below, some_out}

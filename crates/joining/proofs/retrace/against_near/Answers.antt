@@ -3,7 +3,7 @@ use native.Mathlib.Omega.{arith}
 use lib.Ieee.{of_bits}
 use Rattle.binary32.specs.Arithmetic.{constant}
 use Rattle.crumbs.specs.Crumb.{crumbs}
-use Rattle.joining.specs.Retrace.{retrace_m, backwards}
+use Rattle.joining.specs.Retrace.{retrace_m}
 use Rattle.joining.proofs.retrace.Turning.{on_line, nothing-near, near-against, far-off}
 use Rattle.joining.proofs.retrace.against_near.Goals as goal
 

@@ -6,7 +6,7 @@ use Rattle.binary32.specs.Arithmetic.{constant}
 use Rattle.crumbs.specs.Crumb.{crumbs}
 use Rattle.std.specs.Prelude.{Option}
 use Rattle.segments.specs.declared.costs.Nearest.{Nearest}
-use Rattle.joining.specs.Retrace.{retrace_skip_m, against_near}
+use Rattle.joining.specs.Retrace.{retrace_skip_m}
 use Rattle.segments.specs.Inner.{InLine}
 use Rattle.joining.proofs.retrace.Turning.{before-in-line, no-heading, too_short, long-enough, ends-few}
 use Rattle.joining.proofs.retrace.rides_back.Goals as goal
