@@ -6,6 +6,8 @@ use Rattle.plane.specs.declared.Point.{Point}
 use Rattle.plane.specs.Plane.{distance}
 use Rattle.crumbs.specs.declared.Crumb.{Crumb}
 use Rattle.crumbs.specs.Along.{recorded_m, start_of}
+use Rattle.state.specs.declared.Ahead.{Ahead}
+use Rattle.state.specs.declared.Back.{Back}
 use Rattle.state.specs.declared.Line.{Line}
 use Rattle.state.specs.declared.Line.TheVariants as line
 use Rattle.state.specs.declared.Follow.{Follow}
@@ -24,10 +26,6 @@ unfoldable pub following_course : State → Bool
 following_course s = on_course s.follow.line
 
 -- the way on: the line's first `end` points, and then the point where the rider is, if matched yet
-pub record Ahead : Type 0 where
-  pub end : ℕ
-  pub point : Option Point
-
 unfoldable pub ahead_of : Follow → Ahead
 ahead_of f = record { end = f.segment; point = f.matched }
 
@@ -50,10 +48,6 @@ unfoldable pub route_home : State → Option Ahead
 route_home s = route_home_on s.follow.line s.follow
 
 -- `way_back`: metres straight to the start, and back over the track, each toward zero
-pub record Back : Type 0 where
-  pub direct : ℕ
-  pub track : ℕ
-
 unfoldable pub way_back_from : Option Point → List Crumb → Option Back
 way_back_from None l = None
 way_back_from (Some p) [] = None

@@ -2,6 +2,7 @@
 // tested before anything is read by it, and the numbers behind what is held are never read.
 
 ghost use Rattle.std.specs.Prelude.{◌≡◌, ◌&&◌, ◌≤◌, leb, length};
+ghost use Rattle.refusal.specs.Refusal.{asked};
 ghost use Rattle.crumbs.specs.Crumb.{capacity, crumbs as held_crumbs};
 ghost use Rattle.trail.specs.Trail.{window_places};
 ghost use Rattle.trail.specs.View.{places};
@@ -9,6 +10,7 @@ ghost use Rattle.calls.specs.Questions.{question1, places_fit, crumbs_fit, segme
 ghost use Rattle.questions.specs.Counted.{turned};
 
 use crate::limits;
+use refusal::Refusal;
 use state::Line;
 use trail::Trail;
 
@@ -95,15 +97,14 @@ pub fn retrace_fits(t: Trail) -> bool
 
 // ---- 10, then 4
 
-// The answer of question 10 and, where that is a yes, of question 4.
-pub fn ten_then_four(ten: bool, four: bool) -> u8
-    ensures { result ≡ (unless ten 10 or_else unless four 4) }
+pub fn ten_then_four(ten: bool, four: bool) -> Result<(), Refusal>
+    ensures { asked result ≡ (unless ten 10 or_else unless four 4) }
 {
     if !ten {
-        return 10;
+        return Err(Refusal::State);
     }
     if !four {
-        return 4;
+        return Err(Refusal::LineBuffer);
     }
-    0
+    Ok(())
 }

@@ -1,5 +1,5 @@
-// The questions put to a call. Each `asks` answers the number of the first one that says no, 0 where
-// none does. What they ask of less than the whole state is in `limits`, `counts` and `globe`.
+// The questions put to a call. Each `asks` refuses by the first one that says no. What they ask of less than the whole state is in `limits`,
+// `counts` and `globe`.
 #![tactic(auto)]
 
 pub mod counts;
@@ -7,6 +7,7 @@ pub mod globe;
 pub mod limits;
 
 ghost use Rattle.std.specs.Prelude.{◌≡◌, ◌&&◌, List, Float, length};
+ghost use Rattle.refusal.specs.Refusal.{asked};
 ghost use Rattle.state.specs.State.{state_of};
 ghost use Rattle.calls.specs.Questions.{spot_fits, state_fits, asks_state, asks_crumbs, asks_line, asks_both};
 ghost use Rattle.questions.specs.Counted.{counted};
@@ -14,6 +15,7 @@ ghost use Rattle.questions.specs.Counted.{counted};
 use lap::Lap;
 use motion::Motion;
 use plane::Point;
+use refusal::Refusal;
 use state::{Course, Follow, Homing};
 use trail::Trail;
 
@@ -43,8 +45,8 @@ fn spots_fit(here: Option<Point>, m: Motion, f: Follow, c: Course, l: Lap) -> bo
 }
 
 // The counts, then the numbers.
-fn state_fits(h: Homing) -> bool
-    ensures { (b : List Float) → result ≡ state_fits (state_of h b) }
+fn state_fits(h: &Homing) -> bool
+    ensures { (b : List Float) → result ≡ state_fits (state_of h.now b) }
 {
     let t = h.trail;
     let m = h.motion;
@@ -70,31 +72,31 @@ fn state_fits(h: Homing) -> bool
 // ---- the questions a call is asked, by what it is given
 
 // The state alone.
-pub fn asks_state(h: Homing) -> u8
-    ensures { (b : List Float) → result ≡ asks_state (state_of h b) }
+pub fn asks_state(h: &Homing) -> Result<(), Refusal>
+    ensures { (b : List Float) → asked result ≡ asks_state (state_of h.now b) }
 {
     if state_fits(h) {
-        return 0;
+        return Ok(());
     }
-    10
+    Err(Refusal::State)
 }
 
 // The state and a crumb buffer.
-pub fn asks_crumbs(h: Homing, crumbs: &[f32]) -> u8
-    ensures { result ≡ asks_crumbs (length crumbs.now) (state_of h crumbs.now) }
+pub fn asks_crumbs(h: &Homing, crumbs: &[f32]) -> Result<(), Refusal>
+    ensures { asked result ≡ asks_crumbs (length crumbs.now) (state_of h.now crumbs.now) }
 {
     if !counts::question1(crumbs.len()) {
-        return 1;
+        return Err(Refusal::CrumbBuffer);
     }
     if state_fits(h) & counts::held_fits(crumbs, h.trail.len) {
-        return 0;
+        return Ok(());
     }
-    10
+    Err(Refusal::State)
 }
 
 // The state and a lent line, and `n` points for it.
-pub fn asks_line(h: Homing, line: &[f32], n: usize) -> u8
-    ensures { (b : List Float) → result ≡ asks_line line.now n (state_of h b) }
+pub fn asks_line(h: &Homing, line: &[f32], n: usize) -> Result<(), Refusal>
+    ensures { (b : List Float) → asked result ≡ asks_line line.now n (state_of h.now b) }
 {
     let ten = state_fits(h) & counts::held_fits(line, h.course.line_len);
     let four = counts::question4(line.len(), n);
@@ -102,13 +104,10 @@ pub fn asks_line(h: Homing, line: &[f32], n: usize) -> u8
 }
 
 // The state, a crumb buffer and a lent line.
-pub fn asks_both(h: Homing, crumbs: &[f32], line: &[f32]) -> u8
-    ensures { result ≡ asks_both (length crumbs.now) line.now (state_of h crumbs.now) }
+pub fn asks_both(h: &Homing, crumbs: &[f32], line: &[f32]) -> Result<(), Refusal>
+    ensures { asked result ≡ asks_both (length crumbs.now) line.now (state_of h.now crumbs.now) }
 {
-    let asked = asks_crumbs(h, crumbs);
-    if asked != 0 {
-        return asked;
-    }
+    asks_crumbs(h, crumbs)?;
     let ten = counts::held_fits(line, h.course.line_len);
     let four = counts::question4(line.len(), 0);
     counts::ten_then_four(ten, four)

@@ -2,6 +2,7 @@
 
 ghost use Rattle.std.specs.Prelude.{◌≡◌};
 ghost use Rattle.std.specs.Float.Ieee.{le};
+ghost use Rattle.refusal.specs.Refusal.{asked};
 ghost use Rattle.binary32.specs.Limits.{plus_zero};
 ghost use Rattle.calls.specs.Questions.{sized, place_fits, along_fits, factor_fits, heading_fits, guide_fits, shown_fits, spot_fits};
 ghost use Rattle.calls.specs.Questions.{crumb_fits};
@@ -10,6 +11,7 @@ ghost use Rattle.questions.specs.Sure.{least_sure, most_sure};
 
 use crumbs::Crumb;
 use plane::Point;
+use refusal::Refusal;
 use state::Guide;
 
 // A place is at most this far from the origin, east or west, north or south.
@@ -54,10 +56,7 @@ pub fn tolerance_fits(x: f32) -> bool
 pub fn heading_fits(heading: Option<u16>) -> bool
     ensures { result ≡ heading_fits heading }
 {
-    match heading {
-        Some(known) => known < plane::TURN,
-        None => true,
-    }
+    heading.is_none_or(|known| known < plane::TURN)
 }
 
 // ---- a place, a crumb
@@ -71,10 +70,7 @@ pub fn place_fits(p: Point) -> bool
 pub fn spot_fits(spot: Option<Point>) -> bool
     ensures { result ≡ spot_fits spot }
 {
-    match spot {
-        Some(p) => place_fits(p),
-        None => true,
-    }
+    spot.is_none_or(place_fits)
 }
 
 pub fn crumb_fits(c: Crumb) -> bool
@@ -117,18 +113,15 @@ fn guide_fits(g: Guide) -> bool
 pub fn shown_fits(shown: Option<Guide>) -> bool
     ensures { result ≡ shown_fits shown }
 {
-    match shown {
-        Some(g) => guide_fits(g),
-        None => true,
-    }
+    shown.is_none_or(guide_fits)
 }
 
 // A guide's own bearing and heading.
-pub fn asks_guide(g: Guide) -> u8
-    ensures { result ≡ asks_guide g }
+pub fn asks_guide(g: Guide) -> Result<(), Refusal>
+    ensures { asked result ≡ asks_guide g }
 {
     if guide_fits(g) {
-        return 0;
+        return Ok(());
     }
-    10
+    Err(Refusal::State)
 }

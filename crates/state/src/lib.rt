@@ -68,6 +68,20 @@ pub struct Guide {
     pub heading: Option<u16>,
 }
 
+// The way on: the followed line's first `end` points, and then the point where the rider is, if matched yet.
+#[derive(Clone, Copy)]
+pub struct Ahead {
+    pub end: usize,
+    pub point: Option<Point>,
+}
+
+// Metres straight to the start, and back over the track.
+#[derive(Clone, Copy)]
+pub struct Back {
+    pub direct: u32,
+    pub track: u32,
+}
+
 // The ride's first fix, from which places are counted, and metres per 1e-7 degree of longitude there.
 #[derive(Clone, Copy)]
 pub struct Frame {
