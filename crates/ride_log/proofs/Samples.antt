@@ -12,7 +12,7 @@ use Rattle.ride_log.specs.Entry.{sample_of}
 
 module _ (f : List ℕ) (at : ℕ) {n : ℕ} (flags : n ≡ byte_at f at) where
   pub place-there : {lat lon : ℤ} → n % 2 ≡ 1 → lat ≡ i32_at f (at + 4) → lon ≡ i32_at f (at + 8)
-      → Some lat lon ≡ place_at (has_place (byte_at f at)) f at
+      → Some (record { lat = lat; lon = lon }) ≡ place_at (has_place (byte_at f at)) f at
   unfolding place_at has_place
   place-there h x y = rw (← flags, eq-eqb (n % 2) 1 h, x, y)
 

@@ -3,7 +3,7 @@ use Rattle.std.specs.Prelude.{ℕ, zero, suc, ◌+◌, ◌-◌, ◌*◌, ◌/◌
 use Rattle.std.specs.Prelude.{neg_ℤ, length, get_or, take}
 use Rattle.std.specs.Prelude.{Option, Some, None}
 use Rattle.plane.specs.declared.Fix.{Fix}
-use Rattle.std.proofs.Math.ListN.{get_elem?}
+use Rattle.std.specs.List.{slice_get}
 use Rattle.ride_log.specs.declared.Kind.{Kind}
 use Rattle.ride_log.specs.declared.Kind.TheVariants.{Start, Samples, Pause, Resume, Finish, Recovered, Full}
 use Rattle.ride_log.specs.declared.Sample.{Sample}
@@ -108,4 +108,4 @@ entries f = map (entry_at f) (chain f)
 
 -- "slot k is the k-th record after record 0 along the chain below, from 0"
 unfoldable pub slot : List ℕ → ℕ → Option Entry
-slot f k = get_elem? (entries f) k
+slot f k = slice_get (entries f) k

@@ -5,7 +5,7 @@
 pub mod file_questions;
 
 ghost use Rattle.std.specs.Prelude.{◌≡◌, ◌+◌, ◌*◌, ◌^◌, ◌<◌};
-ghost use Rattle.ride_log.specs.Entry.{byte_at, u32_at, u64_at, signed as signed_of, i32_at, next_of, ride_of, kind_number, count_of};
+ghost use Rattle.ride_log.specs.Entry.{byte_at, u32_at, u64_at, i32_at, next_of, ride_of, kind_number, count_of};
 ghost use Rattle.ride_log.specs.Entry.{sample_start};
 ghost use Rattle.ride_log.specs.Entry.{kind_of, has_place, has_utc, place_at, utc_at, sample_at, sample_of, samples_of, entry_at};
 ghost use Rattle.ride_log.specs.Entry.{recovered as recovered_of};
@@ -48,61 +48,45 @@ const SAMPLE: usize = 20;
 
 // ---- numbers, little-endian
 
+#[tactic(auto, unfolding(crate::specs::Entry::byte_at))]
 fn byte_at(file: &[u8], at: usize) -> u8
     ensures { result ≡ byte_at file.now at }
 {
-    if at < file.len() {
-        return file[at];
-    }
-    0
-}
-
-fn four(b0: u8, b1: u8, b2: u8, b3: u8) -> u32
-    ensures { result ≡ b0 + 2 ^ 8 * b1 + 2 ^ 16 * b2 + 2 ^ 24 * b3 }
-{
-    (b0 as u32) + 256 * (b1 as u32) + 65536 * (b2 as u32) + 16777216 * (b3 as u32)
+    file.get(at).copied().unwrap_or(0)
 }
 
 // One test for a number that the file has whole.
+#[tactic(auto, unfolding(crate::specs::Entry::byte_at, crate::specs::Entry::u32_at))]
 fn u32_at(file: &[u8], at: usize) -> u32
     requires { at < 2 ^ 42 }
     ensures { result ≡ u32_at file.now at }
 {
     if at + 4 <= file.len() {
-        return four(file[at], file[at + 1], file[at + 2], file[at + 3]);
+        return u32::from_le_bytes([file[at], file[at + 1], file[at + 2], file[at + 3]]);
     }
-    four(
+    u32::from_le_bytes([
         byte_at(file, at),
         byte_at(file, at + 1),
         byte_at(file, at + 2),
         byte_at(file, at + 3),
-    )
+    ])
 }
 
+#[tactic(auto, unfolding(crate::specs::Entry::u64_at))]
 fn u64_at(file: &[u8], at: usize) -> u64
     requires { at < 2 ^ 41 }
     ensures { result ≡ u64_at file.now at }
 {
-    let low = u32_at(file, at) as u64;
-    let high = u32_at(file, at + 4) as u64;
-    low + 4294967296 * high
-}
-
-// Two's complement: from 2^31 on, a number stands for the one 2^32 below it.
-pub fn signed(n: u32) -> i32
-    ensures { result ≡ signed_of n }
-{
-    if n < 2147483648 {
-        return n as i32;
-    }
-    -1 - ((4294967295 - n) as i32)
+    let low = u64::from(u32_at(file, at));
+    let high = u64::from(u32_at(file, at + 4));
+    low + (high << 32)
 }
 
 fn i32_at(file: &[u8], at: usize) -> i32
     requires { at < 2 ^ 42 }
     ensures { result ≡ i32_at file.now at }
 {
-    signed(u32_at(file, at))
+    u32_at(file, at).cast_signed()
 }
 
 // ---- records
@@ -114,46 +98,57 @@ fn start_of(index: u32) -> usize
 }
 
 // The index of the record after record `index` along the chain, 0 where the chain ends.
+#[tactic(auto, unfolding(crate::specs::Entry::next_of))]
 pub fn next_of(file: &[u8], index: u32) -> u32
     ensures { result ≡ next_of file.now index }
 {
     u32_at(file, start_of(index))
 }
 
+#[tactic(auto, unfolding(crate::specs::Entry::ride_of))]
 fn ride_of(file: &[u8], index: u32) -> u32
     ensures { result ≡ ride_of file.now index }
 {
     u32_at(file, start_of(index) + 4)
 }
 
+#[tactic(auto, unfolding(crate::specs::Entry::kind_number))]
 pub fn kind_number(file: &[u8], index: u32) -> u8
     ensures { result ≡ kind_number file.now index }
 {
     byte_at(file, start_of(index) + 8)
 }
 
+#[tactic(auto, unfolding(crate::specs::Entry::count_of))]
 fn count_of(file: &[u8], index: u32) -> u8
     ensures { result ≡ count_of file.now index }
 {
     byte_at(file, start_of(index) + 9)
 }
 
-fn kind_of(number: u8) -> Kind
-    ensures { result ≡ kind_of number }
-{
-    match number {
-        1 => Kind::Start,
-        2 => Kind::Samples,
-        3 => Kind::Pause,
-        4 => Kind::Resume,
-        5 => Kind::Finish,
-        6 => Kind::Recovered,
-        _ => Kind::Full,
+// A number of no kind is refused by question 8 before, and read as `Full`.
+impl From<u8> for Kind {
+    ghost from_gives = { λ number kind. kind ≡ kind_of number };
+
+    #[tactic(auto, using(crate::proofs::KindNumbers::last_kind), unfolding(crate::specs::Entry::kind_of))]
+    fn from(number: u8) -> Kind
+        ensures { result ≡ kind_of number }
+    {
+        match number {
+            1 => Kind::Start,
+            2 => Kind::Samples,
+            3 => Kind::Pause,
+            4 => Kind::Resume,
+            5 => Kind::Finish,
+            6 => Kind::Recovered,
+            _ => Kind::Full,
+        }
     }
 }
 
 // ---- samples
 
+#[tactic(auto, unfolding(crate::specs::Entry::place_at, crate::specs::Entry::has_place))]
 fn place_at(file: &[u8], at: usize) -> Option<Fix>
     requires { at < 2 ^ 40 }
     ensures { result ≡ place_at (has_place (byte_at file.now at)) file.now at }
@@ -167,6 +162,7 @@ fn place_at(file: &[u8], at: usize) -> Option<Fix>
     None
 }
 
+#[tactic(auto, unfolding(crate::specs::Entry::utc_at, crate::specs::Entry::has_utc))]
 fn utc_at(file: &[u8], at: usize) -> Option<u64>
     requires { at < 2 ^ 40 }
     ensures { result ≡ utc_at (has_utc (byte_at file.now at)) file.now at }
@@ -177,6 +173,7 @@ fn utc_at(file: &[u8], at: usize) -> Option<u64>
     None
 }
 
+#[tactic(auto, unfolding(crate::specs::Entry::sample_at))]
 fn sample_at(file: &[u8], at: usize) -> Sample
     requires { at < 2 ^ 40 }
     ensures { result ≡ sample_at file.now at }
@@ -196,6 +193,7 @@ fn sample_start(index: u32, k: u8) -> usize
 }
 
 // The place of sample `k`.
+#[tactic(auto, unfolding(crate::specs::Entry::sample_at))]
 fn place_of(file: &[u8], index: u32, k: u8) -> Option<Fix>
     requires { k < 4 }
     ensures { result ≡ (sample_at file.now (sample_start index k)).place }
@@ -204,6 +202,7 @@ fn place_of(file: &[u8], index: u32, k: u8) -> Option<Fix>
 }
 
 // Sample `k`, where the record's count reaches it.
+#[tactic(auto, unfolding(crate::specs::Entry::sample_of, crate::specs::Entry::no_sample))]
 fn sample_of(file: &[u8], index: u32, k: u8) -> Sample
     requires { k < 4 }
     ensures { result ≡ sample_of file.now index k }
@@ -217,9 +216,11 @@ fn sample_of(file: &[u8], index: u32, k: u8) -> Sample
     }
 }
 
+#[tactic(auto, unfolding(crate::specs::Entry::samples_of))]
 fn samples_of(file: &[u8], index: u32) -> [Sample; 4]
     ensures { result ≡ samples_of file.now index }
 {
+    // Four calls are as plain as a closure over 0 to 3.
     [
         sample_of(file, index, 0),
         sample_of(file, index, 1),
@@ -229,18 +230,20 @@ fn samples_of(file: &[u8], index: u32) -> [Sample; 4]
 }
 
 // The entry of record `index`. Samples past its count, and what their flags lack, are not read.
+#[tactic(auto, unfolding(crate::specs::Entry::entry_at))]
 pub fn entry_at(file: &[u8], index: u32) -> Entry
     ensures { result ≡ entry_at file.now index }
 {
     Entry {
         ride: ride_of(file, index),
-        kind: kind_of(kind_number(file, index)),
+        kind: Kind::from(kind_number(file, index)),
         count: count_of(file, index),
         samples: samples_of(file, index),
     }
 }
 
 // The ride that a restart cut short.
+#[tactic(auto, unfolding(crate::specs::Entry::recovered))]
 pub fn recovered(file: &[u8]) -> u32
     ensures { result ≡ recovered_of file.now }
 {

@@ -96,7 +96,7 @@ fn i32_at(words: &[u64], i: usize) -> i32
     requires { i < length words.now }
     ensures { result ≡ signed_at words.now i }
 {
-    ride_log::signed(u32_at(words, i))
+    u32_at(words, i).cast_signed()
 }
 
 fn point_at(numbers: &[f32], j: usize) -> Point

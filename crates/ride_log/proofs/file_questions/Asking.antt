@@ -18,13 +18,29 @@ use mir.Val.{to_z, of_z}
 use mir.ValLaws.{to_z-of_z}
 use Rattle.std.specs.Prelude.{Option, Some}
 use Rattle.plane.specs.declared.Fix.{Fix}
-use Rattle.calls.specs.Questions.{asks_fix, ◌or_else◌}
+use Rattle.refusal.specs.declared.Refusal.{Refusal}
+use Rattle.refusal.specs.declared.Refusal.TheVariants as refusal
+use Rattle.refusal.specs.Refusal.{number}
+use Rattle.calls.specs.Questions.{◌or_else◌}
 use Rattle.ride_log.specs.Entry.{next_of, record_count, records_from, chain, count_of, sample_start, sample_at, no_sample, sample_of}
 use Rattle.ride_log.specs.Entry.{samples_of, used, kind_number, entry_at}
 use Rattle.calls.specs.Calls.{asks_place}
 use Rattle.ride_log.specs.Questions.{question6, question7, question8, asks_samples, asks_entry, asks_record, asks_records, asks_chain}
 use Rattle.ride_log.specs.Questions.{asks_file}
 use Rattle.ride_log.proofs.file_questions.Chain.{ends, steps-are}
+
+-- ---- refusals
+pub refused : (q : Refusal) → number q ≢ 0
+refused refusal.CrumbBuffer e = absurd (omega arith)
+refused refusal.Latitude e = absurd (omega arith)
+refused refusal.Longitude e = absurd (omega arith)
+refused refusal.LineBuffer e = absurd (omega arith)
+refused refusal.SampleCount e = absurd (omega arith)
+refused refusal.FileLength e = absurd (omega arith)
+refused refusal.Chain e = absurd (omega arith)
+refused refusal.EntryKind e = absurd (omega arith)
+refused refusal.Thinning e = absurd (omega arith)
+refused refusal.State e = absurd (omega arith)
 
 -- ---- the count of steps
 ends-out : (n count : ℕ) (f : List ℕ) (r : ℕ) → r ≢ 0 → count ≤ r → ends n count f r ≡ false
@@ -33,13 +49,10 @@ ends-out zero count f r h k = refl
 ends-out (suc n) count f zero h k = absurd (h refl)
 ends-out (suc n) count f (suc r) h k = rw (le-ltb (suc r) count k)
 
-ends_on : (n count : ℕ) (f : List ℕ) (r : ℕ) → 0 < n → r ≢ 0 → r < count → ends n count f r ≡ ends (n - 1) count f (next_of f r)
+ends_on : (n count : ℕ) (f : List ℕ) (r : ℕ) → r ≢ 0 → r < count → ends (suc n) count f r ≡ ends n count f (next_of f r)
 unfolding ends
-ends_on zero count f r p h k = absurd (omega arith)
-ends_on (suc n) count f zero p h k = absurd (h refl)
-ends_on (suc n) count f (suc r) p h k =
-    let e : suc n - 1 ≡ n = omega arith in
-    rw (lt-ltb (suc r) count k, e)
+ends_on n count f zero h k = absurd (h refl)
+ends_on n count f (suc r) h k = rw (lt-ltb (suc r) count k)
 
 ends-over : (n count : ℕ) (f : List ℕ) (r : ℕ) → 0 < n → r ≡ 0 → ends n count f r ≡ true
 unfolding ends
@@ -59,8 +72,10 @@ pub stepping-start : (f : List ℕ) (count : ℕ) {index : ℕ} → index ≡ ne
 stepping-start f count {index} e = record { rest = ap (ends count count f) e }
 
 module _ {f : List ℕ} {count index left : ℕ} (before : Stepping f count index left) where
-  pub stepping-next : {next : ℕ} → 0 < left → index ≢ 0 → index < count → next ≡ next_of f index → Stepping f count next (left - 1)
-  stepping-next p h k e = record { rest = ap (ends (left - 1) count f) e ∙ sym (ends_on left count f index p h k) ∙ before.rest }
+  pub stepping-next : {next after : ℕ} → left ≡ suc after → index ≢ 0 → index < count → next ≡ next_of f index
+      → Stepping f count next after
+  stepping-next {after = after} p h k e =
+      record { rest = ap (ends after count f) e ∙ sym (ends_on after count f index h k) ∙ (rw p at before.rest) }
 
   module _ (counted : count ≡ record_count f) (some : 1 ≤ count) where
     is : ends left count f index ≡ question7 f
@@ -76,13 +91,10 @@ module _ {f : List ℕ} {count index left : ℕ} (before : Stepping f count inde
     stepping-none h = sym (ends-none left count f index h) ∙ is
 
 -- ---- the records along the chain
-walk-on : (n : ℕ) (f : List ℕ) (r : ℕ) → 0 < n → r ≢ 0 → records_from n f r ≡ r ∷ records_from (n - 1) f (next_of f r)
+walk-on : (n : ℕ) (f : List ℕ) (r : ℕ) → r ≢ 0 → records_from (suc n) f r ≡ r ∷ records_from n f (next_of f r)
 unfolding records_from
-walk-on zero f r p h = absurd (omega arith)
-walk-on (suc n) f zero p h = absurd (h refl)
-walk-on (suc n) f (suc r) p h =
-    let e : suc n - 1 ≡ n = omega arith in
-    rw e
+walk-on n f zero h = absurd (h refl)
+walk-on n f (suc r) h = refl
 
 walk-over : (n : ℕ) (f : List ℕ) (r : ℕ) → r ≡ 0 → records_from n f r ≡ []
 unfolding records_from
@@ -101,15 +113,14 @@ pub walking_start : (f : List ℕ) (count : ℕ) {index : ℕ} → index ≡ nex
 walking_start f count {index} e = record { rest = ap (λ r. asks_records f (records_from count f r)) e }
 
 module _ {f : List ℕ} {count index left : ℕ} (before : Walking f count index left) where
-  split : 0 < left → index ≢ 0
-      → (asks_record f index or_else asks_records f (records_from (left - 1) f (next_of f index)))
-      ≡ asks_records f (records_from count f (next_of f 0))
-  unfolding asks_records
-  split p h = sym (ap (asks_records f) (walk-on left f index p h)) ∙ before.rest
+  module _ {after : ℕ} (p : left ≡ suc after) (h : index ≢ 0) where
+    split : (asks_record f index or_else asks_records f (records_from after f (next_of f index)))
+        ≡ asks_records f (records_from count f (next_of f 0))
+    unfolding asks_records
+    split = sym (ap (asks_records f) (walk-on after f index h)) ∙ (rw p at before.rest)
 
-  pub walking-next : {n next : ℕ} → 0 < left → index ≢ 0 → n ≡ asks_record f index → n ≡ 0 → next ≡ next_of f index
-      → Walking f count next (left - 1)
-  walking-next p h e z to = record { rest = rw to (sym (rw (← e, z)) ∙ split p h) }
+    pub walking-next : {next : ℕ} → 0 ≡ asks_record f index → next ≡ next_of f index → Walking f count next after
+    walking-next e to = record { rest = rw to (sym (rw (← e)) ∙ split) }
 
   module _ (counted : count ≡ record_count f) where
     all : asks_records f (records_from count f (next_of f 0)) ≡ asks_records f (chain f)
@@ -117,7 +128,7 @@ module _ {f : List ℕ} {count index left : ℕ} (before : Walking f count index
     all = ap (λ n. asks_records f (records_from n f (next_of f 0))) counted
 
     pub walking-no : {n : ℕ} → 0 < left → index ≢ 0 → n ≡ asks_record f index → n ≢ 0 → n ≡ asks_records f (chain f)
-    walking-no {n} p h e ne = sym (rw (← e, ne_eqb n 0 ne)) ∙ split p h ∙ all
+    walking-no {n} p h e ne = sym (rw (← e, ne_eqb n 0 ne)) ∙ split {after = left - 1} (omega arith) h ∙ all
 
     pub walking-over : index ≡ 0 → 0 ≡ asks_records f (chain f)
     unfolding asks_records
@@ -126,16 +137,6 @@ module _ {f : List ℕ} {count index left : ℕ} (before : Walking f count index
     pub walking-none : left ≤ 0 → 0 ≡ asks_records f (chain f)
     unfolding asks_records
     walking-none h = sym (ap (asks_records f) (walk_none left f index h)) ∙ before.rest ∙ all
-
--- ---- a place
-pub place-asked : (p : Option Fix) (lat lon : ℤ) {n : ℕ} → p ≡ Some lat lon → mag lat < 2 ^ 31 → mag lon < 2 ^ 31
-    → n ≡ asks_fix (record { lat = to_z w32 (of_z w32 lat); lon = to_z w32 (of_z w32 lon) }) → n ≡ asks_place p
-unfolding asks_place
-place-asked p lat lon is x y e =
-    e
-    ∙ ap₂ (λ a b. asks_fix (record { lat = a; lon = b })) (to_z-of_z w32 lat (record { sfits = x }))
-    (to_z-of_z w32 lon (record { sfits = y }))
-    ∙ sym (ap asks_place is)
 
 -- ---- the samples that are used
 module _ (f : List ℕ) (r : ℕ) {count : ℕ} (told : count ≡ count_of f r) where
@@ -181,29 +182,6 @@ module _ {f : List ℕ} {r count k : ℕ} (before : Using f r count k) (told : c
   using-end h =
       let none : count - k ≡ 0 = omega arith in
       sym (rw none) ∙ before.rest ∙ ap asks_samples (all-used f r told)
-
--- ---- an entry's count, then its places
-module _ (f : List ℕ) (r : ℕ) {count : ℕ} (told : count ≡ count_of f r) where
-  pub entry-count : 4 < count → 5 ≡ asks_entry (entry_at f r)
-  unfolding asks_entry entry_at
-  entry-count h = sym (rw (← told, lt-leb count 4 h))
-
-  pub entry-places : {n : ℕ} → count ≤ 4 → n ≡ asks_samples (used (entry_at f r)) → n ≡ asks_entry (entry_at f r)
-  unfolding asks_entry entry_at
-  entry-places h asked = asked ∙ sym (rw (← told, le-leb count 4 h))
-
--- ---- a record's kind, then its entry
-module _ (f : List ℕ) (r : ℕ) {kind : ℕ} {fits : Bool} (number : kind ≡ kind_number f r) (known : fits ≡ question8 kind) where
-  told : question8 (kind_number f r) ≡ fits
-  told = sym (known ∙ ap question8 number)
-
-  pub record-kind : not fits ≡ true → 8 ≡ asks_record f r
-  unfolding asks_record
-  record-kind h = sym (rw (told, not-true fits h))
-
-  pub record-entry : {n : ℕ} → not fits ≡ false → n ≡ asks_entry (entry_at f r) → n ≡ asks_record f r
-  unfolding asks_record
-  record-entry h asked = asked ∙ sym (rw (told, not-false fits h))
 
 -- ---- the file: its size, its chain, its records
 module _ (f : List ℕ) where

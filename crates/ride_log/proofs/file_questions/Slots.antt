@@ -8,7 +8,8 @@ use mathlib.Core.List.{List, [], ◌∷◌, map, nil≢cons, cons≢nil, head-eq
 use native.Mathlib.Numerals.{add-one}
 use borrow.Author.Tests.{eq-eqb}
 use lib.Dec.{eqb}
-use lib.ListN.{drop, get_elem?}
+use lib.ListN.{drop}
+use Rattle.std.specs.List.{slice_get}
 use Rattle.calls.specs.Questions.{unless}
 use Rattle.ride_log.specs.Entry.{next_of, kind_number, entry_at, chain, entries, slot}
 use Rattle.ride_log.specs.Questions.{stands, question8, asks_entry, asks_record}
@@ -18,12 +19,12 @@ use Rattle.questions.proofs.Given.{neither, passed}
 
 -- ---- a list from place k on
 module _ {A : Type 0} (g : ℕ → A) where
-  elem-none : (k : ℕ) (l : List ℕ) → drop k l ≡ [] → get_elem? (map g l) k ≡ None
+  elem-none : (k : ℕ) (l : List ℕ) → drop k l ≡ [] → slice_get (map g l) k ≡ None
   elem-none k [] e = refl
   elem-none zero (x ∷ l) e = absurd (cons≢nil e)
   elem-none (suc k) (x ∷ l) e = elem-none k l e
 
-  elem-here : (k : ℕ) (l : List ℕ) {r : ℕ} {rest : List ℕ} → drop k l ≡ r ∷ rest → get_elem? (map g l) k ≡ Some (g r)
+  elem-here : (k : ℕ) (l : List ℕ) {r : ℕ} {rest : List ℕ} → drop k l ≡ r ∷ rest → slice_get (map g l) k ≡ Some (g r)
   elem-here zero [] e = absurd (nil≢cons e)
   elem-here (suc k) [] e = absurd (nil≢cons e)
   elem-here zero (x ∷ l) e = ap (λ y. Some (g y)) (head-eq_of_cons-eq e)

@@ -1,37 +1,21 @@
--- `log::file_questions::asks_records` meets its contract: the records along the chain are asked in its order.
+-- `ride_log::file_questions::asks_records` meets its contract: the records along the chain are asked in its order.
+use Rattle.std.proofs.lemmas.Result.{err_from_is_err_and}
 use native.Mathlib.Omega.{arith}
-use Rattle.ride_log.proofs.file_questions.Asking.{walking_start, walking-next, walking-no, walking-over, walking-none}
+use Rattle.ride_log.proofs.file_questions.Asking.{refused, walking-next, walking-no, walking-over, walking-none}
 use Rattle.ride_log.proofs.file_questions.asks_records.Goals as goal
 
-pub next_of-index-requires : goal.next_of-index-requires
-next_of-index-requires c = tt
-
-pub loop-left-init : goal.loop-left-init
-loop-left-init c = walking_start _ _ c.next_of-index.ensures
-
 pub returns-then-index-eq0 : goal.returns-then-index-eq0
-returns-then-index-eq0 c = walking-over c.loop-left.invariant c.requires c.if-index-eq0.true
+returns-then-index-eq0 c = walking-over c.loop-step.invariant c.requires c.if-index-eq0.true
 
-pub asks_record-asked-requires : goal.asks_record-asked-requires
-asks_record-asked-requires c = tt
+pub returns-in_err-asks_record : goal.returns-in_err-asks_record
+returns-in_err-asks_record c =
+    let p = err_from_is_err_and c.from_residual.result c.from_residual.ensures.1 in
+    rw (p.1, p.2)
+    (walking-no c.loop-step.invariant c.requires (omega arith) c.if-index-eq0.false c.in_err-asks_record.ensures (refused _))
 
-pub returns-then-asked-ne0 : goal.returns-then-asked-ne0
-returns-then-asked-ne0 c =
-    walking-no c.loop-left.invariant c.requires
-    c.loop-left-test.true c.if-index-eq0.false c.asks_record-asked.ensures c.if-asked-ne0.true
-
-pub next_of-index-requires-in-loop-left : goal.next_of-index-requires-in-loop-left
-next_of-index-requires-in-loop-left c = tt
-
-pub overflow_sub-left : goal.overflow_sub-left
-overflow_sub-left c = omega arith
-
-pub loop-left-smaller : goal.loop-left-smaller
-loop-left-smaller c = omega arith
-
-pub loop-left-preserved : goal.loop-left-preserved
-loop-left-preserved c = walking-next c.loop-left.invariant c.loop-left-test.true
-    c.if-index-eq0.false c.asks_record-asked.ensures c.if-asked-ne0.false c.next_of-index-in-loop-left.ensures
+pub loop-step-preserved : goal.loop-step-preserved
+loop-step-preserved c =
+    walking-next c.loop-step.invariant (omega arith) c.if-index-eq0.false c.in_ok-asks_record.ensures c.next_of-index-in-loop-step.ensures
 
 pub returns : goal.returns
-returns c = walking-none c.loop-left.invariant c.requires c.loop-left-test.false
+returns c = walking-none c.loop-step.invariant c.requires (omega arith)
