@@ -1,5 +1,7 @@
 -- A fix taken: `observe`, `replay`, `end_replay`. Document 01, "Fix"; homing.rs.
-use Rattle.std.specs.Prelude.{ℕ, Bool, true, false, ◌&&◌, cond, List, ltb, eqb, ℤ, pos, negsuc, Option, Some, None}
+use Rattle.std.specs.Prelude.{ℕ, Bool, true, false, ◌&&◌, cond, List, ltb, Option, Some, None}
+use Rattle.std.specs.Option.{is_some}
+use Rattle.std.specs.Ordering.{int_eq}
 use Rattle.plane.specs.declared.Point.{Point}
 use Rattle.plane.specs.declared.Fix.{Fix}
 use Rattle.crumbs.specs.declared.Crumb.{Crumb}
@@ -32,10 +34,6 @@ abbrev pub still_ms : ℕ
 still_ms = 1000
 
 -- ---- a missing fix
-unfoldable pub is_at : Option Point → Bool
-is_at (Some p) = true
-is_at None = false
-
 unfoldable pub unfixed : Course → Course
 unfixed c = course_with c.line_len c.unplaced c.held c.join_fixes c.join_end c.along c.reached None
 
@@ -43,17 +41,11 @@ unfoldable pub cleared : State → State
 cleared s = with_guide None (with_course (unfixed s.course) (with_fed None (with_here None s)))
 
 unfoldable pub missing : ℕ → State → Done Event
-missing now s = done event.Nothing (cond (is_at s.here && ltb fix_lost_ms (elapsed now s.here_ms)) (cleared s) s)
+missing now s = done event.Nothing (cond (is_some s.here && ltb fix_lost_ms (elapsed now s.here_ms)) (cleared s) s)
 
 -- ---- a repeated fix
-abbrev pub eq_z : ℤ → ℤ → Bool
-eq_z (pos m) (pos n) = eqb m n
-eq_z (negsuc m) (negsuc n) = eqb m n
-eq_z (pos m) (negsuc n) = false
-eq_z (negsuc m) (pos n) = false
-
 unfoldable pub same_fix : Option Fix → Fix → Bool
-same_fix (Some fed) x = eq_z fed.lat x.lat && eq_z fed.lon x.lon
+same_fix (Some fed) x = int_eq fed.lat x.lat && int_eq fed.lon x.lon
 same_fix None x = false
 
 -- the heading taken on, in the whole state

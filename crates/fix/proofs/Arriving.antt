@@ -1,16 +1,11 @@
 -- A fix missing, or from before a restart, in the whole state. Assumes nothing.
 use mathlib.Core.Path.{◌≡◌, refl, sym, ap, ◌∙◌, subst}
-use Prim.Native.Nat.{ℕ, ◌<◌, ◌^◌, max}
+use Prim.Native.Nat.{ℕ, max}
 use mathlib.Core.Bool.{Bool, true, false, ◌&&◌, cond}
 use mathlib.Core.List.{List}
 use lib.Dec.{ltb}
-use lib.IntN.{ℤ}
 use lib.Ieee.{Float}
 use lib.ListN.{length}
-use lib.Signed.{mag}
-use mir.Syntax.{w32}
-use mir.ValLaws.{to_z-of_z}
-use Rattle.course.proofs.Fixes.{handed}
 use Rattle.plane.specs.declared.Point.{Point}
 use Rattle.crumbs.specs.Crumb.{capacity, behind}
 use Rattle.trail.specs.declared.Trail.{Trail}
@@ -34,14 +29,15 @@ use Rattle.follow.proofs.Recording.{taken-over}
 use Rattle.fix.specs.Pass.{passing}
 use Rattle.fix.specs.declared.Ridden.{Ridden}
 use Rattle.fix.specs.Ridden.{ridden, parts}
-use Rattle.follow.specs.View.{HomingFit, Changes, Follows}
+use Rattle.follow.specs.View.{Changes, Follows}
 use Rattle.course.specs.Fix.{located, framed}
-use Rattle.calls.specs.Fix.{fix_lost_ms, is_at, cleared, missing, headed, pass_only, replay}
+use Rattle.std.specs.Option.{is_some}
+use Rattle.calls.specs.Fix.{fix_lost_ms, cleared, missing, headed, pass_only, replay}
 
 -- ---- a missing fix
 module _ (now : ℕ) (h r : Homing) where
   abbrev lost_now : Bool
-  lost_now = is_at h.here && ltb fix_lost_ms (elapsed now h.here_ms)
+  lost_now = is_some h.here && ltb fix_lost_ms (elapsed now h.here_ms)
 
   tested : (t : Bool) → lost_now ≡ t → (b : List Float)
       → (missing now (state_of h b)).state ≡ cond t (cleared (state_of h b)) (state_of h b)
@@ -53,14 +49,6 @@ module _ (now : ℕ) (h r : Homing) where
 
   pub waits : lost_now ≡ false → Changes (λ s. (missing now s).state) h h
   waits e = record { same = λ b. sym (tested false e b); trail = refl }
-
-abbrev pub fix_at : ℤ → ℤ → Fix
-fix_at lat lon = record { lat = lat; lon = lon }
-
--- a fix that is handed on by its bits is the same
-pub handed-fix : (lat lon : ℤ) → mag lat < 2 ^ 31 → mag lon < 2 ^ 31 → fix_at (handed lat) (handed lon) ≡ fix_at lat lon
-handed-fix lat lon a b = ap (λ (c : ℤ). fix_at c (handed lon)) (to_z-of_z w32 lat (record { sfits = a }))
-    ∙ ap (λ (d : ℤ). fix_at lat d) (to_z-of_z w32 lon (record { sfits = b }))
 
 -- ---- a fix from before a restart
 module _ (h on grown r : Homing) (x : Fix) (now : ℕ) (f : Frame) (p : Point) (there : Homing) (entry exit : List Float) where
@@ -123,9 +111,8 @@ module _ (h : Homing) (x : Fix) (now : ℕ) (f : Frame) (p : Point) (m : Motion)
       replays h on grown whole x now f p there entry exit ef ep (λ b. refl) refl (on-it em) (grows did ew) (passes el)
 
 -- the groups are those of a state, and are put together to another
-pub replays-whole : {h r : Homing} {x y : Fix} (now : ℕ) {g n : Ridden} {w entry exit : List Float} → x ≡ y → g ≡ parts h → r ≡ ridden n w h
-    → Follows (λ C. replay C x now) (ridden g h.window h) entry (ridden n w h) exit → Follows (λ C. replay C y now) h entry r exit
-replays-whole {h = h} {r = r} {x = x} {y = y} now {n = n} {w = w} {entry = entry} {exit = exit} at apart together f =
-    subst (λ (z : Fix). Follows (λ C. replay C z now) h entry r exit) at
-    (subst (λ (t : Homing). Follows (λ C. replay C x now) h entry t exit) (sym together)
-    (subst (λ (k : Ridden). Follows (λ C. replay C x now) (ridden k h.window h) entry (ridden n w h) exit) apart f))
+pub replays-whole : {h r : Homing} (x : Fix) (now : ℕ) {g n : Ridden} {w entry exit : List Float} → g ≡ parts h → r ≡ ridden n w h
+    → Follows (λ C. replay C x now) (ridden g h.window h) entry (ridden n w h) exit → Follows (λ C. replay C x now) h entry r exit
+replays-whole {h = h} x now {n = n} {w = w} {entry = entry} {exit = exit} apart together f =
+    subst (λ (t : Homing). Follows (λ C. replay C x now) h entry t exit) (sym together)
+    (subst (λ (k : Ridden). Follows (λ C. replay C x now) (ridden k h.window h) entry (ridden n w h) exit) apart f)

@@ -10,7 +10,8 @@ ghost use Rattle.std.specs.Prelude.{◌≡◌, ◌&&◌, ltb, length};
 ghost use Rattle.trail.specs.View as trail;
 ghost use Rattle.follow.specs.View.{Changes, Follows};
 ghost use Rattle.motion.specs.Heading.{elapsed};
-ghost use Rattle.calls.specs.Fix.{fix_lost_ms, is_at, cleared, missing, replay, end_replay};
+ghost use Rattle.std.specs.Option.{is_some};
+ghost use Rattle.calls.specs.Fix.{fix_lost_ms, cleared, missing, replay, end_replay};
 ghost use Rattle.state.specs.declared.Homing.{Homing};
 ghost use Rattle.fix.specs.Pass.{passing};
 ghost use Rattle.fix.specs.Ridden.{ridden, parts};
@@ -27,20 +28,11 @@ const FIX_LOST_MS: u64 = 5_000;
 
 // ---- a missing fix
 
-fn is_at(s: Option<Point>) -> bool
-    ensures { result ≡ is_at s }
-{
-    if let Some(_) = s { true } else { false }
-}
-
 fn cleared(h: Homing) -> Homing
     ensures { Changes cleared h result }
 {
     let c = h.course;
-    let course = Course {
-        fix: None,
-        ..c
-    };
+    let course = Course { fix: None, ..c };
     Homing {
         here: None,
         fed: None,
@@ -51,13 +43,9 @@ fn cleared(h: Homing) -> Homing
 }
 
 fn lost(h: Homing, now_ms: u64) -> bool
-    ensures { result ≡ (is_at h.here && ltb fix_lost_ms (elapsed now_ms h.here_ms)) }
+    ensures { result ≡ (is_some h.here && ltb fix_lost_ms (elapsed now_ms h.here_ms)) }
 {
-    let here = h.here;
-    if is_at(here) {
-        return FIX_LOST_MS < motion::elapsed(now_ms, h.here_ms);
-    }
-    false
+    h.here.is_some() && FIX_LOST_MS < motion::elapsed(now_ms, h.here_ms)
 }
 
 pub fn missing(h: Homing, now_ms: u64) -> Homing

@@ -21,17 +21,17 @@ const STILL_MS: u64 = 1_000;
 fn same_fix(fed: Option<Fix>, fix: Fix) -> bool
     ensures { result ≡ same_fix fed fix }
 {
-    let Some(last) = fed else {
-        return false;
-    };
-    if last.lat == fix.lat {
-        return last.lon == fix.lon;
-    }
-    false
+    fed == Some(fix)
 }
 
 // Time still passes, for the heading and the reminders, but nothing is recorded.
-fn still_at(h: Guided, crumbs: &mut [f32], line: &[f32], here: Option<Point>, now_ms: u64) -> Updated
+fn still_at(
+    h: Guided,
+    crumbs: &mut [f32],
+    line: &[f32],
+    here: Option<Point>,
+    now_ms: u64,
+) -> Updated
     requires { GuidedFit h (length crumbs.old) (length line.now) }
     ensures { (w : List Float) → Updates (λ C. still_at here C (course_of (whole h w) line.now) now_ms) (whole h w)
         crumbs.old (told_in result w) crumbs.new }

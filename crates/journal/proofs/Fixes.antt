@@ -19,7 +19,8 @@ use Rattle.state.specs.State.{State, with_frame, with_here_ms, with_motion}
 use Rattle.state.specs.Rule.{Done, done}
 use Rattle.follow.specs.Engage.{cut_to, forgotten}
 use Rattle.course.specs.Fix.{located, framed}
-use Rattle.calls.specs.Fix.{fix_lost_ms, still_ms, is_at, cleared, missing, same_fix, headed, still_at, add_update, tell_following}
+use Rattle.std.specs.Option.{is_some}
+use Rattle.calls.specs.Fix.{fix_lost_ms, still_ms, cleared, missing, same_fix, headed, still_at, add_update, tell_following}
 use Rattle.calls.specs.Fix.{joined_course}
 use Rattle.calls.specs.Fix.{turned_back, engaged_back, retraced, may_retrace, joined_or_not, fix_on, arrived_at, new_fix, seen, observe}
 use Rattle.calls.specs.Fix.{pass_only}
@@ -35,7 +36,7 @@ use Rattle.journal.proofs.Updating.{update-good}
 module _ {C : ℕ} where
   missing-good : (now : ℕ) → Good C (missing now)
   unfolding missing cleared
-  missing-good now s h = by (is_at s.here && ltb fix_lost_ms (elapsed now s.here_ms))
+  missing-good now s h = by (is_some s.here && ltb fix_lost_ms (elapsed now s.here_ms))
     where
       by : (b : Bool) → Ran C (holding s.track) (done event.Nothing (cond b (cleared s) s))
       by true = still event.Nothing (cleared s) h

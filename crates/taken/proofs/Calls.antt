@@ -27,7 +27,8 @@ use Rattle.joining.specs.Join.{with_retrace, retracing}
 use Rattle.joining.specs.Retrace.{len_before, rides_back}
 use Rattle.update.specs.Update.{update}
 use Rattle.course.specs.Fix.{located}
-use Rattle.calls.specs.Fix.{fix_lost_ms, is_at, unfixed, cleared, missing, same_fix, headed, still_ms, still_at, add_update, tell_following}
+use Rattle.std.specs.Option.{is_some}
+use Rattle.calls.specs.Fix.{fix_lost_ms, unfixed, cleared, missing, same_fix, headed, still_ms, still_at, add_update, tell_following}
 use Rattle.calls.specs.Fix.{joined_course, turned_back, engaged_back, retraced, may_retrace, joined_or_not, fix_on, arrived_at, new_fix}
 use Rattle.calls.specs.Fix.{seen}
 use Rattle.calls.specs.Fix.{observe, pass_only, replay, unheaded, end_replay}
@@ -143,7 +144,7 @@ module _ (C : ℕ) (least : 3 ≤ C) (room : C ≤ most) (course : List Crumb) (
 
   missing-kept : (now : ℕ) (s : State) → K s → K (missing now s).state
   unfolding missing
-  missing-kept now s k = one_of K (is_at s.here && ltb fix_lost_ms (elapsed now s.here_ms)) (λ t. cleared-kept s k) (λ t. k)
+  missing-kept now s k = one_of K (is_some s.here && ltb fix_lost_ms (elapsed now s.here_ms)) (λ t. cleared-kept s k) (λ t. k)
 
   still-at-kept : (x : Option Point) (now : ℕ) (s : State) → Spotted x → K s → K (still_at x C course now s).state
   unfolding still_at

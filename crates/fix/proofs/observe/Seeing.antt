@@ -1,17 +1,10 @@
 -- A fix repeated or new, in the whole state. Assumes nothing.
 use mathlib.Core.Path.{◌≡◌, refl, sym, ap, ◌∙◌, subst}
-use Prim.Native.Nat.{ℕ, ◌<◌, ◌^◌}
-use native.Mathlib.Omega.{arith}
-use mathlib.Core.Bool.{Bool, true, false, ◌&&◌}
+use Prim.Native.Nat.{ℕ}
+use mathlib.Core.Bool.{true, false}
 use mathlib.Core.List.{List, []}
-use lib.Dec.{ltb, eqb}
-use lib.IntN.{ℤ, pos, negsuc}
+use lib.Dec.{ltb}
 use lib.Ieee.{Float}
-use borrow.Author.Tests.{eqb-true, eqb-false, eq-eqb}
-use lib.Signed.{mag}
-use mir.Syntax.{w32}
-use mir.Val.{to_z, of_z}
-use mir.ValLaws.{to_z-of_z}
 use Rattle.plane.specs.declared.Point.{Point}
 use Rattle.std.specs.Prelude.{Option, Some, None}
 use Rattle.plane.specs.declared.Fix.{Fix}
@@ -36,41 +29,9 @@ use Rattle.update.specs.View.{Updates, told_in}
 use Rattle.matching.proofs.Choosing.{picked, passed-by}
 use Rattle.update.proofs.Updating.{fit_same}
 use Rattle.course.specs.Fix.{located, framed}
-use Rattle.calls.specs.Fix.{still_ms, eq_z, same_fix, headed, still_at, fix_on, arrived_at, new_fix, seen}
+use Rattle.calls.specs.Fix.{still_ms, same_fix, headed, still_at, fix_on, arrived_at, new_fix, seen}
 use Rattle.fix.specs.Ready.{Ready}
 use Rattle.fix.proofs.recording.Moving.{ready-same}
-
--- ---- a repeated fix
-eq_z-same : (a b : ℤ) → a ≡ b → eq_z a b ≡ true
-eq_z-same a b e = subst (λ (x : ℤ). eq_z a x ≡ true) e (own a)
-  where
-    own : (z : ℤ) → eq_z z z ≡ true
-    own (pos n) = eq-eqb n n refl
-    own (negsuc n) = eq-eqb n n refl
-
-eq_z-is : (a b : ℤ) → eq_z a b ≡ true → a ≡ b
-eq_z-is (pos m) (pos n) e = ap pos (eqb-true m n e)
-eq_z-is (negsuc m) (negsuc n) e = ap negsuc (eqb-true m n e)
-eq_z-is (pos m) (negsuc n) e = let z : ◌≡◌ {A = ℕ} 0 1 = cc in absurd (omega (arith, z))
-eq_z-is (negsuc m) (pos n) e = let z : ◌≡◌ {A = ℕ} 0 1 = cc in absurd (omega (arith, z))
-
-eq_z-other : (a b : ℤ) → (a ≡ b → ⊥) → eq_z a b ≡ false
-eq_z-other a b n = by (eq_z a b) refl
-  where
-    by : (t : Bool) → eq_z a b ≡ t → eq_z a b ≡ false
-    by true e = absurd (n (eq_z-is a b e))
-    by false e = e
-
--- the bits of two coordinates are the same where the coordinates are
-words_same : (a b : ℤ) → mag a < 2 ^ 31 → mag b < 2 ^ 31 → of_z w32 a ≡ of_z w32 b → a ≡ b
-words_same a b f g e = sym (to_z-of_z w32 a (record { sfits = f })) ∙ ap (λ w. to_z w32 w) e ∙ to_z-of_z w32 b (record { sfits = g })
-
-words-eq : (a b : ℤ) → mag a < 2 ^ 31 → mag b < 2 ^ 31 → eqb (of_z w32 a) (of_z w32 b) ≡ eq_z a b
-words-eq a b f g = by (eqb (of_z w32 a) (of_z w32 b)) refl
-  where
-    by : (t : Bool) → eqb (of_z w32 a) (of_z w32 b) ≡ t → t ≡ eq_z a b
-    by true e = sym (eq_z-same a b (words_same a b f g (eqb-true _ _ e)))
-    by false e = sym (eq_z-other a b (λ h. eqb-false _ _ e (ap (λ z. of_z w32 z) h)))
 
 -- the state with another frame, place, clock and motion
 abbrev pub moved_as : Homing → Frame → Option Fix → Option Point → ℕ → Motion → Homing
@@ -94,7 +55,7 @@ moved_as h frame fed here now motion =
 
 -- at a new fix
 abbrev pub moved_to : Homing → Fix → ℕ → Frame → Point → Motion → Homing
-moved_to h x now f p m = moved_as h f (Some x.lat x.lon) (Some p) now m
+moved_to h x now f p m = moved_as h f (Some x) (Some p) now m
 
 -- where only the motion is another
 abbrev pub moved_on : Homing → Motion → Homing
@@ -112,32 +73,14 @@ arrives h x now {f} {p} {m} ef ep em =
       same = λ b.
           let s = with_here_ms now (state_of h b) in
           let at : Frame → Point → State =
-          λ g q. headed q now (with_here (Some q) (with_frame g (with_fed (Some x.lat x.lon) s))) in
-          ap (λ (n : Motion). with_motion n (with_here (Some p) (with_frame f (with_fed (Some x.lat x.lon) s)))) em
+          λ g q. headed q now (with_here (Some q) (with_frame g (with_fed (Some x) s))) in
+          ap (λ (n : Motion). with_motion n (with_here (Some p) (with_frame f (with_fed (Some x) s)))) em
           ∙ ap (λ (q : Point). at f q) ep
           ∙ ap (λ (g : Frame). at g (framed g x)) ef;
       trail = refl;
     }
 
-module _ (fed : Option Fix) (x : Fix) where
-  pub never-fed : fed ≡ None → false ≡ same_fix fed x
-  unfolding same_fix
-  never-fed e = sym (ap (λ (f : Option Fix). same_fix f x) e)
-
-  module _ (lat lon : ℤ) (e : fed ≡ Some lat lon) where
-    told : same_fix fed x ≡ (eq_z lat x.lat && eq_z lon x.lon)
-    unfolding same_fix
-    told = ap (λ (f : Option Fix). same_fix f x) e
-
-    pub same-lat : mag lat < 2 ^ 31 → mag lon < 2 ^ 31 → mag x.lat < 2 ^ 31 → mag x.lon < 2 ^ 31 → of_z w32 lat ≡ of_z w32 x.lat
-        → eqb (of_z w32 lon) (of_z w32 x.lon) ≡ same_fix fed x
-    same-lat f g i j a =
-        words-eq lon x.lon g j
-        ∙ sym (told ∙ ap (λ (b : Bool). b && eq_z lon x.lon) (eq_z-same lat x.lat (words_same lat x.lat f i a)))
-
-    pub other-lat : (of_z w32 lat ≡ of_z w32 x.lat → ⊥) → false ≡ same_fix fed x
-    other-lat a = sym (told ∙ ap (λ (b : Bool). b && eq_z lon x.lon) (eq_z-other lat x.lat (λ e. a (ap (λ z. of_z w32 z) e))))
-
+-- ---- a repeated fix
 module _ (here : Option Point) (C : ℕ) (course : List Crumb) (now : ℕ) (s : State) where
   pub still-nowhere : here ≡ None → still_at here C course now s ≡ done event.Nothing s
   unfolding still_at
@@ -234,13 +177,12 @@ module _ (x : Fix) (now : ℕ) (h r : Homing) (c : Changes (arrived_now x now) h
       ∙ ap (λ (s : State). fix_on h.follow.line C (course_of h line) (framed (located x h.frame) x) now s) (c.same b))
 
 -- the state without its window is seen on, and put together with it again
-pub seen-whole : {h r : Homing} {x y : Fix} (now : ℕ) (line : List Float) {g : Guided} {u : Updated} {w entry exit : List Float} → x ≡ y
+pub seen-whole : {h r : Homing} (x : Fix) (now : ℕ) (line : List Float) {g : Guided} {u : Updated} {w entry exit : List Float}
     → g ≡ guided_of h → r ≡ whole u.guided w
     → Updates (λ C. seen C (course_of (whole g h.window) line) x now) (whole g h.window) entry (told_in u w) exit
-    → Updates (λ C. seen C (course_of h line) y now) h entry (record { homing = r; event = u.event }) exit
-seen-whole {h = h} {r = r} {x = x} {y = y} now line {u = u} {w = w} {entry = entry} {exit = exit} at apart together f =
-    subst (λ (z : Fix). Updates (λ C. seen C (course_of h line) z now) h entry (record { homing = r; event = u.event }) exit) at
-    (subst (λ (t : Homing). Updates (λ C. seen C (course_of h line) x now) h entry (record { homing = t; event = u.event }) exit)
+    → Updates (λ C. seen C (course_of h line) x now) h entry (record { homing = r; event = u.event }) exit
+seen-whole {h = h} x now line {u = u} {w = w} {entry = entry} {exit = exit} apart together f =
+    subst (λ (t : Homing). Updates (λ C. seen C (course_of h line) x now) h entry (record { homing = t; event = u.event }) exit)
     (sym together)
     (subst (λ (k : Guided). Updates (λ C. seen C (course_of (whole k h.window) line) x now) (whole k h.window) entry (told_in u w) exit)
-    apart f))
+    apart f)

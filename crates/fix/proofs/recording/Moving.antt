@@ -16,7 +16,7 @@ use Rattle.state.specs.declared.Homing.{Homing}
 use Rattle.state.specs.State.{State, state_of}
 use Rattle.state.specs.Rule.{Done, done, and_then}
 use Rattle.follow.specs.declared.Answered.{Answered}
-use Rattle.follow.specs.View.{HomingFit, Asks}
+use Rattle.follow.specs.View.{Asks}
 use Rattle.follow.proofs.Recording.{max-le}
 use Rattle.guide.specs.declared.Told.{Told}
 use Rattle.update.specs.View.{Updates}

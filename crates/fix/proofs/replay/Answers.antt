@@ -3,7 +3,7 @@ use mathlib.Core.Path.{◌≡◌, sym, subst}
 use lib.ListN.{length}
 use Rattle.trail.specs.View as trail
 use Rattle.fix.specs.declared.Ridden.{Ridden}
-use Rattle.fix.proofs.Arriving.{handed-fix, replays-whole}
+use Rattle.fix.proofs.Arriving.{replays-whole}
 use Rattle.fix.proofs.replay.Goals as goal
 
 pub replay_parts-after-requires : goal.replay_parts-after-requires
@@ -14,6 +14,6 @@ replay_parts-after-requires c =
 pub returns : goal.returns
 returns c =
     let a = c.args in
-    replays-whole a.now_ms (handed-fix a.lat a.lon c.ranges.lat.sfits c.ranges.lon.sfits) c.taken_apart-g.ensures
+    replays-whole a.fix a.now_ms c.taken_apart-g.ensures
     c.put_together.ensures
     (c.replay_parts-after.ensures.follows a.h)

@@ -44,7 +44,8 @@ use Rattle.matching.specs.Match.{on_line}
 use Rattle.matching.specs.Followed.{followed, widened}
 use Rattle.guide.specs.Guide.{arrival_from, finished, direct, leave_m, arrive_m}
 use Rattle.update.specs.Update.{begun, matched_at, ended_with, at_course_end, matched_to, match_from, follow_on, update}
-use Rattle.calls.specs.Fix.{fix_lost_ms, still_ms, is_at, cleared, missing, same_fix, headed, still_at, add_update, tell_following}
+use Rattle.std.specs.Option.{is_some}
+use Rattle.calls.specs.Fix.{fix_lost_ms, still_ms, cleared, missing, same_fix, headed, still_at, add_update, tell_following}
 use Rattle.calls.specs.Fix.{joined_course}
 use Rattle.calls.specs.Fix.{turned_back, engaged_back, retraced, may_retrace, joined_or_not, fix_on, arrived_at, new_fix, seen, observe}
 use Rattle.calls.specs.Fix.{pass_only}
@@ -287,7 +288,7 @@ module _ (C : ℕ) (least : 3 ≤ C) where
 
       missing-measured : Keeps (missing now)
       unfolding missing cleared
-      missing-measured s h = one_of Measured (is_at s.here && ltb fix_lost_ms (elapsed now s.here_ms)) (λ _. h) (λ _. h)
+      missing-measured s h = one_of Measured (is_some s.here && ltb fix_lost_ms (elapsed now s.here_ms)) (λ _. h) (λ _. h)
 
       observe-measured : (x : Option Fix) → FixesOnGlobe (point_of x) → Keeps (observe C course x now)
       unfolding observe

@@ -1,16 +1,13 @@
 -- `fix::observe::new_fix` meets its contract.
-use mathlib.Core.Path.{refl, sym, ap, ◌∙◌}
+use mathlib.Core.Path.{refl}
 use lib.ListN.{length}
 use Rattle.crumbs.specs.Crumb.{capacity}
-use Rattle.state.specs.State.{state_of, with_here_ms}
+use Rattle.state.specs.State.{with_here_ms}
 use Rattle.follow.specs.View.{course_of}
-use Rattle.plane.specs.declared.Fix.{Fix}
-use Rattle.course.proofs.Fixes.{handed}
 use Rattle.calls.specs.Fix.{fix_on, new_fix}
 use Rattle.state.specs.Guided.{whole}
 use Rattle.update.specs.View.{told_in}
 use Rattle.fix.proofs.recording.Moving.{updates-after, same_len}
-use Rattle.fix.proofs.Arriving.{handed-fix}
 use Rattle.fix.proofs.observe.Seeing.{moved_to, arrives, arrived-ready, new-fix}
 use Rattle.fix.proofs.observe.new_fix.Goals as goal
 
@@ -30,14 +27,11 @@ returns c =
     let b = g.crumbs.now in
     let l = course_of h g.line.now in
     let C = capacity (length b) in
-    let y : Fix = record { lat = handed g.lat; lon = handed g.lon } in
-    let r = moved_to h y g.now_ms c.located-frame.result c.framed-p.result c.track_heading-motion.result in
-    let same = handed-fix g.lat g.lon c.ranges.lat.sfits c.ranges.lon.sfits in
+    let r = moved_to h g.fix g.now_ms c.located-frame.result c.framed-p.result c.track_heading-motion.result in
     let ef = c.located-frame.ensures in
-    let there = arrives h y g.now_ms ef c.framed-p.ensures c.track_heading-motion.ensures in
-    updates-after (λ C c. new_fix C l (record { lat = g.lat; lon = g.lon }) g.now_ms (with_here_ms g.now_ms c))
+    let there = arrives h g.fix g.now_ms ef c.framed-p.ensures c.track_heading-motion.ensures in
+    updates-after (λ C c. new_fix C l g.fix g.now_ms (with_here_ms g.now_ms c))
     (λ C. fix_on g.h.follow.line C l c.framed-p.result g.now_ms) h r b c.fix_on.new.crumbs
     (told_in c.fix_on.result c.fix_on.new.window) (same_len h r refl)
-    (sym (ap (λ (y : Fix). new_fix C l y g.now_ms (with_here_ms g.now_ms (state_of h b))) same)
-    ∙ new-fix y g.now_ms h r there g.line.now b c.framed-p.result c.framed-p.ensures ef C)
+    (new-fix g.fix g.now_ms h r there g.line.now b c.framed-p.result c.framed-p.ensures ef C)
     c.fix_on.ensures

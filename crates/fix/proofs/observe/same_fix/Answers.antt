@@ -1,18 +1,16 @@
 -- `fix::observe::same_fix` meets its contract.
-use Rattle.fix.proofs.observe.Seeing.{never-fed, same-lat, other-lat}
+use mathlib.Core.Path.{◌≡◌, refl, ◌∙◌}
+use Rattle.std.specs.Prelude.{Option, Some, None}
+use Rattle.std.specs.Option.{option_eq}
+use Rattle.plane.specs.declared.Fix.{Fix}
+use Rattle.plane.specs.contracts.FixPartialEq.TheImpl.{eq-value as derived}
+use Rattle.calls.specs.Fix.{same_fix}
 use Rattle.fix.proofs.observe.same_fix.Goals as goal
 
-pub returns-in_default : goal.returns-in_default
-returns-in_default c = never-fed _ _ c.in_default.is
-
-pub returns-then-fed_lat-lat : goal.returns-then-fed_lat-lat
-returns-then-fed_lat-lat c =
-    let known = c.in-Some.known_told-1-own.given in
-    same-lat c.args.fed (record { lat = c.args.lat; lon = c.args.lon }) c.in-Some.fed_lat
-    c.in-Some.fed_lon c.in-Some.is known.0.1 known.1.0.1 c.ranges.lat.sfits
-    c.ranges.lon.sfits c.if-fed_lat-lat.true
+same : (fed : Option Fix) (x : Fix) → option_eq derived.it fed (Some x) ≡ same_fix fed x
+unfolding same_fix
+same (Some y) x = refl
+same None x = refl
 
 pub returns : goal.returns
-returns c =
-    other-lat c.args.fed (record { lat = c.args.lat; lon = c.args.lon }) c.in-Some.fed_lat
-    c.in-Some.fed_lon c.in-Some.is c.if-fed_lat-lat.false
+returns c = c.eq.ensures ∙ same c.args.fed c.args.fix

@@ -4,7 +4,6 @@ use lib.ListN.{length}
 use Rattle.state.specs.declared.Guided.{Guided}
 use Rattle.state.specs.Guided.{whole}
 use Rattle.fix.specs.Ready.{Ready}
-use Rattle.fix.proofs.Arriving.{handed-fix}
 use Rattle.fix.proofs.observe.Seeing.{seen-whole}
 use Rattle.fix.proofs.observe.seen.Goals as goal
 
@@ -20,6 +19,6 @@ seen_on-u-requires c =
 pub returns : goal.returns
 returns c =
     let a = c.args in
-    seen-whole a.now_ms a.line.now (handed-fix a.lat a.lon c.ranges.lat.sfits c.ranges.lon.sfits)
+    seen-whole a.fix a.now_ms a.line.now
     c.without_window-g.ensures
     c.with_window.ensures c.seen_on-u.ensures

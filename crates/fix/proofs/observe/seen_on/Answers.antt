@@ -1,16 +1,14 @@
 -- `fix::observe::seen_on` meets its contract.
-use mathlib.Core.Path.{refl, sym, ap, ◌∙◌}
+use mathlib.Core.Path.{refl, sym, ◌∙◌}
 use native.Mathlib.Omega.{arith}
 use lib.ListN.{length}
 use Rattle.crumbs.specs.Crumb.{capacity}
 use Rattle.state.specs.State.{state_of, with_here_ms}
 use Rattle.follow.specs.View.{course_of}
-use Rattle.plane.specs.declared.Fix.{Fix}
-use Rattle.calls.specs.Fix.{same_fix, still_at, new_fix, seen}
+use Rattle.calls.specs.Fix.{still_at, new_fix, seen}
 use Rattle.state.specs.Guided.{whole}
 use Rattle.update.specs.View.{told_in}
 use Rattle.fix.proofs.recording.Moving.{updates-after, ready-same}
-use Rattle.fix.proofs.Arriving.{handed-fix}
 use Rattle.fix.proofs.observe.Seeing.{seen-again, seen-new}
 use Rattle.fix.proofs.observe.seen_on.Goals as goal
 
@@ -21,30 +19,24 @@ pub returns-then-same_fix : goal.returns-then-same_fix
 returns-then-same_fix c =
     let g = c.args in
     let h = whole g.h g.window.now in
-    let x : Fix = record { lat = g.lat; lon = g.lon } in
-    let same = handed-fix g.lat g.lon c.ranges.lat.sfits c.ranges.lon.sfits in
+    let x = g.fix in
     let l = course_of h g.line.now in
     let u = c.still_at in
     updates-after (λ C. seen C l x g.now_ms) (λ C. still_at g.h.here C l g.now_ms) h _ g.crumbs.now u.new.crumbs
     (told_in u.result g.window.now) (omega arith)
     (seen-again (capacity (length g.crumbs.now)) l x g.now_ms (state_of h g.crumbs.now)
-    (sym (c.same_fix.ensures ∙ ap (λ (y : Fix). same_fix g.h.fed y) same)
-    ∙ c.if-same_fix.true))
+    (sym c.same_fix.ensures ∙ c.if-same_fix.true))
     (u.ensures g.window.now)
 
 pub returns : goal.returns
 returns c =
     let g = c.args in
     let h = whole g.h g.window.now in
-    let x : Fix = record { lat = g.lat; lon = g.lon } in
-    let same = handed-fix g.lat g.lon c.ranges.lat.sfits c.ranges.lon.sfits in
+    let x = g.fix in
     let l = course_of h g.line.now in
     let u = c.new_fix in
     let C = capacity (length g.crumbs.now) in
-    let t = with_here_ms g.now_ms (state_of h g.crumbs.now) in
     updates-after (λ C. seen C l x g.now_ms) (λ C c. new_fix C l _ g.now_ms (with_here_ms g.now_ms c)) h h g.crumbs.now
     u.new.crumbs (told_in u.result u.new.window) (omega arith)
-    (seen-new C l x g.now_ms (state_of h g.crumbs.now) (sym (c.same_fix.ensures
-    ∙ ap (λ (y : Fix). same_fix g.h.fed y) same) ∙ c.if-same_fix.false)
-    ∙ sym (ap (λ (y : Fix). new_fix C l y g.now_ms t) same))
+    (seen-new C l x g.now_ms (state_of h g.crumbs.now) (sym c.same_fix.ensures ∙ c.if-same_fix.false))
     u.ensures

@@ -5,7 +5,6 @@ use mathlib.Core.List.{List, []}
 use Rattle.crumbs.specs.declared.Crumb.{Crumb}
 use Rattle.crumbs.proofs.Crumbs.{take-crumbs}
 use Rattle.trail.specs.View.{track, places}
-use Rattle.trail.specs.View as trail
 use Rattle.state.specs.State.{state_of, with_track}
 use Rattle.follow.specs.Engage.{cut_to, forgotten}
 use Rattle.calls.specs.Fix.{turned_back}
