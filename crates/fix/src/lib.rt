@@ -31,8 +31,7 @@ const FIX_LOST_MS: u64 = 5_000;
 fn cleared(h: Homing) -> Homing
     ensures { Changes cleared h result }
 {
-    let c = h.course;
-    let course = Course { fix: None, ..c };
+    let course = Course { fix: None, ..h.course };
     Homing {
         here: None,
         fed: None,
@@ -63,9 +62,8 @@ pub fn missing(h: Homing, now_ms: u64) -> Homing
 fn passing(l: Lap, p: Point, heading: Option<u16>) -> Lap
     ensures { result ≡ passing p heading l }
 {
-    let passed = l.passed;
     let mut next = lap::step_pass(l, p, heading);
-    next.passed = passed;
+    next.passed = l.passed;
     next
 }
 
@@ -83,34 +81,24 @@ pub struct Ridden {
 pub fn taken_apart(h: Homing) -> Ridden
     ensures { result ≡ parts h }
 {
-    let frame = h.frame;
-    let motion = h.motion;
-    let trail = h.trail;
-    let follow = h.follow;
-    let lap = h.lap;
     Ridden {
-        frame,
-        motion,
-        trail,
-        follow,
-        lap,
+        frame: h.frame,
+        motion: h.motion,
+        trail: h.trail,
+        follow: h.follow,
+        lap: h.lap,
     }
 }
 
 pub fn put_together(h: Homing, g: Ridden) -> Homing
     ensures { result ≡ ridden g h.window h }
 {
-    let frame = g.frame;
-    let motion = g.motion;
-    let trail = g.trail;
-    let follow = g.follow;
-    let lap = g.lap;
     let mut next = h;
-    next.frame = frame;
-    next.motion = motion;
-    next.trail = trail;
-    next.follow = follow;
-    next.lap = lap;
+    next.frame = g.frame;
+    next.motion = g.motion;
+    next.trail = g.trail;
+    next.follow = g.follow;
+    next.lap = g.lap;
     next
 }
 
@@ -132,24 +120,17 @@ pub fn replay_parts(
         (ridden result window.new h) crumbs.new }
     ensures window_len { length window.new ≡ 96 }
 {
-    let was = g.frame;
-    let frame = course::located(was, fix);
+    let frame = course::located(g.frame, fix);
     let p = course::framed(frame, fix);
-    let m = g.motion;
-    let motion = motion::track_heading(m, p, now_ms);
-    let heading = motion.heading;
-    let t = g.trail;
-    let added = trail::add(t, window, crumbs, p);
+    let motion = motion::track_heading(g.motion, p, now_ms);
+    let added = trail::add(g.trail, window, crumbs, p);
     has_its_length(*window);
-    let trail = added.trail;
-    let f = g.follow;
-    let follow = follow_parts::after_thinning(added.thinned, f);
-    let l = g.lap;
-    let lap = passing(l, p, heading);
+    let follow = follow_parts::after_thinning(added.thinned, g.follow);
+    let lap = passing(g.lap, p, motion.heading);
     Ridden {
         frame,
         motion,
-        trail,
+        trail: added.trail,
         follow,
         lap,
     }
@@ -169,11 +150,10 @@ pub fn replay(h: Homing, crumbs: &mut [f32], fix: Fix, now_ms: u64) -> Homing
 pub fn end_replay(h: Homing) -> Homing
     ensures { Changes (λ s. (end_replay s).state) h result }
 {
-    let m = h.motion;
     let motion = Motion {
         from: None,
         heading: None,
-        heading_ms: m.heading_ms,
+        heading_ms: h.motion.heading_ms,
     };
     let mut next = h;
     next.motion = motion;

@@ -29,13 +29,9 @@ fn may_retrace(
         (whole h window.old) crumbs.old (told_in result window.new) crumbs.new }
 {
     if h.auto_follow {
-        let t = h.trail;
-        let m = h.motion;
-        let heading = m.heading;
-        let b = joining::retracing(t, heading, crumbs, p);
-        let trail = b.trail;
+        let b = joining::retracing(h.trail, h.motion.heading, crumbs, p);
         let mut after = h;
-        after.trail = trail;
+        after.trail = b.trail;
         if b.yes {
             return recording::retraced(after, window, crumbs, line, p, now_ms);
         }
@@ -58,13 +54,9 @@ fn unfollowed(
     ensures { Updates (λ C. fix_on lines.Nothing C (course_of (whole h window.old) line.now) p now_ms)
         (whole h window.old) crumbs.old (told_in result window.new) crumbs.new }
 {
-    let c = h.course;
-    let m = h.motion;
-    let heading = m.heading;
-    let j = joining::joining(h.auto_follow, c, heading, line, p);
-    let course = j.course;
+    let j = joining::joining(h.auto_follow, h.course, h.motion.heading, line, p);
     let mut after = h;
-    after.course = course;
+    after.course = j.course;
     if j.yes {
         return recording::joined_course(after, window, crumbs, line, p, now_ms);
     }
@@ -84,9 +76,7 @@ pub fn fix_on(
     ensures { Updates (λ C. fix_on h.follow.line C (course_of (whole h window.old) line.now) p now_ms)
         (whole h window.old) crumbs.old (told_in result window.new) crumbs.new }
 {
-    let f = h.follow;
-    let on = f.line;
-    match on {
+    match h.follow.line {
         Line::Breadcrumb => update::update(h, crumbs, line, p, now_ms),
         Line::Course => recording::add_update(h, window, crumbs, line, p, now_ms),
         Line::Nothing => unfollowed(h, window, crumbs, line, p, now_ms),

@@ -48,9 +48,8 @@ fn still_at(
             event: Event::Nothing,
         };
     }
-    let m = h.motion;
     let mut on = h;
-    on.motion = motion::track_heading(m, p, now_ms);
+    on.motion = motion::track_heading(h.motion, p, now_ms);
     update::update(on, crumbs, line, p, now_ms)
 }
 
@@ -69,11 +68,9 @@ fn new_fix(
         (with_here_ms now_ms s)) (whole h window.old) crumbs.old (told_in result window.new)
         crumbs.new }
 {
-    let was = h.frame;
-    let frame = course::located(was, fix);
+    let frame = course::located(h.frame, fix);
     let p = course::framed(frame, fix);
-    let m = h.motion;
-    let motion = motion::track_heading(m, p, now_ms);
+    let motion = motion::track_heading(h.motion, p, now_ms);
     let there = Guided {
         here: Some(p),
         here_ms: now_ms,
@@ -99,12 +96,10 @@ fn seen_on(
         (λ C. seen C (course_of (whole h window.old) line.now) fix now_ms)
         (whole h window.old) crumbs.old (told_in result window.new) crumbs.new }
 {
-    let fed = h.fed;
-    if same_fix(fed, fix) {
-        let here = h.here;
+    if same_fix(h.fed, fix) {
         let mut on = h;
         on.here_ms = now_ms;
-        return still_at(on, crumbs, line, here, now_ms);
+        return still_at(on, crumbs, line, h.here, now_ms);
     }
     new_fix(h, window, crumbs, line, fix, now_ms)
 }
@@ -118,10 +113,8 @@ pub fn seen(h: Homing, crumbs: &mut [f32], line: &[f32], fix: Fix, now_ms: u64) 
     let g = state::without_window(h);
     let mut window = h.window;
     let u = seen_on(g, &mut window, crumbs, line, fix, now_ms);
-    let guided = u.guided;
-    let event = u.event;
     Told {
-        homing: state::with_window(guided, window),
-        event,
+        homing: state::with_window(u.guided, window),
+        event: u.event,
     }
 }

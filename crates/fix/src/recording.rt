@@ -46,9 +46,8 @@ pub fn joined_course(
 {
     let on = follow::engage_at(h, line, Line::Course, h.course.join_end, now_ms);
     let u = add_update(on, window, crumbs, line, p, now_ms);
-    let guided = u.guided;
     Updated {
-        guided,
+        guided: u.guided,
         event: Event::Following,
     }
 }
@@ -84,9 +83,8 @@ pub fn retraced(
     let engaged = e.guided;
     if e.yes {
         let u = update::update(engaged, crumbs, line, p, now_ms);
-        let guided = u.guided;
         return Updated {
-            guided,
+            guided: u.guided,
             event: Event::Following,
         };
     }

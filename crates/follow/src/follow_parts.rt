@@ -14,8 +14,7 @@ use state::{Course, Follow, Line};
 fn left(f: Follow) -> Follow
     ensures { result ≡ ended_by_thinning f.line f }
 {
-    let line = f.line;
-    match line {
+    match f.line {
         Line::Breadcrumb => Follow {
             line: Line::Nothing,
             segment: 0,
@@ -76,8 +75,7 @@ pub fn course_from(c: Course, line: &[f32], end: usize) -> Course
     requires { c.line_len ≤ capacity (length line.now) }
     ensures { result ≡ course_from (held_crumbs c.line_len line.now) end c }
 {
-    let len = c.line_len;
-    let along = along_at(line, len, end);
+    let along = along_at(line, c.line_len, end);
     Course {
         join_fixes: 0,
         along,

@@ -35,13 +35,10 @@ pub fn keep(h: Guided, crumbs: &mut [f32], p: Point) -> Guided
     requires { trail.TrailFit h.trail (length crumbs.old) }
     ensures { (w : List Float) → Follows (λ C. keep_in C p) (whole h w) crumbs.old (whole result w) crumbs.new }
 {
-    let t = h.trail;
-    let kept = trail::keep(t, crumbs, p);
-    let f = h.follow;
+    let kept = trail::keep(h.trail, crumbs, p);
     let mut next = h;
-    let trail = kept.trail;
-    next.trail = trail;
-    next.follow = follow_parts::after_thinning(kept.thinned, f);
+    next.trail = kept.trail;
+    next.follow = follow_parts::after_thinning(kept.thinned, h.follow);
     next
 }
 
@@ -50,13 +47,10 @@ pub fn add(h: Guided, window: &mut [f32; 96], crumbs: &mut [f32], p: Point) -> G
     ensures { Follows (λ C. add_in C p) (whole h window.old) crumbs.old (whole result window.new)
         crumbs.new }
 {
-    let t = h.trail;
-    let f = h.follow;
     let mut next = h;
-    let added = trail::add(t, window, crumbs, p);
-    let trail = added.trail;
-    next.trail = trail;
-    next.follow = follow_parts::after_thinning(added.thinned, f);
+    let added = trail::add(h.trail, window, crumbs, p);
+    next.trail = added.trail;
+    next.follow = follow_parts::after_thinning(added.thinned, h.follow);
     next
 }
 
@@ -65,13 +59,10 @@ pub fn flush(h: Guided, window: &[f32; 96], crumbs: &mut [f32]) -> Guided
     ensures { Follows flush_in (whole h window.now) crumbs.old (whole result window.now)
         crumbs.new }
 {
-    let t = h.trail;
-    let flushed = trail::flush(t, window, crumbs);
-    let f = h.follow;
+    let flushed = trail::flush(h.trail, window, crumbs);
     let mut next = h;
-    let trail = flushed.trail;
-    next.trail = trail;
-    next.follow = follow_parts::after_thinning(flushed.thinned, f);
+    next.trail = flushed.trail;
+    next.follow = follow_parts::after_thinning(flushed.thinned, h.follow);
     next
 }
 
@@ -83,7 +74,6 @@ pub fn engage_at(h: Guided, line: &[f32], on: Line, end: usize, now_ms: u64) -> 
     ensures { (w : List Float)
         → Changes (engage_at (course_of (whole h w) line.now) on end now_ms) (whole h w) (whole result w) }
 {
-    let was = h.course;
     let follow = Follow {
         line: on,
         segment: end,
@@ -93,7 +83,7 @@ pub fn engage_at(h: Guided, line: &[f32], on: Line, end: usize, now_ms: u64) -> 
     };
     let mut next = h;
     next.follow = follow;
-    next.course = follow_parts::course_from(was, line, end);
+    next.course = follow_parts::course_from(h.course, line, end);
     next
 }
 
@@ -103,8 +93,7 @@ pub fn engage(h: Guided, crumbs: &[f32], line: &[f32], now_ms: u64) -> Decided
     ensures { (w : List Float)
         → Asks (engage (course_of (whole h w) line.now) now_ms) (whole h w) crumbs.now (decided_in result w) }
 {
-    let t = h.trail;
-    let len = t.len;
+    let len = h.trail.len;
     if follow_parts::leads(crumbs, len) {
         let guided = engage_at(h, line, Line::Breadcrumb, len - 1, now_ms);
         return Decided { guided, yes: true };
@@ -120,11 +109,9 @@ pub fn engage(h: Guided, crumbs: &[f32], line: &[f32], now_ms: u64) -> Decided
 fn stop_course(h: Guided) -> Guided
     ensures { (w : List Float) → Changes stop_course (whole h w) (whole result w) }
 {
-    let f = h.follow;
-    let c = h.course;
     let mut next = h;
-    next.follow = follow_parts::stopped(f, None);
-    next.course = follow_parts::held_off(c);
+    next.follow = follow_parts::stopped(h.follow, None);
+    next.course = follow_parts::held_off(h.course);
     next
 }
 
@@ -132,9 +119,8 @@ fn stop_nothing(h: Guided) -> Guided
     ensures { (w : List Float) → Changes stop_nothing (whole h w) (whole result w) }
 {
     let f = h.follow;
-    let matched = f.matched;
     let mut next = h;
-    next.follow = follow_parts::stopped(f, matched);
+    next.follow = follow_parts::stopped(f, f.matched);
     next
 }
 
@@ -157,13 +143,11 @@ fn stop_breadcrumb(h: Guided, crumbs: &mut [f32]) -> Guided
     ensures { (w : List Float) → Follows stop_breadcrumb (whole h w) crumbs.old (whole result w) crumbs.new }
 {
     let f = h.follow;
-    let matched = f.matched;
-    let segment = f.segment;
     let mut forgotten = h;
     forgotten.follow = follow_parts::stopped(f, None);
     forgotten.trail.window_len = 0;
     forgotten.trail.retrace = 0;
-    leave_at(forgotten, crumbs, matched, segment)
+    leave_at(forgotten, crumbs, f.matched, f.segment)
 }
 
 // Recording resumes: the breadcrumb keeps the way home from where the rider left it, and goes on from
@@ -173,9 +157,7 @@ pub fn stop_following(h: Guided, crumbs: &mut [f32]) -> Guided
         × (h.follow.line ≡ line.Breadcrumb → h.follow.segment ≤ h.trail.len) }
     ensures { (w : List Float) → Follows stop (whole h w) crumbs.old (whole result w) crumbs.new }
 {
-    let f = h.follow;
-    let line = f.line;
-    match line {
+    match h.follow.line {
         Line::Nothing => stop_nothing(h),
         Line::Course => stop_course(h),
         Line::Breadcrumb => stop_breadcrumb(h, crumbs),

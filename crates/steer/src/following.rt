@@ -47,9 +47,7 @@ fn follow_from(
     ensures { Decides (λ C. follow_from h.follow.line C (course_of (whole h window.now) line.now) now_ms)
         (whole h window.now) crumbs.old (decided_in result window.now) crumbs.new }
 {
-    let f = h.follow;
-    let on = f.line;
-    match on {
+    match h.follow.line {
         Line::Nothing => {
             let best = way_home::near_here(h, line);
             follow_best(best, h, window, crumbs, line, now_ms)
@@ -94,9 +92,8 @@ pub fn set_following(
     let g = state::without_window(h);
     let window = h.window;
     let d = set_on(g, &window, crumbs, line, follow, now_ms);
-    let guided = d.guided;
     Answered {
-        homing: state::with_window(guided, window),
+        homing: state::with_window(d.guided, window),
         yes: d.yes,
     }
 }
@@ -111,10 +108,9 @@ fn auto_off(h: Homing, crumbs: &mut [f32]) -> Homing
 {
     if h.auto_follow {
         let g = state::without_window(h);
-        let window = h.window;
         let mut stopped = follow::stop_following(g, crumbs);
         stopped.auto_follow = false;
-        return state::with_window(stopped, window);
+        return state::with_window(stopped, h.window);
     }
     let mut next = h;
     next.auto_follow = false;

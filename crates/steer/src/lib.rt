@@ -110,29 +110,24 @@ fn awaiting(c: Course) -> Course
 pub fn reset(h: Homing) -> Homing
     ensures { Resets h result }
 {
-    let t = h.trail;
-    let forgotten = trail::reset(t);
-    let was = h.frame;
+    let forgotten = trail::reset(h.trail);
     let frame = Frame {
         origin: None,
-        ..was
+        ..h.frame
     };
-    let m = h.motion;
     let motion = Motion {
         from: None,
         heading: None,
-        ..m
+        ..h.motion
     };
-    let f = h.follow;
     let follow = Follow {
         line: Line::Nothing,
         segment: 0,
         matched: None,
         off: false,
-        ..f
+        ..h.follow
     };
-    let c = h.course;
-    let course = awaiting(c);
+    let course = awaiting(h.course);
     let lap = no_lap();
     Homing {
         trail: forgotten,
@@ -156,8 +151,7 @@ fn off_course(h: Homing) -> Homing
     ensures { Changes (off_course h.follow.line) h result }
 {
     let f = h.follow;
-    let on = f.line;
-    match on {
+    match f.line {
         Line::Course => {
             let follow = Follow {
                 line: Line::Nothing,

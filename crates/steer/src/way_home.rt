@@ -20,16 +20,17 @@ pub fn brought(h: Guided, crumbs: &mut [f32], line: &[f32], now_ms: u64) -> Deci
     ensures { (w : List Float) → Decides (λ C. brought C (course_of (whole h w) line.now) now_ms) (whole h w)
         crumbs.old (decided_in result w) crumbs.new }
 {
-    let here = h.here;
-    let Some(p) = here else {
+    let Some(p) = h.here else {
         return Decided {
             guided: h,
             yes: true,
         };
     };
     let u = update::update(h, crumbs, line, p, now_ms);
-    let guided = u.guided;
-    Decided { guided, yes: true }
+    Decided {
+        guided: u.guided,
+        yes: true,
+    }
 }
 
 // A following that began is shown; where none did the answer is no.
@@ -62,8 +63,7 @@ pub fn way_home(
 {
     let flushed = follow::flush(h, window, crumbs);
     let engaged = follow::engage(flushed, crumbs, line, now_ms);
-    let guided = engaged.guided;
-    engaged_or(engaged.yes, guided, crumbs, line, now_ms)
+    engaged_or(engaged.yes, engaged.guided, crumbs, line, now_ms)
 }
 
 // The course's nearest segment while the course is near.
@@ -71,10 +71,8 @@ pub fn near_here(h: Guided, line: &[f32]) -> Option<Nearest>
     requires { h.course.line_len ≤ capacity (length line.now) }
     ensures { (w : List Float) → result ≡ near_here h.here (course_of (whole h w) line.now) }
 {
-    let here = h.here;
-    let Some(p) = here else {
+    let Some(p) = h.here else {
         return None;
     };
-    let len = h.course.line_len;
-    search::course_near(line, len, p, distances::DROP_M)
+    search::course_near(line, h.course.line_len, p, distances::DROP_M)
 }

@@ -4,10 +4,8 @@ use Prim.Native.Nat.{ℕ, ◌-◌, ◌≤◌, ◌<◌}
 use native.Mathlib.Omega.{arith}
 use mathlib.Core.Bool.{Bool, true, false, true≢false, false≢true}
 use mathlib.Core.List.{List, []}
-use lib.Dec.{leb}
 use lib.ListN.{length}
 use lib.Ieee.{Float, le}
-use borrow.Author.Tests.{leb-true}
 use Rattle.binary32.specs.Limits.{plus_zero}
 use Rattle.std.specs.Prelude.{Option, Some, None}
 use Rattle.segments.specs.declared.costs.Nearest.{Nearest}
@@ -30,7 +28,7 @@ use Rattle.state.specs.Rule.{Done}
 use Rattle.follow.specs.declared.Answered.{Answered}
 use Rattle.follow.specs.Parts.{ended_by_thinning}
 use Rattle.follow.specs.Record.{after_thinning, recorded_in, recorded, keep_in, flush_in}
-use Rattle.follow.specs.Parts.{course_from, leads, stopped, held_off}
+use Rattle.follow.specs.Parts.{course_from, leads, stopped}
 use Rattle.follow.specs.Engage.{engage_at, engage, cut_to, leave_at, stop_nothing, stop_course, stop_breadcrumb, stop_on, stop}
 use Rattle.follow.specs.View.{HomingFit, course_of, Changes, Follows, SameHeld, Asks}
 use Rattle.follow.proofs.Engaging.{long}
