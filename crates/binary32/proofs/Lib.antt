@@ -5,11 +5,8 @@ pub mod Rounded
 pub mod Nearest
 -- `root` at some bit patterns.
 mod Examples
--- Facts on plain numbers and bit patterns that the functions' proofs share.
-mod Patterns
-mod Ranges
-mod Values
-pub mod Cases
+-- the library's root is `root`
+mod Library
 pub mod Casting
 pub mod magnitude
 pub mod roots

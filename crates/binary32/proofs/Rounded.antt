@@ -157,22 +157,17 @@ root_of-is f a c = refl
 pred-add : (p j : ℕ) → 2 ≤ p → suc (p - 1 + j) - p ≡ j
 pred-add p j h = omega arith
 
-pub rounded : (f : Format) (a c n j q : ℕ) → 0 < c → a * (2 ^ low f * 2 ^ low f) ≡ n * (2 ^ j * 2 ^ j) * c → hid f * hid f ≤ n
-    → n < 2 * hid f * (2 * hid f) → Nearest n q
-    → root_of f a c ≡ units f false q j
-rounded f a c n j q C e lo hi z =
+-- `round` at the root of n, doubled, with the scale 2 * H in it, over D: that is the root in units of 2 ^ j smallest values
+pub rounded-at : (f : Format) (n j q H D : ℕ) → 0 < H → 0 < D → D * 2 ^ j ≡ 4 * H * 2 ^ low f → hid f * hid f ≤ n
+    → n < 2 * hid f * (2 * hid f) → Nearest n q → round f false (halves (n * (2 * H * (2 * H)))) D ≡ units f false q j
+rounded-at f n j q H D P D-pos s lo hi z =
     let l = 2 ^ low f in
     let p = 2 ^ j in
     let g = hid f in
-    let H = c * p in
-    let P : 0 < H = mul-pos C (pow_pos j) in
     let L : 0 < l = pow_pos (low f) in
     let m = halves (n * (2 * H * (2 * H))) in
-    let D = 2 * (c * (2 * l)) in
-    let D-pos : 0 < D = mul-pos (zero-lt-suc 1) (mul-pos C (mul-pos (zero-lt-suc 1) L)) in
     let G : 0 < g = pow_pos (prec f - 1) in
     let Q : 0 < q = pos_of q n z.0 z.1 (lt_of_lt_of_le (mul-pos G G) lo) in
-    let s : D * p ≡ 4 * H * l = regroup c l p in
     let top : (k : ℕ) → k * p * D ≡ k * (4 * H * l) = λ k. mul_assoc k p D ∙ ap (λ (x : ℕ). k * x) (mul_comm p D ∙ s) in
     let w = prec f - 1 + j in
     let W : 2 ^ w ≡ g * p = pow-add 2 (prec f - 1) j in
@@ -187,9 +182,20 @@ rounded f a c n j q C e lo hi z =
     ap (λ (x : ℕ). closest (m * l) x) s
     ∙ closest-is (m * l) (4 * H * l) q (subst (λ (x : ℕ). 0 < x) s (mul-pos D-pos (pow_pos j)))
     (lower m q H l L (2 * q - 1) d (above n q H P (2 * q - 1) d z.0)) (upper m q H l L (below n q H P z.1)) in
+    round_is f false m D
+    ∙ ap (λ (i : ℕ). core f false (m * l) D i) k
+    ∙ ap (λ (x : ℕ). units f false x j) near
+
+pub rounded : (f : Format) (a c n j q : ℕ) → 0 < c → a * (2 ^ low f * 2 ^ low f) ≡ n * (2 ^ j * 2 ^ j) * c → hid f * hid f ≤ n
+    → n < 2 * hid f * (2 * hid f) → Nearest n q
+    → root_of f a c ≡ units f false q j
+rounded f a c n j q C e lo hi z =
+    let l = 2 ^ low f in
+    let p = 2 ^ j in
+    let D = 2 * (c * (2 * l)) in
+    let L : 0 < l = pow_pos (low f) in
     root_of-is f a c
     ∙ ap (λ (h : ℕ). round f false (halves (a * c * (h * h))) (2 * (c * h))) (pow-succ' 2 (low f))
     ∙ ap (λ (x : ℕ). round f false (halves x) D) (scaled a c n l p e)
-    ∙ round_is f false m D
-    ∙ ap (λ (i : ℕ). core f false (m * l) D i) k
-    ∙ ap (λ (x : ℕ). units f false x j) near
+    ∙ rounded-at f n j q (c * p) D (mul-pos C (pow_pos j)) (mul-pos (zero-lt-suc 1) (mul-pos C (mul-pos (zero-lt-suc 1) L)))
+    (regroup c l p) lo hi z

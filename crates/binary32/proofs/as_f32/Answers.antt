@@ -1,25 +1,20 @@
 -- `binary32::as_f32` meets its contract: the float of the size, negated where the number is negative.
-use Rattle.std.proofs.Common.{ℕ, ◌+◌, pos, ap, ◌∙◌}
-use lib.Ieee.{binary32, neg, of_int}
-use Rattle.binary32.proofs.Casting.{plain, turned}
+use Rattle.std.proofs.Common.{ap, ◌∙◌, w64}
+use lib.Ieee.{neg}
+use mir.ValLaws.{to_z-of_z}
+use Rattle.binary32.proofs.Casting.{below_zero, not_below}
 use Rattle.binary32.proofs.as_f32.Goals as goal
 
-pub overflow_cast-d : goal.overflow_cast-d
-overflow_cast-d c = ((plain c.args.d c.ranges.d c.if-d-ge0.true).positive, (plain c.args.d c.ranges.d c.if-d-ge0.true).size)
+pub returns-then-d-lt0 : goal.returns-then-d-lt0
+returns-then-d-lt0 c =
+    let e = to_z-of_z w64 c.args.d c.ranges.d in
+    let t = rw e at c.if-d-lt0.true in
+    let size = rw (c.min.ensures, c.unsigned_abs.ensures.value, e) at c.nearest_u32_to_f32-size.ensures in
+    ap neg size ∙ below_zero c.args.d t
 
-pub overflow_sub-d : goal.overflow_sub-d
-overflow_sub-d c = (turned c.args.d c.ranges.d c.if-d-ge0.false).fits
-
-pub overflow_cast-d-else-d-ge0 : goal.overflow_cast-d-else-d-ge0
-overflow_cast-d-else-d-ge0 c = ((turned c.args.d c.ranges.d c.if-d-ge0.false).positive, (turned c.args.d c.ranges.d c.if-d-ge0.false).size)
-
-pub returns-then-d-ge0 : goal.returns-then-d-ge0
-returns-then-d-ge0 c =
-    c.nearest_u32_to_f32.ensures
-    ∙ ap (λ (n : ℕ). of_int binary32 (pos n)) c.smaller.ensures
-    ∙ (plain c.args.d c.ranges.d c.if-d-ge0.true).result
-
-pub returns-else-d-ge0 : goal.returns-else-d-ge0
-returns-else-d-ge0 c =
-    ap neg (c.nearest_u32_to_f32-else-d-ge0.ensures ∙ ap (λ (n : ℕ). of_int binary32 (pos (n + 1))) c.smaller-else-d-ge0.ensures)
-    ∙ (turned c.args.d c.ranges.d c.if-d-ge0.false).result
+pub returns-else-d-lt0 : goal.returns-else-d-lt0
+returns-else-d-lt0 c =
+    let e = to_z-of_z w64 c.args.d c.ranges.d in
+    let t = rw e at c.if-d-lt0.false in
+    let size = rw (c.min.ensures, c.unsigned_abs.ensures.value, e) at c.nearest_u32_to_f32-size.ensures in
+    size ∙ not_below c.args.d t
