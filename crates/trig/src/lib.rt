@@ -5,41 +5,18 @@
 ghost use Rattle.std.specs.Prelude.{◌≡◌};
 ghost use Rattle.binary32.specs.Limits.{size_of};
 ghost use Rattle.trig.specs.Fix.{near_cos, far_cos, cos};
-ghost use Rattle.trig.specs.Fix.{smaller, larger, quotient, base, reduced, series, arc};
+ghost use Rattle.trig.specs.Fix.{quotient, base, reduced, series, arc};
 ghost use Rattle.trig.specs.Fix.{eastward, southward, westward, direction, angle};
 
-pub const PI: f32 = 3.14159265358979323846264338327950288;
-
-const FRAC_PI_2: f32 = 1.57079632679489661923132169163975144;
-
-const FRAC_PI_4: f32 = 0.785398163397448309615660845819875721;
+use std::f32::consts::{FRAC_PI_2, FRAC_PI_4, PI};
 
 // The tangent of π/8.
 const TAN_PI_8: f32 = 0.41421356;
 
-fn smaller(a: f32, b: f32) -> f32
-    ensures { result ≡ smaller a b }
-{
-    if a > b {
-        return b;
-    }
-    a
-}
-
-fn larger(a: f32, b: f32) -> f32
-    ensures { result ≡ larger a b }
-{
-    if a > b {
-        return a;
-    }
-    b
-}
-
-// The absolute value: 0 - x is +0 at either zero, and of equals `larger` takes the second.
 fn fabsf(x: f32) -> f32
     ensures { result ≡ size_of x }
 {
-    larger(x, 0.0 - x)
+    x.abs()
 }
 
 // The cosine of an r that is at most π/4 in size.
@@ -65,15 +42,17 @@ pub fn cosf(r: f32) -> f32
 {
     let a = fabsf(r);
     if a <= FRAC_PI_4 {
-        return near_cos(r);
+        near_cos(r)
+    } else {
+        far_cos(FRAC_PI_2 - a)
     }
-    far_cos(FRAC_PI_2 - a)
 }
 
+// The smaller of two sizes over the larger; a NaN where one is, so `f32::min`, which leaves it out, does not serve.
 fn quotient(a: f32, b: f32) -> f32
     ensures { result ≡ quotient a b }
 {
-    smaller(a, b) / larger(a, b)
+    if a > b { b / a } else { a / b }
 }
 
 // The angle whose tangent is q, for a q from 0 to 1. Past π/8 it is π/4 plus the angle whose
@@ -87,19 +66,17 @@ fn arc(q: f32) -> f32
 fn base(q: f32) -> f32
     ensures { result ≡ base q }
 {
-    if q > TAN_PI_8 {
-        return FRAC_PI_4;
-    }
-    0.0
+    if q > TAN_PI_8 { FRAC_PI_4 } else { 0.0 }
 }
 
 fn reduced(q: f32) -> f32
     ensures { result ≡ reduced q }
 {
     if q > TAN_PI_8 {
-        return (q - 1.0) / (q + 1.0);
+        (q - 1.0) / (q + 1.0)
+    } else {
+        q
     }
-    q
 }
 
 fn series(w: f32) -> f32
@@ -116,30 +93,21 @@ fn series(w: f32) -> f32
 fn eastward(e: f32, n: f32, g: f32) -> f32
     ensures { result ≡ eastward e n g }
 {
-    if e > n {
-        return FRAC_PI_2 - g;
-    }
-    g
+    if e > n { FRAC_PI_2 - g } else { g }
 }
 
 // From there to the angle off north.
 fn southward(north: f32, g: f32) -> f32
     ensures { result ≡ southward north g }
 {
-    if north < 0.0 {
-        return PI - g;
-    }
-    g
+    if north < 0.0 { PI - g } else { g }
 }
 
 // An angle to the west is negative.
 fn westward(east: f32, g: f32) -> f32
     ensures { result ≡ westward east g }
 {
-    if east < 0.0 {
-        return -g;
-    }
-    g
+    if east < 0.0 { -g } else { g }
 }
 
 fn direction(east: f32, north: f32) -> f32
@@ -156,7 +124,8 @@ pub fn atan2f(east: f32, north: f32) -> f32
     ensures { result ≡ angle east north }
 {
     if east == 0.0 && north == 0.0 {
-        return 0.0;
+        0.0
+    } else {
+        direction(east, north)
     }
-    direction(east, north)
 }

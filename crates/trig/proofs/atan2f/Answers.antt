@@ -8,9 +8,9 @@ pub returns-then-north : goal.returns-then-north
 unfolding of_bits angle
 returns-then-north c = rw (c.if-east.true, c.if-north.true, angle)
 
-pub returns : goal.returns
+pub returns-else-east : goal.returns-else-east
 unfolding of_bits angle
-returns c =
+returns-else-east c =
     elim c.else-east.branch [
       | else-east-via-then-east+else-north w ↦ rw (c.direction.ensures, w.if-east.true, w.if-north.false, angle)
       | else-east-via-else-east w ↦ rw (c.direction.ensures, w.if-east.false, angle)

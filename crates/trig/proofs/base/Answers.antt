@@ -7,6 +7,6 @@ pub returns-then-q : goal.returns-then-q
 unfolding base
 returns-then-q c = rw (← tan_eighth_pi-is, c.if-q.true, base) quarter_pi-is
 
-pub returns : goal.returns
+pub returns-else-q : goal.returns-else-q
 unfolding base
-returns c = rw (← tan_eighth_pi-is, c.if-q.false, base) zero_is
+returns-else-q c = rw (← tan_eighth_pi-is, c.if-q.false, base) zero_is

@@ -7,8 +7,8 @@ pub returns-then-a : goal.returns-then-a
 unfolding cos
 returns-then-a c = rw (c.near_cos.ensures, ← c.fabsf-a.ensures, ← quarter_pi-is, c.if-a.true, cos)
 
-pub returns : goal.returns
+pub returns-else-a : goal.returns-else-a
 unfolding cos
-returns c =
+returns-else-a c =
     let t = rw (c.fabsf-a.ensures, quarter_pi-is) at c.if-a.false in
     rw (c.far_cos.ensures, c.fabsf-a.ensures, half_pi-is, t, cos)

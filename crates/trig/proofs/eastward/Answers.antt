@@ -7,6 +7,6 @@ pub returns-then-e-n : goal.returns-then-e-n
 unfolding eastward
 returns-then-e-n c = rw (half_pi-is, c.if-e-n.true, eastward)
 
-pub returns : goal.returns
+pub returns-else-e-n : goal.returns-else-e-n
 unfolding eastward
-returns c = rw (c.if-e-n.false, eastward)
+returns-else-e-n c = rw (c.if-e-n.false, eastward)

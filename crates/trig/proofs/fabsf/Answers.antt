@@ -1,9 +1,15 @@
--- `trig::fabsf` meets its contract: the larger of x and 0 - x is the size of x.
-use mathlib.Core.Path.{◌∙◌}
-use lib.Ieee.{of_bits}
-use Rattle.trig.proofs.Magnitude.{larger-is}
+-- `trig::fabsf` meets its contract: the library's word for it is a definition of its own.
+use Rattle.std.proofs.Common.{◌≡◌, false, refl, ◌∙◌}
+use lib.Ieee.{Float, nan, inf, fin}
+use Rattle.std.specs.Float.{float_with_sign}
+use Rattle.binary32.specs.Limits.{size_of}
 use Rattle.trig.proofs.fabsf.Goals as goal
 
+unsigned : (x : Float) → float_with_sign false x ≡ size_of x
+unfolding float_with_sign
+unsigned nan = refl
+unsigned (inf s) = refl
+unsigned (fin s m e) = refl
+
 pub returns : goal.returns
-unfolding of_bits
-returns c = c.larger.ensures ∙ larger-is c.args.x c.well_formed.0.1
+returns c = c.abs.ensures.value ∙ unsigned c.args.x

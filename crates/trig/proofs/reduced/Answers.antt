@@ -7,6 +7,6 @@ pub returns-then-q : goal.returns-then-q
 unfolding reduced
 returns-then-q c = rw (one-is, ← tan_eighth_pi-is, c.if-q.true, reduced)
 
-pub returns : goal.returns
+pub returns-else-q : goal.returns-else-q
 unfolding reduced
-returns c = rw (← tan_eighth_pi-is, c.if-q.false, reduced)
+returns-else-q c = rw (← tan_eighth_pi-is, c.if-q.false, reduced)

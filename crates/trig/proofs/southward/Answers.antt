@@ -7,6 +7,6 @@ pub returns-then-north : goal.returns-then-north
 unfolding southward
 returns-then-north c = rw (pi-is, ← zero_is, c.if-north.true, southward)
 
-pub returns : goal.returns
+pub returns-else-north : goal.returns-else-north
 unfolding southward
-returns c = rw (← zero_is, c.if-north.false, southward)
+returns-else-north c = rw (← zero_is, c.if-north.false, southward)

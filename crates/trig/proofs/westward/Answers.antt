@@ -7,6 +7,6 @@ pub returns-then-east : goal.returns-then-east
 unfolding westward
 returns-then-east c = rw (← zero_is, c.if-east.true, westward)
 
-pub returns : goal.returns
+pub returns-else-east : goal.returns-else-east
 unfolding westward
-returns c = rw (← zero_is, c.if-east.false, westward)
+returns-else-east c = rw (← zero_is, c.if-east.false, westward)
