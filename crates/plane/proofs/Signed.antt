@@ -6,7 +6,6 @@ use lib.IntN.{sub_ℕ}
 use lib.Signed.{mag, lt_z}
 use lib.Ieee.{binary32, of_int}
 use mir.ValLaws.{to_z-of_z}
-use mir.Facts.{sfits_widen}
 use Rattle.binary32.specs.Inner.{as_f32}
 use Rattle.plane.specs.Fix.{wrapped}
 
@@ -109,15 +108,6 @@ wrapped-half d h = go (wrapped d) (wrap d)
 -- ---- the machine's steps: it writes each signed result as bits and reads it back
 abbrev back : ℤ → ℤ
 back z = to_z w64 (of_z w64 z)
-
-pub widened : (a : ℤ) → SFits w32 a → SFits w64 (to_z w32 (of_z w32 a))
-widened a A = subst (λ (y : ℤ). SFits w64 y) (sym (to_z-of_z w32 a A)) (sfits_widen tt A)
-
-wide_is : (a : ℤ) → SFits w32 a → back (to_z w32 (of_z w32 a)) ≡ a
-wide_is a A = to_z-of_z w64 (to_z w32 (of_z w32 a)) (widened a A) ∙ to_z-of_z w32 a A
-
-pub minus_is : (a b : ℤ) → SFits w32 a → SFits w32 b → back (to_z w32 (of_z w32 a)) -ℤ back (to_z w32 (of_z w32 b)) ≡ a -ℤ b
-minus_is a b A B = ap (λ (y : ℤ). y -ℤ back (to_z w32 (of_z w32 b))) (wide_is a A) ∙ ap (λ (y : ℤ). a -ℤ y) (wide_is b B)
 
 -- y is what the machine makes of d by a step: it fits, and is the wrapped number
 pub record Wrapped (d y : ℤ) : Type 0 where

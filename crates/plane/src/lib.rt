@@ -13,7 +13,7 @@ pub const M_PER_E7: f32 = 0.011_119_508;
 // Angles are in 4096ths of a turn, clockwise from north.
 pub const TURN: u16 = 4096;
 
-const TAU: f32 = 6.28318530717958647692528676655900577;
+use std::f32::consts::{PI, TAU};
 
 // A place: metres east and north of the origin.
 #[derive(Clone, Copy)]
@@ -39,9 +39,7 @@ pub struct Projection {
 pub fn distance(a: Point, b: Point) -> f32
     ensures { result ≡ distance a b }
 {
-    let east = b.east - a.east;
-    let north = b.north - a.north;
-    binary32::sqrtf(east * east + north * north)
+    binary32::sqrtf(squares::square(a, b))
 }
 
 // The point of segment a-b nearest p.
@@ -53,9 +51,10 @@ pub fn project(p: Point, a: Point, b: Point) -> Projection
     let length = dx * dx + dy * dy;
     if length > 0.0 {
         let t = binary32::clamp(((p.east - a.east) * dx + (p.north - a.north) * dy) / length);
-        return at_share(a, b, t);
+        at_share(a, b, t)
+    } else {
+        at_share(a, b, 0.0)
     }
-    at_share(a, b, 0.0)
 }
 
 fn at_share(a: Point, b: Point, t: f32) -> Projection
@@ -80,17 +79,14 @@ pub fn bearing(from: Point, to: Point) -> u16
     ensures { result ≡ bearing from to }
 {
     let radians = trig::atan2f(to.east - from.east, to.north - from.north);
-    (binary32::as_u32(onward(radians / TAU) * 4096.0) % (TURN as u32)) as u16
+    (binary32::as_u32(onward(radians / TAU) * 4096.0) % u32::from(TURN)) as u16
 }
 
 // A part of a turn to the left as one to the right.
 fn onward(turns: f32) -> f32
     ensures { result ≡ onward turns }
 {
-    if turns < 0.0 {
-        return turns + 1.0;
-    }
-    turns
+    if turns < 0.0 { turns + 1.0 } else { turns }
 }
 
 pub fn metres(value: f32) -> u32
@@ -103,14 +99,14 @@ pub fn metres(value: f32) -> u32
 pub fn east_per_e7(lat: i32) -> f32
     ensures { result ≡ east_per_e7 lat }
 {
-    let radians = std::num::nearest_i32_to_f32(lat) * 1e-7 * trig::PI / 180.0;
+    let radians = std::num::nearest_i32_to_f32(lat) * 1e-7 * PI / 180.0;
     M_PER_E7 * trig::cosf(radians)
 }
 
 fn difference(a: i32, b: i32) -> i64
     ensures { result ≡ a -ℤ b }
 {
-    a as i64 - b as i64
+    i64::from(a) - i64::from(b)
 }
 
 // Across the antimeridian the short way round is the way ridden.
@@ -118,12 +114,12 @@ fn wrapped(d: i64) -> i64
     ensures { result ≡ wrapped d }
 {
     if d > 1_800_000_000 {
-        return d - 3_600_000_000;
+        d - 3_600_000_000
+    } else if d < -1_800_000_000 {
+        d + 3_600_000_000
+    } else {
+        d
     }
-    if d < -1_800_000_000 {
-        return d + 3_600_000_000;
-    }
-    d
 }
 
 // Metres east and north of the origin.

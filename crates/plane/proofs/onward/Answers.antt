@@ -7,6 +7,6 @@ pub returns-then-turns : goal.returns-then-turns
 unfolding onward of_bits
 returns-then-turns c = simp c.if-turns.true
 
-pub returns : goal.returns
+pub returns-else-turns : goal.returns-else-turns
 unfolding onward of_bits
-returns c = simp c.if-turns.false
+returns-else-turns c = simp c.if-turns.false

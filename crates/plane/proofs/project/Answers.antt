@@ -12,8 +12,8 @@ returns-then-length c =
     c.at_share.ensures
     ∙ ap (at_share g.a g.b) (c.clamp-t.ensures ∙ long g.p g.a g.b c.if-length.true)
 
-pub returns : goal.returns
+pub returns-else-length : goal.returns-else-length
 unfolding project of_bits
-returns c =
+returns-else-length c =
     let g = c.args in
-    c.at_share-2.ensures ∙ ap (at_share g.a g.b) (short g.p g.a g.b c.if-length.false)
+    c.at_share-else-length.ensures ∙ ap (at_share g.a g.b) (short g.p g.a g.b c.if-length.false)

@@ -14,5 +14,5 @@ overflow_add-result c = (gains c.args.d c.ranges.d c.if-d-gt1800000000.false c.i
 pub returns-then-d-ltminus1800000000 : goal.returns-then-d-ltminus1800000000
 returns-then-d-ltminus1800000000 c = (gains c.args.d c.ranges.d c.if-d-gt1800000000.false c.if-d-ltminus1800000000.true).result
 
-pub returns : goal.returns
-returns c = unmoved c.args.d c.ranges.d c.if-d-gt1800000000.false c.if-d-ltminus1800000000.false
+pub returns-else-d-ltminus1800000000 : goal.returns-else-d-ltminus1800000000
+returns-else-d-ltminus1800000000 c = unmoved c.args.d c.ranges.d c.if-d-gt1800000000.false c.if-d-ltminus1800000000.false
