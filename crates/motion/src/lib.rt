@@ -24,20 +24,13 @@ pub struct Motion {
 pub fn elapsed(now_ms: u64, then_ms: u64) -> u64
     ensures { result ≡ elapsed now_ms then_ms }
 {
-    if then_ms < now_ms {
-        now_ms - then_ms
-    } else {
-        0
-    }
+    now_ms.saturating_sub(then_ms)
 }
 
 pub fn spot_or(s: Option<Point>, p: Point) -> Point
     ensures { result ≡ spot_or s p }
 {
-    let Some(q) = s else {
-        return p;
-    };
-    q
+    s.unwrap_or(p)
 }
 
 fn renewed(from: Point, p: Point, now_ms: u64) -> Motion
@@ -53,28 +46,27 @@ fn renewed(from: Point, p: Point, now_ms: u64) -> Motion
 fn aged(m: Motion, from: Point, now_ms: u64) -> Motion
     ensures { result ≡ aged m from now_ms }
 {
-    if elapsed(now_ms, m.heading_ms) > HEADING_STALE_MS {
-        return Motion {
-            from: Some(from),
-            heading: None,
-            heading_ms: m.heading_ms,
-        };
-    }
-    let heading = m.heading;
-    Motion {
+    let kept = Motion {
         from: Some(from),
-        heading,
-        heading_ms: m.heading_ms,
+        ..m
+    };
+    if elapsed(now_ms, m.heading_ms) > HEADING_STALE_MS {
+        Motion {
+            heading: None,
+            ..kept
+        }
+    } else {
+        kept
     }
 }
 
 pub fn track_heading(m: Motion, p: Point, now_ms: u64) -> Motion
     ensures { result ≡ track_heading m p now_ms }
 {
-    let was = m.from;
-    let from = spot_or(was, p);
+    let from = spot_or(m.from, p);
     if plane::distance(from, p) >= HEADING_STEP_M {
-        return renewed(from, p, now_ms);
+        renewed(from, p, now_ms)
+    } else {
+        aged(m, from, now_ms)
     }
-    aged(m, from, now_ms)
 }

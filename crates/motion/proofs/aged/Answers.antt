@@ -11,8 +11,8 @@ returns-then-elapsed-gt-HEADING_STALE_MS c =
     simp (lt-ltb 15000 (elapsed c.args.now_ms c.args.m.heading_ms)
     (subst (λ (n : ℕ). 15000 < n) c.elapsed.ensures c.if-elapsed-gt-HEADING_STALE_MS.true))
 
-pub returns : goal.returns
+pub returns-else-elapsed-gt-HEADING_STALE_MS : goal.returns-else-elapsed-gt-HEADING_STALE_MS
 unfolding aged
-returns c =
+returns-else-elapsed-gt-HEADING_STALE_MS c =
     simp (le-ltb 15000 (elapsed c.args.now_ms c.args.m.heading_ms)
     (subst (λ (n : ℕ). n ≤ 15000) c.elapsed.ensures c.if-elapsed-gt-HEADING_STALE_MS.false))

@@ -1,14 +1,15 @@
--- `motion::spot_or` meets its contract.
-use mathlib.Core.Path.{sym, ap}
-use Rattle.std.specs.Prelude.{Option}
+-- `motion::spot_or` meets its contract: the library's word for it is a definition of its own.
+use mathlib.Core.Path.{◌≡◌, refl, ◌∙◌}
+use Rattle.std.specs.Prelude.{Option, Some, None}
+use Rattle.std.specs.Option.{unwrap_or}
 use Rattle.plane.specs.declared.Point.{Point}
 use Rattle.motion.specs.Heading.{spot_or}
 use Rattle.motion.proofs.spot_or.Goals as goal
 
-pub returns-in_default : goal.returns-in_default
+same : (s : Option Point) (p : Point) → unwrap_or s p ≡ spot_or s p
 unfolding spot_or
-returns-in_default c = sym (ap (λ (s : Option Point). spot_or s c.args.p) c.in_default.is)
+same (Some q) p = refl
+same None p = refl
 
 pub returns : goal.returns
-unfolding spot_or
-returns c = sym (ap (λ (s : Option Point). spot_or s c.args.p) c.in-Some.is)
+returns c = c.unwrap_or.ensures ∙ same c.args.s c.args.p

@@ -9,7 +9,7 @@ unfolding track_heading heading_step_m constant of_bits
 returns-then-distance c =
     simp (← c.spot_or-from.ensures, ← c.distance.ensures, c.if-distance.true, c.renewed.ensures)
 
-pub returns : goal.returns
+pub returns-else-distance : goal.returns-else-distance
 unfolding track_heading heading_step_m constant of_bits
-returns c =
+returns-else-distance c =
     simp (← c.spot_or-from.ensures, ← c.distance.ensures, c.if-distance.false, c.aged.ensures)
