@@ -1,54 +1,55 @@
 -- The lap at a position, by whether the rider has moved. Assumes nothing.
-use mathlib.Core.Path.{◌≡◌, sym, ap, ◌∙◌}
+use mathlib.Core.Path.{◌≡◌, refl, sym, ap, ◌∙◌}
 use mathlib.Core.Bool.{Bool, true, false, ◌||◌}
 use lib.Ieee.{Float}
 use Rattle.plane.specs.declared.Point.{Point}
 use Rattle.std.specs.Prelude.{Option, Some, None, ℕ}
+use Rattle.std.specs.Option.{is_some}
 use Rattle.plane.specs.Plane.{distance}
 use Rattle.lap.specs.declared.Lap.{Lap}
-use Rattle.lap.specs.declared.LapStepped.{LapStepped}
+use Rattle.lap.specs.declared.StartPass.{StartPass}
+use Rattle.lap.specs.Pass.{Stepped, step_of}
 use Rattle.lap.specs.Lap.{moving_at, lap_start, step_from, step_pass}
-use Rattle.lap.specs.Inner.{lap_step_of}
 
-abbrev pub started_at : Lap → Option Point → Lap
-started_at l s = record { pass = l.pass; start = s; passed = l.passed }
+moves : (heading : Option ℕ) → is_some heading ≡ moving_at heading
+unfolding moving_at
+moves (Some h) = refl
+moves None = refl
 
-module _ (l : Lap) (p : Point) (heading : Option ℕ) (m : Bool) (s t : Option Point) (moves : m ≡ moving_at heading)
+module _ (l : Lap) (p : Point) (heading : Option ℕ) (m : Bool) (s t : Option Point) (is : m ≡ is_some heading)
     (starts : s ≡ lap_start m l.start p) (told : s ≡ t) where
   from : step_from t l p m ≡ step_pass l p heading
   unfolding step_pass
-  from = ap (λ (x : Option Point). step_from x l p m) (sym told ∙ starts) ∙ ap (λ (x : Bool). step_from (lap_start x l.start p) l p x) moves
+  from = ap (λ (x : Option Point). step_from x l p m) (sym told ∙ starts)
+      ∙ ap (λ (x : Bool). step_from (lap_start x l.start p) l p x) (is ∙ moves heading)
 
 -- before the rider has moved
-pub unmoved : (l : Lap) (p : Point) (heading : Option ℕ) (m : Bool) (s : Option Point) → m ≡ moving_at heading → s ≡ lap_start m l.start p
-    → s ≡ None → started_at l s ≡ step_pass l p heading
+pub unmoved : (l : Lap) (p : Point) (heading : Option ℕ) (m : Bool) (s : Option Point) → m ≡ is_some heading → s ≡ lap_start m l.start p
+    → s ≡ None → record { pass = l.pass; start = s; passed = l.passed } ≡ step_pass l p heading
 unfolding step_from
-unmoved l p heading m s moves starts told = ap (started_at l) told ∙ from l p heading m s None moves starts told
+unmoved l p heading m s is starts told =
+    let lap : Option Point → Lap = λ (x : Option Point). record { pass = l.pass; start = x; passed = l.passed } in
+    ap lap told ∙ from l p heading m s None is starts told
+
+abbrev pub lap_of : Lap → StartPass → Option Point → Bool → Lap
+lap_of l pass start completed = record { pass = pass; start = start; passed = completed || l.passed }
 
 -- a pass completed, or not
-abbrev pub noted : Lap → Bool → Lap
-noted l b = record { pass = l.pass; start = l.start; passed = b }
-
-module _ (l : Lap) (p q : Point) (heading : Option ℕ) (m : Bool) (s : Option Point) (moves : m ≡ moving_at heading)
-    (starts : s ≡ lap_start m l.start p) (told : s ≡ Some q) where
-  moved : noted (lap_step_of (started_at l s) (distance p q) m).lap ((lap_step_of (started_at l s) (distance p q) m).passed || l.passed)
-      ≡ step_pass l p heading
+module _ (l : Lap) (p q : Point) (heading : Option ℕ) (m : Bool) (s : Option Point) (is : m ≡ is_some heading)
+    (starts : s ≡ lap_start m l.start p) (told : s ≡ Some q) (d : Float) (far : d ≡ distance p q) (pass : StartPass) (passed : Bool)
+    (steps : (pass ≡ (step_of l.pass d m).pass) × (passed ≡ (step_of l.pass d m).passed)) where
+  after : lap_of l pass s passed ≡ step_pass l p heading
   unfolding step_from
-  moved = ap (λ (x : Option Point). noted (lap_step_of (started_at l x) (distance p q) m).lap
-      ((lap_step_of (started_at l x) (distance p q) m).passed || l.passed)) told ∙ from l p heading m s (Some q) moves starts told
+  after =
+      let e = step_of l.pass (distance p q) m in
+      let at : (step_of l.pass d m ≡ e) = ap (λ (x : Float). step_of l.pass x m) far in
+      ap (λ (x : StartPass). lap_of l x s passed) (steps.0 ∙ ap (λ (x : Stepped). x.pass) at)
+      ∙ ap (λ (x : Option Point). lap_of l e.pass x passed) told
+      ∙ ap (λ (x : Bool). lap_of l e.pass (Some q) x) (steps.1 ∙ ap (λ (x : Stepped). x.passed) at)
+      ∙ from l p heading m s (Some q) is starts told
 
-  module _ (r : LapStepped) (d : Float) (far : d ≡ distance p q) (steps : r ≡ lap_step_of (started_at l s) d m) where
-    same : r ≡ lap_step_of (started_at l s) (distance p q) m
-    same = steps ∙ ap (λ (x : Float). lap_step_of (started_at l s) x m) far
+  pub completed : passed ≡ true → record { pass = pass; start = s; passed = true } ≡ step_pass l p heading
+  completed t = ap (λ (x : Bool). lap_of l pass s x) (sym t) ∙ after
 
-    after : noted r.lap (r.passed || l.passed) ≡ step_pass l p heading
-    after = ap (λ (x : LapStepped). noted x.lap (x.passed || l.passed)) same ∙ moved
-
-    pub completed : r.passed ≡ true → noted r.lap true ≡ step_pass l p heading
-    completed t = ap (λ (b : Bool). noted r.lap (b || l.passed)) (sym t) ∙ after
-
-    pub went_on : r.passed ≡ false → r.lap ≡ step_pass l p heading
-    went_on t =
-        ap (λ (b : Bool). noted r.lap b) (ap (λ (x : LapStepped). x.lap.passed) same)
-        ∙ ap (λ (b : Bool). noted r.lap (b || l.passed)) (sym t)
-        ∙ after
+  pub went_on : passed ≡ false → record { pass = pass; start = s; passed = l.passed } ≡ step_pass l p heading
+  went_on t = ap (λ (x : Bool). lap_of l pass s x) (sym t) ∙ after

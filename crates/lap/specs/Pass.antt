@@ -6,7 +6,6 @@ use Rattle.binary32.specs.Arithmetic.{constant}
 use Rattle.lap.specs.declared.Stage.{Stage}
 use Rattle.lap.specs.declared.Stage.TheVariants.{Spent, Armed, Inside}
 use Rattle.lap.specs.declared.StartPass.{StartPass}
-use Rattle.lap.specs.declared.Stepped.{Stepped}
 
 -- a pass counts once the rider was this far away, 100 m
 unfoldable pub pass_arm_m : Float
@@ -19,6 +18,11 @@ pass_m = constant 40 1
 -- and was this far away again, 50 m
 unfoldable pub pass_end_m : Float
 pass_end_m = constant 50 1
+
+-- a pass after a step, and whether the step completed it
+pub record Stepped : Type 0 where
+  pub pass : StartPass
+  pub passed : Bool
 
 abbrev pub stepped : Stage → Bool → Stepped
 stepped k b = record { pass = record { stage = k }; passed = b }

@@ -1,27 +1,18 @@
 -- `lap::lap_start` meets its contract.
-use mathlib.Core.Path.{sym, ap, ◌∙◌}
-use mathlib.Core.Bool.{Bool}
-use Rattle.std.specs.Prelude.{Option, None}
+use mathlib.Core.Path.{◌≡◌, refl, ap, ◌∙◌}
+use mathlib.Core.Bool.{Bool, true, false}
+use Rattle.std.specs.Prelude.{Option, Some, None}
+use Rattle.std.specs.Option.{option_or}
+use Rattle.std.specs.Bool.{then_some}
 use Rattle.plane.specs.declared.Point.{Point}
 use Rattle.lap.specs.Lap.{lap_start}
 use Rattle.lap.proofs.lap_start.Goals as goal
 
-pub returns-in-Some : goal.returns-in-Some
+same : (moving : Bool) (start : Option Point) (p : Point) → option_or start (then_some moving p) ≡ lap_start moving start p
 unfolding lap_start
-returns-in-Some c =
-    let g = c.args in
-    sym (ap (λ (s : Option Point). lap_start g.moving s g.p) c.in-Some.is)
-
-pub returns-then-moving : goal.returns-then-moving
-unfolding lap_start
-returns-then-moving c =
-    let g = c.args in
-    sym (ap (λ (s : Option Point). lap_start g.moving s g.p) c.in_default.is
-    ∙ ap (λ (m : Bool). lap_start m None g.p) c.if-moving.true)
+same moving (Some from) p = refl
+same true None p = refl
+same false None p = refl
 
 pub returns : goal.returns
-unfolding lap_start
-returns c =
-    let g = c.args in
-    sym (ap (λ (s : Option Point). lap_start g.moving s g.p) c.in_default.is
-    ∙ ap (λ (m : Bool). lap_start m None g.p) c.if-moving.false)
+returns c = c.or.ensures ∙ ap (option_or c.args.start) c.then_some.ensures ∙ same c.args.moving c.args.start c.args.p
