@@ -16,7 +16,7 @@ const PASS_M: f32 = 40.0;
 
 const PASS_END_M: f32 = 50.0;
 
-#[derive(Clone, Copy, PartialEq, Eq)]
+#[derive(Clone, Copy)]
 pub enum Stage {
     // At or near the start, or just passed it: not counting until the rider is `PASS_ARM_M` away. A
     // ride begins here.

@@ -159,58 +159,40 @@ pub struct Guided {
 pub fn without_window(h: Homing) -> Guided
     ensures { result ≡ guided_of h }
 {
-    let trail = h.trail;
-    let frame = h.frame;
-    let fed = h.fed;
-    let here = h.here;
-    let motion = h.motion;
-    let follow = h.follow;
-    let course = h.course;
-    let lap = h.lap;
-    let guide = h.guide;
     Guided {
-        trail,
-        frame,
-        fed,
-        here,
+        trail: h.trail,
+        frame: h.frame,
+        fed: h.fed,
+        here: h.here,
         here_ms: h.here_ms,
-        motion,
-        follow,
-        course,
+        motion: h.motion,
+        follow: h.follow,
+        course: h.course,
         auto_follow: h.auto_follow,
         arrived: h.arrived,
-        lap,
+        lap: h.lap,
         updated_ms: h.updated_ms,
-        guide,
+        guide: h.guide,
     }
 }
 
 pub fn with_window(g: Guided, window: [f32; 96]) -> Homing
     ensures { result ≡ whole g window }
 {
-    let trail = g.trail;
-    let frame = g.frame;
-    let fed = g.fed;
-    let here = g.here;
-    let motion = g.motion;
-    let follow = g.follow;
-    let course = g.course;
-    let lap = g.lap;
-    let guide = g.guide;
     Homing {
-        trail,
+        trail: g.trail,
         window,
-        frame,
-        fed,
-        here,
+        frame: g.frame,
+        fed: g.fed,
+        here: g.here,
         here_ms: g.here_ms,
-        motion,
-        follow,
-        course,
+        motion: g.motion,
+        follow: g.follow,
+        course: g.course,
         auto_follow: g.auto_follow,
         arrived: g.arrived,
-        lap,
+        lap: g.lap,
         updated_ms: g.updated_ms,
-        guide,
+        guide: g.guide,
     }
 }

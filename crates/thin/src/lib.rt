@@ -37,7 +37,7 @@ fn under(x: f32, tolerance: f32) -> f32
     if binary32::sqrtf(x) <= tolerance {
         return x;
     }
-    0.0 / 0.0
+    f32::NAN
 }
 
 fn over(x: f32, tolerance: f32) -> f32
@@ -46,7 +46,7 @@ fn over(x: f32, tolerance: f32) -> f32
     if binary32::sqrtf(x) > tolerance {
         return x;
     }
-    0.0 / 0.0
+    f32::NAN
 }
 
 fn found(tolerance: f32) -> Bounds

@@ -1,9 +1,8 @@
 -- `thin::over` meets its contract.
-use mathlib.Core.Path.{sym, subst}
+use mathlib.Core.Path.{refl, sym, subst}
 use lib.Dec.{T}
-use lib.Ieee.{binary32, fits}
+use lib.Ieee.{binary32, fits, of_bits}
 use Rattle.thin.proofs.Bounding.{over-found, over_none}
-use Rattle.binary32.proofs.Cases.{none}
 use Rattle.thin.proofs.over.Goals as goal
 
 pub returns-then-sqrtf-tolerance : goal.returns-then-sqrtf-tolerance
@@ -12,4 +11,5 @@ returns-then-sqrtf-tolerance c =
     over-found held c.sqrtf.ensures c.if-sqrtf-tolerance.true
 
 pub returns : goal.returns
-returns c = over_none none
+unfolding of_bits
+returns c = over_none refl
