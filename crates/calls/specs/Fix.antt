@@ -6,10 +6,8 @@ use Rattle.plane.specs.declared.Point.{Point}
 use Rattle.plane.specs.declared.Fix.{Fix}
 use Rattle.crumbs.specs.declared.Crumb.{Crumb}
 use Rattle.motion.specs.declared.Motion.{Motion}
-use Rattle.lap.specs.declared.Lap.{Lap}
 use Rattle.motion.specs.Heading.{elapsed, track_heading}
 use Rattle.lap.specs.Lap.{step_pass}
-use Rattle.trail.specs.Trail.{Track, with_crumbs, with_window}
 use Rattle.state.specs.declared.Line.{Line}
 use Rattle.state.specs.declared.Line.TheVariants as line
 use Rattle.state.specs.declared.Event.{Event}

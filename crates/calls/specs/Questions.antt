@@ -1,5 +1,5 @@
 -- Document 01, "Questions put to a call, first no wins". A NaN is neither of a size nor 0 or more.
-use Rattle.std.specs.Prelude.{ℕ, ◌-◌, ◌*◌, ◌^◌, Bool, true, false, ◌&&◌, ◌||◌, cond, List, [], ◌∷◌, leb, ltb, eqb, ℤ, nat_abs, length}
+use Rattle.std.specs.Prelude.{ℕ, ◌*◌, ◌^◌, Bool, true, false, ◌&&◌, ◌||◌, cond, List, [], ◌∷◌, leb, ltb, eqb, ℤ, nat_abs, length}
 use Rattle.std.specs.Prelude.{Float}
 use Rattle.std.specs.Float.{nan, inf, fin}
 use Rattle.std.specs.Float.Ieee.{up, down, le}
@@ -13,7 +13,6 @@ use Rattle.crumbs.specs.Crumb.{whole, capacity, crumbs, point}
 use Rattle.trail.specs.Trail.{retrace_fixes, Track, window_places}
 use Rattle.state.specs.declared.Line.{Line}
 use Rattle.state.specs.declared.Line.TheVariants as line
-use Rattle.state.specs.declared.Follow.{Follow}
 use Rattle.state.specs.declared.Course.{Course}
 use Rattle.state.specs.declared.Guide.{Guide}
 use Rattle.state.specs.State.{State}

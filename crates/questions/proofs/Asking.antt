@@ -1,6 +1,6 @@
 -- The questions in their order: what a call is asked beside its line, and what the line adds. Assumes nothing.
 use Prim.Native.Nat.{ℕ}
-use mathlib.Core.Path.{◌≡◌, refl, sym, ◌∙◌}
+use mathlib.Core.Path.{◌≡◌, refl}
 use mathlib.Core.Bool.{Bool, true, false, ◌&&◌}
 use mathlib.Core.List.{List}
 use mathlib.Core.Logic.{◌≢◌}
@@ -24,16 +24,11 @@ rest false held line q4 passed = absurd (omega arith)
 rest true false line q4 passed = absurd (omega arith)
 rest true true line q4 passed = refl
 
-module _ {n : ℕ} (size : ℕ) (b : List Float) (s : State) (asked : n ≡ asks_crumbs size s) where
-  pub both-no : n ≢ 0 → n ≡ asks_both size b s
+module _ (size : ℕ) (b : List Float) (s : State) where
+  pub both-no : asks_crumbs size s ≢ 0 → asks_crumbs size s ≡ asks_both size b s
   unfolding asks_crumbs asks_both
-  both-no refused =
-      asked
-      ∙ first (question1 size) (state_fits s && held_fits (capacity size) s) (line_fits b s.course) (question4 (length b) 0)
-      (λ e. refused (asked ∙ e))
+  both-no refused = first (question1 size) (state_fits s && held_fits (capacity size) s) (line_fits b s.course) (question4 (length b) 0) refused
 
-  pub both-line : n ≡ 0 → asks_both size b s ≡ (unless (line_fits b s.course) 10 or_else unless (question4 (length b) 0) 4)
+  pub both-line : asks_crumbs size s ≡ 0 → asks_both size b s ≡ (unless (line_fits b s.course) 10 or_else unless (question4 (length b) 0) 4)
   unfolding asks_crumbs asks_both
-  both-line passed =
-      rest (question1 size) (state_fits s && held_fits (capacity size) s) (line_fits b s.course) (question4 (length b) 0)
-      (sym asked ∙ passed)
+  both-line passed = rest (question1 size) (state_fits s && held_fits (capacity size) s) (line_fits b s.course) (question4 (length b) 0) passed

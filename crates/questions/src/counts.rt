@@ -43,7 +43,7 @@ pub fn window_fits(window: &[f32; 96], window_len: usize) -> bool
 {
     let mut ok = true;
     for i in 0..window_len {
-        ok = ok & limits::place_fits(trail::waiting(window, i));
+        ok &= limits::place_fits(trail::waiting(window, i));
     }
     ok
 }
@@ -56,7 +56,7 @@ fn crumbs_fit(buf: &[f32], len: usize) -> bool
     let first = crumbs::bounds::leading(buf, len, limits::least(), limits::most());
     let mut ok = true;
     for i in first..len {
-        ok = ok & limits::crumb_fits(crumbs::crumb_at(buf, i));
+        ok &= limits::crumb_fits(crumbs::crumb_at(buf, i));
     }
     ok
 }

@@ -11,7 +11,7 @@ returns-then-not-counts_fit c = λ b. simp (counts-counted, ← c.counts_fit.ens
 
 pub window_fits-requires : goal.window_fits-requires
 window_fits-requires c =
-    let h = c.args.h in
+    let h = c.args.h.now in
     window-counted h.trail h.follow h.course.line_len
     (sym c.counts_fit.ensures ∙ c.if-not-counts_fit.false)
 

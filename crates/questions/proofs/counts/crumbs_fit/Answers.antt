@@ -1,5 +1,4 @@
 -- `questions::counts::crumbs_fit` meets its contract: those passed and those to come are all.
-use Prim.Native.Nat.{◌-◌}
 use native.Mathlib.Omega.{arith}
 use Rattle.questions.proofs.counts.Scans.{passing-from, passing-next, passing-end}
 use Rattle.questions.proofs.counts.crumbs_fit.Goals as goal

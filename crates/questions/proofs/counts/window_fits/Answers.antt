@@ -1,5 +1,4 @@
 -- `questions::counts::window_fits` meets its contract: those passed fit.
-use Prim.Native.Nat.{◌-◌}
 use native.Mathlib.Omega.{arith}
 use Rattle.questions.proofs.counts.Scans.{waiting-start, waiting-next, waiting-end}
 use Rattle.questions.proofs.counts.window_fits.Goals as goal

@@ -1,45 +1,28 @@
 -- `questions::globe::asks_fixes` meets its contract: none of those passed says no.
-use Prim.Native.Nat.{◌-◌}
-use native.Mathlib.Omega.{arith}
-use Rattle.questions.proofs.globe.Fixes.{fix-handed, asking-start, asking-no, asking-next, lats-end, lons-end}
+use Rattle.std.proofs.Common.{rules, SFits, w32, ◌≡◌, ◌∙◌}
+use Rattle.std.proofs.lemmas.Slice.Zip.{either_empty_from_Zip}
+use Rattle.refusal.specs.Refusal.{asked}
+use Rattle.refusal.specs.Refusal.{number}
+use Rattle.std.specs.Slice.Iter.{iter_rest}
+use Rattle.std.specs.Iterator.Adapters.{zip_first, zip_second}
+use Rattle.questions.proofs.globe.Fixes.{fix-handed, asking-no, asking-next, asking-end}
 use Rattle.questions.proofs.globe.asks_fixes.Goals as goal
 
-pub loop-i-init : goal.loop-i-init
-loop-i-init c = asking-start _ _
+pub loop-lat-init : goal.loop-lat-init
+loop-lat-init c = record { rest = search rules }
 
-pub bounds-lats-i : goal.bounds-lats-i
-bounds-lats-i c = omega arith
+pub loop-lat-preserved : goal.loop-lat-preserved
+loop-lat-preserved c =
+    let x : SFits w32 c.in-Some.field-0-0.now = search rules in
+    let y : SFits w32 c.in-Some.field-0-1.now = search rules in
+    asking-next c.loop-lat.invariant (search rules) (search rules) (fix-handed _ _ x y c.in_ok-asks_fix.ensures)
 
-pub bounds-lons-i : goal.bounds-lons-i
-bounds-lons-i c = c.if-i-lons.true
+pub returns-in_err-asks_fix : goal.returns-in_err-asks_fix
+returns-in_err-asks_fix c =
+    let x : SFits w32 c.in-Some.field-0-0.now = search rules in
+    let y : SFits w32 c.in-Some.field-0-1.now = search rules in
+    let no : asked c.from_residual.result ≡ number c.in_err-asks_fix.field-0.0 = search rules in
+    asking-no {xs' = iter_rest (zip_first c.next.new.self)} {ys' = iter_rest (zip_second c.next.new.self)} c.loop-lat.invariant (search rules) (search rules) (no ∙ fix-handed _ _ x y c.in_err-asks_fix.ensures) (search rules)
 
-pub asks_fix-asked-requires : goal.asks_fix-asked-requires
-asks_fix-asked-requires c = tt
-
-pub returns-then-asked-ne0 : goal.returns-then-asked-ne0
-returns-then-asked-ne0 c =
-    asking-no c.loop-i.invariant c.loop-i-test.true
-    c.if-i-lons.true
-    (fix-handed _ _ (record { sfits = c.asks_fix-arg-1.given })
-    (record { sfits = c.asks_fix-arg-in-loop-i-1.given }) c.asks_fix-asked.ensures)
-    c.if-asked-ne0.true
-
-pub overflow_add-i : goal.overflow_add-i
-overflow_add-i c = omega arith
-
-pub loop-i-smaller : goal.loop-i-smaller
-loop-i-smaller c = omega arith
-
-pub loop-i-preserved : goal.loop-i-preserved
-loop-i-preserved c =
-    asking-next c.loop-i.invariant c.loop-i-test.true
-    c.if-i-lons.true
-    (fix-handed _ _ (record { sfits = c.asks_fix-arg-1.given })
-    (record { sfits = c.asks_fix-arg-in-loop-i-1.given }) c.asks_fix-asked.ensures)
-    c.if-asked-ne0.false
-
-pub returns-else-i-lons : goal.returns-else-i-lons
-returns-else-i-lons c = lons-end c.loop-i.invariant c.if-i-lons.false
-
-pub returns-after-loop-i : goal.returns-after-loop-i
-returns-after-loop-i c = lats-end c.loop-i.invariant c.loop-i-test.false
+pub returns : goal.returns
+returns c = asking-end c.loop-lat.invariant (either_empty_from_Zip c.loop-lat.lat-iterator c.next.new.self c.next.result c.in-None.is c.next.ensures.steps)
