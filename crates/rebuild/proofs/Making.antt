@@ -5,7 +5,7 @@ use mathlib.Core.Bool.{Bool, true, false, cond, not}
 use mathlib.Core.List.{List, [], ◌∷◌}
 use lib.ListN.{length}
 use lib.Ieee.{Float}
-use Rattle.crumbs.specs.Crumb.{capacity, crumbs, behind}
+use Rattle.crumbs.specs.Crumb.{capacity, behind}
 use Rattle.crumbs.proofs.Crumbs.{length-crumbs, behind_more}
 use Rattle.trail.specs.View.{track}
 use Rattle.trail.specs.View as trail
@@ -21,29 +21,25 @@ use Rattle.steer.specs.View.{Resets}
 use Rattle.rebuild.specs.declared.Stage.{Stage}
 use Rattle.rebuild.specs.declared.Stage.TheVariants as stage
 use Rattle.rebuild.specs.declared.Rebuild.{Rebuild}
-use Rattle.rebuild.specs.declared.Visited.{Visited}
 use Rattle.rebuild.specs.Made.{Made, making, quiet, ◌then◌, perform, most_held}
 use Rattle.rebuild.specs.Rebuild.{with_stage, carries_on, decide, before_replay, replays, settle_from}
 use Rattle.rebuild.specs.Inner.{starts_anew, stage_behind, reset_if}
 use Rattle.rebuild.specs.View.{Makes, Settles}
 use Rattle.rebuild.proofs.Performing.{performed-both, most-front, most-rest}
 
-abbrev pub visited : Rebuild → Homing → Visited
-visited r h = record { rebuild = r; homing = h }
-
 -- ---- nothing is done
-pub settles-quiet : (r : Rebuild) (h : Homing) → Settles (quiet r) h (visited r h)
+pub settles-quiet : (r : Rebuild) (h : Homing) → Settles (quiet r) h r h
 unfolding perform
 settles-quiet r h = record { rebuilt = refl; same = λ C b. refl; fit = λ size f. f }
 
 -- ---- what writes to no buffer, on the buffer at hand
-pub settled : (rule : Made) (h : Homing) (b : List Float) (v : Visited) → trail.TrailFit h.trail (length b) → Settles rule h v
-    → Makes rule h b v b
-settled rule h b v f s =
+pub settled : (rule : Made) (h : Homing) (b : List Float) (r : Rebuild) (n : Homing) → trail.TrailFit h.trail (length b)
+    → Settles rule h r n → Makes rule h b r n b
+settled rule h b r n f s =
     record { rebuilt = s.rebuilt; same = s.same (capacity (length b)) b; fit = s.fit (length b) f; size = refl; beyond = refl }
 
-pub makes-quiet : (r : Rebuild) (h : Homing) (b : List Float) → trail.TrailFit h.trail (length b) → Makes (quiet r) h b (visited r h) b
-makes-quiet r h b f = settled (quiet r) h b (visited r h) f (settles-quiet r h)
+pub makes-quiet : (r : Rebuild) (h : Homing) (b : List Float) → trail.TrailFit h.trail (length b) → Makes (quiet r) h b r h b
+makes-quiet r h b f = settled (quiet r) h b r h f (settles-quiet r h)
 
 -- ---- what a fix decides before it is replayed
 turned_round : (t : Bool) → cond t [] (Reset ∷ []) ≡ reset_if (not t)
@@ -71,14 +67,14 @@ decides-live (stage.Pending last) t r e = ap (λ (l : List Call). making l (with
 decides-live stage.Decided t r e = ap (λ (s : Stage). quiet (with_stage s r)) e
 
 module _ {m : Made} {anew : Bool} {on : Rebuild} (h : Homing) (is : m ≡ making (reset_if anew) on) where
-  pub carried_on : anew ≡ false → Settles m h (visited on h)
+  pub carried_on : anew ≡ false → Settles m h on h
   carried_on e =
-      subst (λ (x : Made). Settles x h (visited on h)) (sym (is ∙ ap (λ (b : Bool). making (reset_if b) on) e)) (settles-quiet on h)
+      subst (λ (x : Made). Settles x h on h) (sym (is ∙ ap (λ (b : Bool). making (reset_if b) on) e)) (settles-quiet on h)
 
-  pub begun-anew : (n : Homing) → anew ≡ true → Resets h n → Settles m h (visited on n)
+  pub begun-anew : (n : Homing) → anew ≡ true → Resets h n → Settles m h on n
   unfolding perform performs
   begun-anew n e a =
-      subst (λ (x : Made). Settles x h (visited on n)) (sym (is ∙ ap (λ (b : Bool). making (reset_if b) on) e))
+      subst (λ (x : Made). Settles x h on n) (sym (is ∙ ap (λ (b : Bool). making (reset_if b) on) e))
       (record { rebuilt = refl; same = λ C b. a.same b; fit = (a.trail []).fit })
 
 -- ---- a fix replayed
@@ -94,7 +90,7 @@ module _ (x : Fix) (r : Rebuild) (h n : Homing) (entry exit : List Float) where
       ap₂ max (length-crumbs h.trail.len entry)
       (ap (λ (s : State). length s.track.crumbs) (sym e) ∙ length-crumbs n.trail.len exit)
 
-  pub replayed : Follows (λ C. replay C x r.clock_ms) h entry n exit → Makes (replays x r) h entry (visited r n) exit
+  pub replayed : Follows (λ C. replay C x r.clock_ms) h entry n exit → Makes (replays x r) h entry r n exit
   unfolding replays perform performs
   replayed f =
       record {
@@ -106,19 +102,19 @@ module _ (x : Fix) (r : Rebuild) (h n : Homing) (entry exit : List Float) where
       }
 
 -- ---- one thing, and then another
-module _ (m : Made) (next : Rebuild → Made) (h : Homing) (entry mid exit : List Float) (v w : Visited) where
+module _ (m : Made) (next : Rebuild → Made) (h : Homing) (entry mid exit : List Float) (r r' : Rebuild) (k k' : Homing) where
   abbrev n : Made
   n = next m.rebuild
 
-  pub one_then : Makes m h entry v mid → Makes (next v.rebuild) v.homing mid w exit → Makes (m then next) h entry w exit
+  pub one_then : Makes m h entry r k mid → Makes (next r) k mid r' k' exit → Makes (m then next) h entry r' k' exit
   one_then a b₀ =
       let C = capacity (length entry) in
       let s = state_of h entry in
-      let b : Makes n v.homing mid w exit = subst (λ (r : Rebuild). Makes (next r) v.homing mid w exit) a.rebuilt b₀ in
+      let b : Makes n k mid r' k' exit = subst (λ (x : Rebuild). Makes (next x) k mid r' k' exit) a.rebuilt b₀ in
       let room : capacity (length mid) ≡ C = ap (λ (k : ℕ). capacity k) a.size in
-      let from : most_held (capacity (length mid)) n.calls (state_of v.homing mid)
+      let from : most_held (capacity (length mid)) n.calls (state_of k mid)
       ≡ most_held C n.calls (perform C m.calls s).state =
-      ap₂ (λ (k : ℕ) (t : State). most_held k n.calls t) room a.same in
+      ap₂ (λ (c : ℕ) (t : State). most_held c n.calls t) room a.same in
       let far : behind (most_held C n.calls (perform C m.calls s).state) exit
       ≡ behind (most_held C n.calls (perform C m.calls s).state) mid =
       subst (λ (k : ℕ). behind k exit ≡ behind k mid) from b.beyond in
@@ -126,7 +122,7 @@ module _ (m : Made) (next : Rebuild → Made) (h : Homing) (entry mid exit : Lis
         rebuilt = b.rebuilt;
         same =
             b.same
-            ∙ ap₂ (λ (k : ℕ) (t : State). (perform k n.calls t).state) room a.same
+            ∙ ap₂ (λ (c : ℕ) (t : State). (perform c n.calls t).state) room a.same
             ∙ sym (ap (λ (d : Done (Unit {0})). d.state) (performed-both C m.calls n.calls s));
         fit = b.fit;
         size = b.size ∙ a.size;

@@ -1,15 +1,11 @@
 -- Samples visited one after the other. Assumes nothing.
 use mathlib.Core.Path.{◌≡◌, refl, sym, ap, ap₂, ◌∙◌, subst}
-use Prim.Native.Nat.{ℕ, zero, suc, ◌+◌, ◌-◌, ◌^◌, ◌≤◌, ◌<◌, min}
-use native.Mathlib.Omega.{arith}
-use native.Mathlib.Nat.{le_of_suc-le-suc}
-use mathlib.Core.Bool.{Bool, true, false}
+use Prim.Native.Nat.{ℕ, ◌+◌, ◌≤◌, ◌<◌}
+use mathlib.Core.Bool.{Bool, true, false, not, ◌||◌, true≢false, false≢true}
+use Rattle.std.specs.Option.{is_some}
 use mathlib.Core.List.{List, [], ◌∷◌, ◌++◌, append_assoc, append-nil}
-use lib.IntN.{ℤ}
-use lib.Signed.{mag}
-use mir.Syntax.{w32}
-use mir.ValLaws.{to_z-of_z}
 use lib.ListN.{length, take, get_or}
+use Rattle.std.proofs.lemmas.List.{take_more, take_all}
 use lib.Ieee.{Float}
 use Rattle.trail.specs.View as trail
 use Rattle.std.specs.Prelude.{Option, Some, None}
@@ -17,7 +13,6 @@ use Rattle.plane.specs.declared.Fix.{Fix}
 use Rattle.state.specs.declared.Homing.{Homing}
 use Rattle.update.proofs.Choosing.{picked, passed-by}
 use Rattle.follow.specs.View.{Follows}
-use Rattle.course.proofs.Fixes.{handed}
 use Rattle.calls.specs.Fix.{replay}
 use Rattle.calls.specs.Calls.{Call}
 use Rattle.ride_log.specs.declared.Sample.{Sample}
@@ -27,13 +22,12 @@ use Rattle.steer.specs.View.{Resets}
 use Rattle.rebuild.specs.declared.Stage.{Stage}
 use Rattle.rebuild.specs.declared.Rebuild.{Rebuild}
 use Rattle.rebuild.specs.declared.Heard.{Heard}
-use Rattle.rebuild.specs.declared.Visited.{Visited}
 use Rattle.rebuild.specs.Made.{Made, making, quiet, ◌then◌}
-use Rattle.rebuild.specs.Rebuild.{sample_ms, clock_most, with_stage, ticked, skips, before_replay, replays, visit_fix, visit_place}
+use Rattle.rebuild.specs.Rebuild.{with_stage, ticked, skips, before_replay, replays, visit_fix, visit_place}
 use Rattle.rebuild.specs.Rebuild.{visit_sample, visit_samples}
 use Rattle.rebuild.specs.Inner.{starts_anew, stage_behind, reset_if, replays_at, heard_makes}
 use Rattle.rebuild.specs.View.{Makes, Settles}
-use Rattle.rebuild.proofs.Making.{visited, settled, makes-quiet, decides, carried_on, begun-anew, replayed, one_then}
+use Rattle.rebuild.proofs.Making.{settled, makes-quiet, decides, carried_on, begun-anew, replayed, one_then}
 
 -- ---- what a sample says, by its place and by whether it is skipped
 module _ (later : Bool) (x : Sample) (r on : Rebuild) (ticks : on ≡ ticked r) where
@@ -47,23 +41,23 @@ module _ (later : Bool) (x : Sample) (r on : Rebuild) (ticks : on ≡ ticked r) 
   abbrev nothing : Heard
   nothing = record { rebuild = on; anew = false; place = None }
 
-  pub unlocated : x.place ≡ None → visit_sample later x r ≡ heard_makes nothing
+  unlocated : x.place ≡ None → visit_sample later x r ≡ heard_makes nothing
   unfolding from visit_place replays_at
   unlocated e = at_place None e
 
-  module _ (f : Fix) (e : x.place ≡ Some f.lat f.lon) where
+  module _ (f : Fix) (e : x.place ≡ Some f) where
     abbrev taken : Made
     taken = before_replay on.stage later x.utc on then replays f
 
     located : visit_sample later x r ≡ visit_fix f later x.utc on
     unfolding from visit_place
-    located = at_place (Some f.lat f.lon) e
+    located = at_place (Some f) e
 
-    pub skipped : skips on.stage later ≡ true → visit_sample later x r ≡ heard_makes nothing
+    skipped : skips on.stage later ≡ true → visit_sample later x r ≡ heard_makes nothing
     unfolding visit_fix replays_at
     skipped s = located ∙ picked (quiet on) taken _ s
 
-    pub not-skipped : {behind : Stage} {anew : Bool} → skips on.stage later ≡ false → behind ≡ stage_behind on.stage later x.utc
+    not-skipped : {behind : Stage} {anew : Bool} → skips on.stage later ≡ false → behind ≡ stage_behind on.stage later x.utc
         → anew ≡ starts_anew on.stage later x.utc
         → visit_sample later x r ≡ heard_makes (record { rebuild = with_stage behind on; anew = anew; place = x.place })
     unfolding visit_fix replays_at
@@ -74,28 +68,48 @@ module _ (later : Bool) (x : Sample) (r on : Rebuild) (ticks : on ≡ ticked r) 
         ∙ ap (λ (t : Bool). making (reset_if t) (with_stage behind on) then replays f) (sym a)
         ∙ ap (λ (p : Option Fix). making (reset_if anew) (with_stage behind on) then λ n. replays_at p n) (sym e)
 
+  -- a sample without a place, or that is skipped; and any other
+  pub passed-over : (missing : Bool) → is_some x.place ≡ not missing → (missing || skips on.stage later) ≡ true
+      → visit_sample later x r ≡ heard_makes nothing
+  passed-over = by x.place refl
+    where
+      by : (p : Option Fix) → x.place ≡ p → (missing : Bool) → is_some p ≡ not missing → (missing || skips on.stage later) ≡ true
+          → visit_sample later x r ≡ heard_makes nothing
+      by None e missing m h = unlocated e
+      by (Some f) e true m h = absurd (true≢false m)
+      by (Some f) e false m h = skipped f e h
+
+  pub taken-up : {behind : Stage} {anew : Bool} (missing : Bool) → is_some x.place ≡ not missing → (missing || skips on.stage later) ≡ false
+      → behind ≡ stage_behind on.stage later x.utc → anew ≡ starts_anew on.stage later x.utc
+      → visit_sample later x r ≡ heard_makes (record { rebuild = with_stage behind on; anew = anew; place = x.place })
+  taken-up {behind = behind} {anew = anew} missing m h b a = by x.place refl missing m h
+    where
+      by : (p : Option Fix) → x.place ≡ p → (missing : Bool) → is_some p ≡ not missing → (missing || skips on.stage later) ≡ false
+          → visit_sample later x r ≡ heard_makes (record { rebuild = with_stage behind on; anew = anew; place = x.place })
+      by None e true m h = absurd (true≢false h)
+      by None e false m h = absurd (false≢true m)
+      by (Some f) e true m h = absurd (true≢false m)
+      by (Some f) e false m h = not-skipped f e h b a
+
 -- ---- the fix of a sample replayed
 module _ (x : Heard) {h : Homing} {entry : List Float} where
   pub none-replayed : x.place ≡ None → trail.TrailFit h.trail (length entry)
-      → Makes (replays_at x.place x.rebuild) h entry (visited x.rebuild h) entry
+      → Makes (replays_at x.place x.rebuild) h entry x.rebuild h entry
   unfolding replays_at
   none-replayed e fit =
-      subst (λ (p : Option Fix). Makes (replays_at p x.rebuild) h entry (visited x.rebuild h) entry) (sym e)
-      (makes-quiet x.rebuild h entry fit)
+      subst (λ (p : Option Fix). Makes (replays_at p x.rebuild) h entry x.rebuild h entry) (sym e) (makes-quiet x.rebuild h entry fit)
 
-  pub one-replayed : {n : Homing} {exit : List Float} {handed-on : Fix} (f : Fix) → x.place ≡ Some f.lat f.lon → handed-on ≡ f
-      → Follows (λ C. replay C handed-on x.rebuild.clock_ms) h entry n exit
-      → Makes (replays_at x.place x.rebuild) h entry (visited x.rebuild n) exit
+  pub one-replayed : {n : Homing} {exit : List Float} (f : Fix) → x.place ≡ Some f
+      → Follows (λ C. replay C f x.rebuild.clock_ms) h entry n exit
+      → Makes (replays_at x.place x.rebuild) h entry x.rebuild n exit
   unfolding replays_at
-  one-replayed {n = n} {exit = exit} f e same k =
-      subst (λ (p : Option Fix). Makes (replays_at p x.rebuild) h entry (visited x.rebuild n) exit) (sym e)
-      (replayed f x.rebuild h n entry exit
-      (subst (λ (y : Fix). Follows (λ C. replay C y x.rebuild.clock_ms) h entry n exit) same k))
+  one-replayed {n = n} {exit = exit} f e k =
+      subst (λ (p : Option Fix). Makes (replays_at p x.rebuild) h entry x.rebuild n exit) (sym e) (replayed f x.rebuild h n entry exit k)
 
 -- ---- the guide before a fix is replayed, its parts apart: it starts anew, or nothing is done
 pub record Begins (x : Heard) (g : Ridden) (h : Homing) (k : Ridden) (n : Homing) : Type 0 where
   pub long : length n.window ≡ 96
-  pub settles : Settles (making (reset_if x.anew) x.rebuild) (ridden g h.window h) (visited x.rebuild (ridden k n.window n))
+  pub settles : Settles (making (reset_if x.anew) x.rebuild) (ridden g h.window h) x.rebuild (ridden k n.window n)
 
 module _ {x : Heard} {g : Ridden} {h : Homing} where
   so : {k l : Ridden} {m n : Homing} → Begins x g h k m → n ≡ m → l ≡ k → Begins x g h l n
@@ -111,21 +125,14 @@ module _ {x : Heard} {g : Ridden} {h : Homing} where
       same (kept ∙ apart)
 
   -- and then the fix is replayed
-  pub heard : {rule : Made} {k : Ridden} {n : Homing} {entry exit : List Float} {v : Visited} → rule ≡ heard_makes x
+  pub heard : {rule : Made} {k : Ridden} {n n' : Homing} {r' : Rebuild} {entry exit : List Float} → rule ≡ heard_makes x
       → trail.TrailFit g.trail (length entry)
-      → Begins x g h k n → Makes (replays_at x.place x.rebuild) (ridden k n.window n) entry v exit
-      → Makes rule (ridden g h.window h) entry v exit
-  heard {k = k} {n = n} {entry = entry} {exit = exit} {v = v} says fit b m =
-      subst (λ (rule : Made). Makes rule (ridden g h.window h) entry v exit) (sym says)
+      → Begins x g h k n → Makes (replays_at x.place x.rebuild) (ridden k n.window n) entry r' n' exit
+      → Makes rule (ridden g h.window h) entry r' n' exit
+  heard {k = k} {n = n} {n' = n'} {r' = r'} {entry = entry} {exit = exit} says fit b m =
+      subst (λ (rule : Made). Makes rule (ridden g h.window h) entry r' n' exit) (sym says)
       (one_then (making (reset_if x.anew) x.rebuild) (λ on. replays_at x.place on) (ridden g h.window h) entry entry exit
-      (visited x.rebuild (ridden k n.window n)) v (settled _ _ entry _ fit b.settles) m)
-
--- ---- the clock
-pub clock-stops : (clock : ℕ) → clock_most - sample_ms < clock → clock_most ≡ min (clock + sample_ms) clock_most
-clock-stops clock h = omega arith
-
-pub clock-goes-on : (clock : ℕ) → clock ≤ clock_most - sample_ms → clock + sample_ms ≡ min (clock + sample_ms) clock_most
-clock-goes-on clock h = omega arith
+      x.rebuild r' (ridden k n.window n) n' (settled _ _ entry _ _ fit b.settles) m)
 
 -- ---- one sample more
 one_more : (later : Bool) (xs : List Sample) (x : Sample) (r : Rebuild)
@@ -140,53 +147,34 @@ one_more later (y ∷ xs) x r =
     ap (λ (m : Made). record { rebuild = m.rebuild; calls = a.calls ++ m.calls }) (one_more later xs x a.rebuild)
     ∙ ap (λ (calls : List Call). making calls c.rebuild) (sym (append_assoc a.calls b.calls c.calls))
 
-take_more : (i : ℕ) (xs : List Sample) (d : Sample) → i < length xs → take (suc i) xs ≡ take i xs ++ get_or xs i d ∷ []
-take_more i [] d h = absurd (omega arith)
-take_more zero (x ∷ xs) d h = refl
-take_more (suc i) (x ∷ xs) d h = ap (λ (l : List Sample). x ∷ l) (take_more i xs d (le_of_suc-le-suc h))
-
-suc-is : (i : ℕ) → i + 1 ≡ suc i
-suc-is i = omega arith
-
 -- ---- the first i samples are visited
-pub record Going (later : Bool) (count : ℕ) (xs : List Sample) (r : Rebuild) (h : Homing) (entry : List Float) (i : ℕ) (v : Visited)
+pub record Going (later : Bool) (xs : List Sample) (r : Rebuild) (h : Homing) (entry : List Float) (i : ℕ) (n : Rebuild) (k : Homing)
     (b : List Float) : Type 0 where
-  pub made : Makes (visit_samples later (take i xs) r) h entry v b
-  pub upto : i ≤ count
-  pub few : count ≤ length xs
+  pub made : Makes (visit_samples later (take i xs) r) h entry n k b
 
-module _ {later : Bool} {count : ℕ} {xs : List Sample} {r : Rebuild} {h : Homing} where
-  pub going_start : {b : List Float} {g : Ridden} → g ≡ parts h → trail.TrailFit h.trail (length b) → count ≤ length xs
-      → Going later count xs r h b 0 (visited r (ridden g h.window h)) b
+module _ {later : Bool} {xs : List Sample} {r : Rebuild} {h : Homing} where
+  pub going_start : {b : List Float} {g : Ridden} → g ≡ parts h → trail.TrailFit h.trail (length b)
+      → Going later xs r h b 0 r (ridden g h.window h) b
   unfolding visit_samples
-  going_start {b = b} apart f few =
-      subst (λ (p : Ridden). Going later count xs r h b 0 (visited r (ridden p h.window h)) b) (sym apart)
-      (record { made = makes-quiet r h b f; upto = omega arith; few = few })
+  going_start {b = b} apart f =
+      subst (λ (p : Ridden). Going later xs r h b 0 r (ridden p h.window h) b) (sym apart) (record { made = makes-quiet r h b f })
 
-  module _ {entry mid : List Float} {i : ℕ} {v : Visited} (g : Going later count xs r h entry i v mid) (before : i < count) where
-    within : i < length xs
-    within = omega (arith, g.few)
-
-    pub going_on : {exit : List Float} {w : Visited} (d : Sample)
-        → Makes (visit_sample later (get_or xs i d) v.rebuild) v.homing mid w exit → Going later count xs r h entry (i + 1) w exit
-    going_on {exit = exit} {w = w} d m =
+  module _ {entry mid : List Float} {i : ℕ} {n : Rebuild} {k : Homing} (g : Going later xs r h entry i n k mid) (within : i < length xs) where
+    pub going_on : {exit : List Float} {n' : Rebuild} {k' : Homing} (d : Sample)
+        → Makes (visit_sample later (get_or xs i d) n) k mid n' k' exit → Going later xs r h entry (i + 1) n' k' exit
+    going_on {exit = exit} {n' = n'} {k' = k'} d m =
         let whole : visit_samples later (take (i + 1) xs) r
         ≡ (visit_samples later (take i xs) r then λ next. visit_sample later (get_or xs i d) next) =
-        ap (λ (n : ℕ). visit_samples later (take n xs) r) (suc-is i)
-        ∙ ap (λ (l : List Sample). visit_samples later l r) (take_more i xs d within) ∙ one_more later (take i xs) (get_or xs i d) r in
+        ap (λ (l : List Sample). visit_samples later l r) (take_more xs i d within) ∙ one_more later (take i xs) (get_or xs i d) r in
         record {
           made =
-              subst (λ (rule : Made). Makes rule h entry w exit) (sym whole)
+              subst (λ (rule : Made). Makes rule h entry n' k' exit) (sym whole)
               (one_then (visit_samples later (take i xs) r)
-              (λ next. visit_sample later (get_or xs i d) next) h entry mid exit v w g.made m);
-          upto = omega arith;
-          few = g.few;
+              (λ next. visit_sample later (get_or xs i d) next) h entry mid exit n n' k k' g.made m);
         }
 
-  pub going-out : {entry exit : List Float} {i : ℕ} {v : Visited} {n : Homing} → Going later count xs r h entry i v exit → count ≤ i
-      → n ≡ v.homing
-      → Makes (visit_samples later (take count xs) r) h entry (visited v.rebuild n) exit
-  going-out {entry = entry} {exit = exit} {i = i} {v = v} g past together =
-      let all : i ≡ count = omega (arith, g.upto) in
-      subst (λ (t : Homing). Makes (visit_samples later (take count xs) r) h entry (visited v.rebuild t) exit) (sym together)
-      (subst (λ (n : ℕ). Makes (visit_samples later (take n xs) r) h entry v exit) all g.made)
+  pub going-out : {entry exit : List Float} {i : ℕ} {n : Rebuild} {k m : Homing} → Going later xs r h entry i n k exit → length xs ≤ i
+      → m ≡ k → Makes (visit_samples later xs r) h entry n m exit
+  going-out {entry = entry} {exit = exit} {i = i} {n = n} {k = k} g past together =
+      subst (λ (t : Homing). Makes (visit_samples later xs r) h entry n t exit) (sym together)
+      (subst (λ (l : List Sample). Makes (visit_samples later l r) h entry n k exit) (take_all i xs past) g.made)

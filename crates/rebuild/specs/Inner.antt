@@ -1,6 +1,7 @@
 -- For the functions inside: what a fix decides before it is replayed (`before_replay`), as a yes or no and a stage; and what a sample makes
 -- by that.
 use Rattle.std.specs.Prelude.{Bool, true, false, not, cond, List, [], ◌∷◌, Option, Some, None, ℕ}
+use Rattle.std.specs.Option.{option_or}
 use Rattle.plane.specs.declared.Fix.{Fix}
 use Rattle.calls.specs.Calls.{Call, Reset}
 use Rattle.rebuild.specs.declared.Stage.{Stage}
@@ -8,7 +9,7 @@ use Rattle.rebuild.specs.declared.Stage.TheVariants as stage
 use Rattle.rebuild.specs.declared.Rebuild.{Rebuild}
 use Rattle.rebuild.specs.declared.Heard.{Heard}
 use Rattle.rebuild.specs.Made.{Made, making, quiet, ◌then◌}
-use Rattle.rebuild.specs.Rebuild.{carries_on, known_or, replays}
+use Rattle.rebuild.specs.Rebuild.{carries_on, replays}
 
 -- whether the guide is reset
 unfoldable pub starts_anew : Stage → Bool → Option ℕ → Bool
@@ -19,7 +20,7 @@ starts_anew stage.Decided later t = false
 -- the stage behind the fix
 unfoldable pub stage_behind : Stage → Bool → Option ℕ → Stage
 stage_behind (stage.Pending last) true t = stage.Decided
-stage_behind (stage.Pending last) false t = stage.Pending (known_or t last)
+stage_behind (stage.Pending last) false t = stage.Pending (option_or t last)
 stage_behind stage.Decided later t = stage.Decided
 
 -- the guide is reset, or nothing is done

@@ -1,6 +1,8 @@
 -- A ride that a restart cut short, read back from the log for the ride that carries on from it. Document 01, "Entry"; rebuild.rs.
 use Rattle.std.specs.Prelude.{ℕ, zero, suc, ◌+◌, ◌-◌, ◌^◌, min, Bool, true, false, ◌&&◌, not, cond, List, [], ◌∷◌, leb, eqb}
 use Rattle.std.specs.Prelude.{Option, Some, None}
+use Rattle.std.specs.Int.{abs_diff}
+use Rattle.std.specs.Option.{option_or}
 use Rattle.plane.specs.declared.Fix.{Fix}
 use Rattle.ride_log.specs.declared.Kind.{Kind}
 use Rattle.ride_log.specs.declared.Kind.TheVariants as kind
@@ -43,14 +45,10 @@ ticked r =
     record { recovered = r.recovered; walk = r.walk; stage = r.stage; clock_ms = min (r.clock_ms + sample_ms) clock_most }
 
 -- ---- whether the later ride carries on
--- how far apart two times are, whichever is the later
-abbrev pub apart : ℕ → ℕ → ℕ
-apart a b = (a - b) + (b - a)
-
 -- "The later ride carries on if both UTC times are known and at most 1,800,000 ms apart": the recovered ride's last and the later ride's
 -- first
 unfoldable pub carries_on : Option ℕ → Option ℕ → Bool
-carries_on (Some last) (Some first) = leb (apart last first) continue_ms
+carries_on (Some last) (Some first) = leb (abs_diff last first) continue_ms
 carries_on (Some last) None = false
 carries_on None first = false
 
@@ -59,11 +57,6 @@ unfoldable pub decide : Option ℕ → Option ℕ → Rebuild → Made
 decide last first r = making (cond (carries_on last first) [] (Reset ∷ [])) (with_stage stage.Decided r)
 
 -- ---- a sample
--- a time, or the one before it where it is not known
-unfoldable pub known_or : Option ℕ → Option ℕ → Option ℕ
-known_or (Some t) before = Some t
-known_or None before = before
-
 -- once the later ride's first fix came, the recovered ride's fixes are read no more
 unfoldable pub skips : Stage → Bool → Bool
 skips (stage.Pending last) later = false
@@ -73,7 +66,7 @@ skips stage.Decided later = not later
 -- fixed
 unfoldable pub before_replay : Stage → Bool → Option ℕ → Rebuild → Made
 before_replay (stage.Pending last) true t r = decide last t r
-before_replay (stage.Pending last) false t r = quiet (with_stage (stage.Pending (known_or t last)) r)
+before_replay (stage.Pending last) false t r = quiet (with_stage (stage.Pending (option_or t last)) r)
 before_replay stage.Decided later t r = quiet r
 
 -- the guide's `replay`, at the clock

@@ -3,17 +3,16 @@ use mathlib.Core.Path.{refl, sym, ◌∙◌}
 use Rattle.rebuild.specs.Rebuild.{settle}
 use Rattle.rebuild.proofs.Making.{decides-live, carried_on, begun-anew}
 use Rattle.rebuild.proofs.settle.Goals as goal
-
-pub returns-then-starts_anew : goal.returns-then-starts_anew
-unfolding settle
-returns-then-starts_anew c =
-    let a = c.args in
-    begun-anew a.h (decides-live a.r.stage a.utc a.r refl) c.reset-homing.result
-    (sym c.starts_anew.ensures ∙ c.if-starts_anew.true)
-    c.reset-homing.ensures
+use Rattle.rebuild.proofs.settle.Goals.{then-starts_anew, else-starts_anew}
 
 pub returns : goal.returns
 unfolding settle
 returns c =
-    let a = c.args in
-    carried_on a.h (decides-live a.r.stage a.utc a.r refl) (sym c.starts_anew.ensures ∙ c.if-starts_anew.false)
+    let h = c.args.h.now in
+    let r = c.args.r.now in
+    let live = decides-live r.stage c.args.utc r refl in
+    elim c.if-starts_anew.branch [
+      | then-starts_anew w ↦
+          rw w.h-is (begun-anew h live w.reset.result (sym c.starts_anew.ensures ∙ w.if-starts_anew.true) w.reset.ensures)
+      | else-starts_anew w ↦ rw w.h-is (carried_on h live (sym c.starts_anew.ensures ∙ w.if-starts_anew.false))
+    ]

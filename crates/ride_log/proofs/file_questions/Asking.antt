@@ -1,31 +1,26 @@
 -- Samples and records that are asked one after another: where those passed say nothing, those to come say what all do. Assumes nothing.
-use Prim.Native.Nat.{ℕ, zero, suc, ◌+◌, ◌-◌, ◌/◌, ◌%◌, ◌^◌, ◌≤◌, ◌<◌}
-use mathlib.Core.Path.{◌≡◌, refl, sym, ap, ap₂, ◌∙◌}
+use Prim.Native.Nat.{ℕ, zero, suc, ◌+◌, ◌-◌, ◌/◌, ◌%◌, ◌≤◌, ◌<◌}
+use mathlib.Core.Path.{◌≡◌, refl, sym, ap, ◌∙◌}
 use mathlib.Core.Bool.{Bool, true, false, not, ◌&&◌, and-eq-true_iff}
 use mathlib.Core.Logic.{◌≢◌}
 use mathlib.Core.List.{List, [], ◌∷◌}
 use native.Mathlib.Nat.{sub-zero}
 use native.Mathlib.Numerals.{add-one}
 use native.Mathlib.Omega.{arith}
-use borrow.Author.Tests.{ne_eqb, lt-ltb, le-ltb, lt-leb, le-leb, leb-true, not-true, not-false}
+use borrow.Author.Tests.{ne_eqb, lt-ltb, le-ltb, leb-true, not-true, not-false}
 use lib.Dec.{leb, eqb}
 use lib.ListN.{length, get_or, take, drop}
 use lib.Seq.{drop-cons}
-use lib.IntN.{ℤ}
-use lib.Signed.{mag}
-use mir.Syntax.{w32}
-use mir.Val.{to_z, of_z}
-use mir.ValLaws.{to_z-of_z}
-use Rattle.std.specs.Prelude.{Option, Some}
+use Rattle.std.specs.Prelude.{Option}
 use Rattle.plane.specs.declared.Fix.{Fix}
 use Rattle.refusal.specs.declared.Refusal.{Refusal}
 use Rattle.refusal.specs.declared.Refusal.TheVariants as refusal
 use Rattle.refusal.specs.Refusal.{number}
 use Rattle.calls.specs.Questions.{◌or_else◌}
 use Rattle.ride_log.specs.Entry.{next_of, record_count, records_from, chain, count_of, sample_start, sample_at, no_sample, sample_of}
-use Rattle.ride_log.specs.Entry.{samples_of, used, kind_number, entry_at}
+use Rattle.ride_log.specs.Entry.{samples_of, used, entry_at}
 use Rattle.calls.specs.Calls.{asks_place}
-use Rattle.ride_log.specs.Questions.{question6, question7, question8, asks_samples, asks_entry, asks_record, asks_records, asks_chain}
+use Rattle.ride_log.specs.Questions.{question6, question7, asks_samples, asks_record, asks_records, asks_chain}
 use Rattle.ride_log.specs.Questions.{asks_file}
 use Rattle.ride_log.proofs.file_questions.Chain.{ends, steps-are}
 
