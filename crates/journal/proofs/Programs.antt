@@ -7,7 +7,6 @@ use native.Mathlib.Omega.{arith}
 use borrow.Author.Tests.{eqb-true}
 use Rattle.crumbs.specs.Crumb.{stride, whole, capacity}
 use Rattle.state.specs.State.{State}
-use Rattle.state.specs.Rule.{Done}
 use Rattle.calls.specs.Line.{new}
 use Rattle.calls.specs.Calls.{Call, after_call}
 use Rattle.journal.specs.Claim.{Claim}

@@ -7,10 +7,9 @@ use mathlib.Core.List.{List, [], ◌∷◌}
 use borrow.Author.Tests.{lt-ltb, le-leb, leb-true}
 use lib.Dec.{leb}
 use lib.ListN.{length}
-use Rattle.crumbs.specs.Crumb.{whole, capacity, crumbs}
+use Rattle.crumbs.specs.Crumb.{whole, capacity}
 use Rattle.trail.specs.Trail.{window_places}
-use Rattle.state.specs.declared.Place.{Place as Fed}
-use Rattle.std.specs.Prelude.{Some, None}
+use Rattle.std.specs.Prelude.{Option, Some, None}
 use Rattle.plane.specs.declared.Fix.{Fix}
 use Rattle.state.specs.declared.Line.{Line}
 use Rattle.state.specs.declared.Line.TheVariants as line
@@ -102,7 +101,7 @@ unfolding asks_fixes
 fixes-asked [] g = refl
 fixes-asked (x ∷ xs) g = or_else_none (asks_fix x) (asks_fixes xs) (fix-asked x g.0) (fixes-asked xs g.1)
 
-pub place-asked : (x : Fed) → FixesOnGlobe (point_of x) → asks_place x ≡ 0
+pub place-asked : (x : Option Fix) → FixesOnGlobe (point_of x) → asks_place x ≡ 0
 unfolding asks_place
 place-asked (Some x) g = fix-asked x g.0
 place-asked None g = refl

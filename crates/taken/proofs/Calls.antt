@@ -15,7 +15,6 @@ use Rattle.crumbs.specs.declared.Crumb.{Crumb}
 use Rattle.motion.specs.Heading.{elapsed}
 use Rattle.segments.specs.declared.costs.Nearest.{Nearest}
 use Rattle.search.proofs.Theorems.{course-near-met}
-use Rattle.state.specs.declared.Place.{Place as Fed}
 use Rattle.state.specs.declared.Line.{Line}
 use Rattle.state.specs.declared.Line.TheVariants as line
 use Rattle.state.specs.declared.Event.{Event}
@@ -241,7 +240,7 @@ module _ (C : ℕ) (least : 3 ≤ C) (room : C ≤ most) (course : List Crumb) (
       either (λ (d : Done Event). K d.state) (same_fix s.fed x) (λ t. still-at-kept s.here now _ k.here (kept-here-ms k))
       (λ t. new-fix-kept x now _ (kept-here-ms k) g)
 
-  pub observe-kept : (x : Fed) (now : ℕ) (s : State) → K s → FixesOnGlobe (point_of x) → K (observe C course x now s).state
+  pub observe-kept : (x : Option Fix) (now : ℕ) (s : State) → K s → FixesOnGlobe (point_of x) → K (observe C course x now s).state
   unfolding observe
   observe-kept (Some x) now s k g = seen-kept x now s k g.0
   observe-kept None now s k g = missing-kept now s k

@@ -4,7 +4,7 @@ use native.Mathlib.Omega.{arith}
 use mathlib.Core.Path.{◌≡◌, refl, sym, subst}
 use mathlib.Core.Bool.{Bool, false}
 use mathlib.Core.List.{List, [], ◌∷◌, reverse, reverse_aux}
-use Rattle.std.specs.Prelude.{Some, None, Option}
+use Rattle.std.specs.Prelude.{Some, None}
 use lib.Dec.{leb, lit≤}
 use lib.ListN.{length, length-reverse}
 use Rattle.binary32.specs.Arithmetic.{constant}

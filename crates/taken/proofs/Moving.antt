@@ -17,7 +17,6 @@ use Rattle.motion.specs.declared.Motion.{Motion}
 use Rattle.lap.specs.declared.Lap.{Lap}
 use Rattle.motion.specs.Heading.{elapsed, heading_step_m, heading_stale_ms, spot_or, renewed, aged, track_heading}
 use Rattle.lap.specs.Lap.{moving_at, lap_start, step_from, step_pass}
-use Rattle.state.specs.declared.Place.{Place as Fed}
 use Rattle.state.specs.declared.Frame.{Frame}
 use Rattle.course.specs.Fix.{located_from, located, framed_from, framed}
 use Rattle.calls.specs.Questions.{heading_fits, spot_fits}
@@ -36,7 +35,7 @@ spot-fits (Some p) h = place-fits p h
 spot-fits None h = refl
 
 -- ---- the ride's frame
-abbrev pub Origin : Fed → Type 0
+abbrev pub Origin : Option Fix → Type 0
 Origin (Some x) = OnGlobe x.lat x.lon
 Origin None = Unit {0}
 
@@ -44,7 +43,7 @@ pub record Framed (f : Frame) : Type 0 where
   pub origin : Origin f.origin
   pub factor : Within (frac 5) f.east_per_e7
 
-located-from : (o : Fed) (x : Fix) (f : Frame) → FixOnGlobe x → Framed f → Framed (located_from o x f)
+located-from : (o : Option Fix) (x : Fix) (f : Frame) → FixOnGlobe x → Framed f → Framed (located_from o x f)
 unfolding located_from
 located-from (Some y) x f g h = h
 located-from None x f g h = record { origin = g; factor = east-factor x.lat g.latitude }
@@ -53,7 +52,7 @@ pub located-framed : (x : Fix) (f : Frame) → FixOnGlobe x → Framed f → Fra
 unfolding located
 located-framed x f g h = located-from f.origin x f g h
 
-framed-from : (o : Fed) (factor : Float) (x : Fix) → Origin o → Within (frac 5) factor → FixOnGlobe x → Place (framed_from o factor x)
+framed-from : (o : Option Fix) (factor : Float) (x : Fix) → Origin o → Within (frac 5) factor → FixOnGlobe x → Place (framed_from o factor x)
 unfolding framed_from
 framed-from (Some y) factor x o w g = frame-place y x factor o g w
 framed-from None factor x o w g = frame-place x x factor g g w

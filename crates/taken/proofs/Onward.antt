@@ -13,7 +13,7 @@ use Rattle.crumbs.specs.Choice.{last}
 use Rattle.crumbs.specs.Along.{crumb_of, recorded_m, realong}
 use Rattle.thin.specs.Crumb.{thinning}
 use Rattle.thin.proofs.Theorems.{thins-any}
-use Rattle.trail.specs.Trail.{retrace_fixes, Track, with_window, thin, put, keep, flush, wait, add}
+use Rattle.trail.specs.Trail.{retrace_fixes, Track, thin, put, keep, flush, wait, add}
 use Rattle.trail.proofs.Theorems.{Sound, length-realong}
 use Rattle.journal.proofs.Walking.{Steps, keeps, flushes, adds}
 

@@ -3,21 +3,19 @@ use Prim.Native.Nat.{ℕ, ◌≤◌, ◌<◌}
 use native.Mathlib.Omega.{arith}
 use native.Mathlib.Decide.{ℕ_discrete}
 use mathlib.Core.Path.{◌≡◌, refl}
-use mathlib.Core.Bool.{Bool, true, false, ◌||◌, true≢false}
+use mathlib.Core.Bool.{true, false, ◌||◌, true≢false}
 use mathlib.Core.List.{List, [], ◌∷◌, ◌++◌}
 use borrow.Author.Tests.{eqb-false, lt-ltb, le-leb, eq-eqb, ne_eqb}
 use lib.Dec.{eqb, leb}
 use lib.ListN.{length, take, length-append, length-take}
-use lib.Ieee.{Float, le}
-use Rattle.binary32.specs.Arithmetic.{constant}
-use Rattle.binary32.specs.Limits.{plus_zero}
+use lib.Ieee.{Float}
 use Rattle.plane.specs.declared.Point.{Point}
 use Rattle.plane.proofs.Place.{Place}
 use Rattle.crumbs.specs.declared.Crumb.{Crumb}
 use Rattle.crumbs.specs.Along.{crumb_of, recorded_m, realong}
 use Rattle.thin.specs.Crumb.{thinning}
 use Rattle.trail.specs.Notes.{Note, thinned_in}
-use Rattle.trail.specs.Trail.{retrace_fixes, Track, with_crumbs, fresh, tolerance_m, keep, flush, add, reset_track}
+use Rattle.trail.specs.Trail.{retrace_fixes, Track, with_crumbs, fresh, keep, flush, add, reset_track}
 use Rattle.trail.proofs.Theorems.{Holding, MayKeep, nothing, one, Keeps, full}
 use Rattle.trail.proofs.Theorems as trail
 use Rattle.follow.specs.Engage.{forgotten}

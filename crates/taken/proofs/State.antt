@@ -6,12 +6,12 @@ use mathlib.Core.List.{List}
 use lib.ListN.{length}
 use Rattle.std.specs.Prelude.{Option, None}
 use Rattle.state.specs.declared.Guide.{Guide}
+use Rattle.plane.specs.declared.Fix.{Fix}
 use Rattle.plane.specs.declared.Point.{Point}
 use Rattle.motion.specs.declared.Motion.{Motion}
 use Rattle.lap.specs.declared.Lap.{Lap}
 use Rattle.crumbs.specs.declared.Crumb.{Crumb}
 use Rattle.trail.specs.Trail.{Track}
-use Rattle.state.specs.declared.Place.{Place as Fed}
 use Rattle.state.specs.declared.Frame.{Frame}
 use Rattle.state.specs.declared.Line.{Line}
 use Rattle.state.specs.declared.Line.TheVariants as line
@@ -93,7 +93,7 @@ module _ {C points : ℕ} {s : State} (k : Kept C points s) where
     guide = k.guide;
   }
 
-  pub kept-fed : {x : Fed} → Kept C points (with_fed x s)
+  pub kept-fed : {x : Option Fix} → Kept C points (with_fed x s)
   kept-fed = record {
     track = k.track;
     counted = k.counted;

@@ -16,7 +16,7 @@ use Rattle.crumbs.proofs.Crumbs.{take-crumbs}
 use Rattle.state.specs.State.{State}
 use Rattle.state.specs.Rule.{Done}
 use Rattle.plane.specs.declared.Fix.{Fix}
-use Rattle.course.specs.Course.{points, line_of}
+use Rattle.course.specs.Course.{points}
 use Rattle.calls.specs.Questions.{question1, question4, state_fits, held_fits, line_fits, crumbs_fit, unless, asks_state, asks_crumbs}
 use Rattle.calls.specs.Questions.{asks_line}
 use Rattle.calls.specs.Questions.{asks_both}

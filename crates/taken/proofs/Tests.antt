@@ -1,6 +1,6 @@
 -- What holds by a test, and what a test of two parts says of each. Assumes nothing.
 use mathlib.Core.Path.{◌≡◌, refl}
-use mathlib.Core.Bool.{Bool, true, false, ◌&&◌, cond, and-eq-true_iff}
+use mathlib.Core.Bool.{Bool, true, false, ◌&&◌, cond}
 
 -- either of two, by a test
 pub either : {A : Type 0} (P : A → Type 0) (b : Bool) {x y : A} → (b ≡ true → P x) → (b ≡ false → P y) → P (elim b [ true ↦ x | false ↦ y ])

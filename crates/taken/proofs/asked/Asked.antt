@@ -10,7 +10,7 @@ use Rattle.crumbs.specs.Crumb.{stride, capacity}
 use Rattle.state.specs.State.{State}
 use Rattle.state.specs.Rule.{Done}
 use Rattle.plane.specs.declared.Fix.{Fix}
-use Rattle.calls.specs.Questions.{question1, state_fits, held_fits, unless, ◌or_else◌, asks_state, asks_crumbs}
+use Rattle.calls.specs.Questions.{question1, state_fits, held_fits, unless, asks_state, asks_crumbs}
 use Rattle.calls.specs.Fix.{replay}
 use Rattle.calls.specs.Line.{new, reset}
 use Rattle.calls.specs.Calls.{Call, Reset, Replay, asks, performs, after_call}

@@ -2,21 +2,18 @@
 -- values of binary32. Assumes nothing.
 use Prim.Native.Nat.{ℕ, zero, suc, ◌≤◌}
 use native.Mathlib.Omega.{arith}
-use mathlib.Core.Path.{◌≡◌, refl}
+use mathlib.Core.Path.{◌≡◌}
 use mathlib.Core.Bool.{Bool, true, false, ◌&&◌}
 use mathlib.Core.List.{List, [], ◌∷◌, ◌++◌}
 use borrow.Author.Tests.{eqb-true}
-use lib.Dec.{T, leb, ltb, eqb, lit≤}
+use lib.Dec.{T, leb, ltb, eqb}
 use lib.ListN.{length, take}
 use lib.Ieee.{Float, binary32, fits, lt}
 use lib.Ieee.Fits.{add-fits}
-use Rattle.binary32.specs.Arithmetic.{constant}
-use Rattle.binary32.proofs.magnitude.Size.{Within, frac}
 use Rattle.binary32.proofs.magnitude.Signs.{zero-fits}
 use Rattle.plane.specs.declared.Point.{Point}
 use Rattle.std.specs.Prelude.{Option, Some, None, ℕ}
 use Rattle.plane.specs.declared.Fix.{Fix}
-use Rattle.plane.specs.Fix.{m_per_e7}
 use Rattle.crumbs.specs.declared.Crumb.{Crumb}
 use Rattle.crumbs.specs.Crumb.{capacity, point}
 use Rattle.crumbs.specs.Choice.{Choice, end, leave, strike, last}
@@ -53,7 +50,7 @@ use Rattle.calls.specs.Fix.{replay, end_replay}
 use Rattle.calls.specs.Follow.{update_here, brought, engaged_or, way_home, follow, near_here, follow_from, set_following, auto_off}
 use Rattle.calls.specs.Follow.{set_auto_follow}
 use Rattle.calls.specs.Line.{new, reset, off_course, set_course}
-use Rattle.calls.specs.Questions.{asks_crumbs, asks_both, ◌or_else◌}
+use Rattle.calls.specs.Questions.{asks_crumbs, asks_both}
 use Rattle.calls.specs.Calls.{Call, Ask, Reset, EndReplay, SetCourse, SetAutoFollow, Observe, Replay, SetFollowing, point_of, asks_place}
 use Rattle.calls.specs.Calls.{asks, course_in, performs, after_call}
 use Rattle.questions.proofs.Given.{fix-given, neither}

@@ -11,8 +11,7 @@ use Rattle.binary32.specs.Limits.{plus_zero}
 use Rattle.plane.specs.declared.Point.{Point}
 use Rattle.std.specs.Prelude.{Option, Some, None, ℕ}
 use Rattle.plane.specs.declared.Fix.{Fix}
-use Rattle.plane.specs.Plane.{turn, distance, bearing}
-use Rattle.plane.proofs.Theorems.{bearing-below}
+use Rattle.plane.specs.Plane.{distance}
 use Rattle.motion.specs.declared.Motion.{Motion}
 use Rattle.lap.specs.declared.Lap.{Lap}
 use Rattle.motion.specs.Heading.{elapsed, heading_step_m, heading_stale_ms, spot_or, renewed, aged, track_heading}
@@ -25,7 +24,6 @@ use Rattle.state.specs.declared.Line.{Line}
 use Rattle.state.specs.declared.Line.TheVariants as line
 use Rattle.state.specs.declared.Frame.{Frame}
 use Rattle.state.specs.declared.Follow.{Follow}
-use Rattle.state.specs.declared.Course.{Course}
 use Rattle.state.specs.State.{State, with_frame}
 use Rattle.follow.specs.Parts.{ended_by_thinning}
 use Rattle.follow.specs.Record.{after_thinning, recorded_in, recorded, add_in}
