@@ -1,20 +1,18 @@
 -- Whether a state is held, and what loading gives. Assumes nothing.
 use Prim.Native.Nat.{ℕ, ◌≤◌, ◌<◌}
-use mathlib.Core.Path.{◌≡◌, refl, sym, ap, ◌∙◌}
-use mathlib.Core.Bool.{Bool, true, false, ◌&&◌, cond, false≢true, true≢false, and-eq-true_iff, and-false}
+use mathlib.Core.Path.{◌≡◌, sym, ap, ◌∙◌}
+use mathlib.Core.Bool.{true, false, ◌&&◌, and-eq-true_iff, and-false}
 use mathlib.Core.List.{List}
-use Rattle.std.specs.Prelude.{Option, Some, None}
 use native.Mathlib.Omega.{arith}
 use borrow.Author.Tests.{leb-true}
 use lib.Dec.{leb, eqb}
 use lib.ListN.{length}
 use lib.Ieee.{Float}
-use Rattle.state.specs.declared.Homing.{Homing}
 use Rattle.stored.specs.Fields.{within, word_at}
 use Rattle.stored.specs.Stored.{mark, mosts, holds, homing_at, stored, HasRoom}
-use Rattle.stored.specs.Inner.{Loads}
 use Rattle.stored.specs.Parts.{word_count, number_count}
 use Rattle.stored.proofs.fields.Limits.{within-room}
+use Rattle.stored.proofs.fields.Same.{then-held}
 pub use Rattle.stored.proofs.stored_rebuild.Holding.{rebuild-has-room}
 
 pub outside : (w : List ℕ) (n : List Float) → within mosts w ≡ false → false ≡ holds w n
@@ -36,23 +34,6 @@ loads-room w n h =
     let two = (and-eq-true_iff (within mosts w) (leb number_count (length n))).0 rest in
     (within-room mosts w two.0, leb-true number_count (length n) two.1)
 
-pub loads-there : (w : List ℕ) (n : List Float) {h : Homing} → holds w n ≡ true → h ≡ homing_at w n → Loads w n h true
-unfolding stored
-loads-there w n {h} t e =
-    record { there = λ _. ap (λ b. cond b (Some (homing_at w n)) None) t ∙ ap Some (sym e); nothing = λ f. absurd (true≢false f) }
-
-pub loads-nothing : (w : List ℕ) (n : List Float) (h : Homing) → holds w n ≡ false → Loads w n h false
-unfolding stored
-loads-nothing w n h t = record { there = λ f. absurd (false≢true f); nothing = λ _. ap (λ b. cond b (Some (homing_at w n)) None) t }
-
-unfoldable is_some : {A : Type 0} → Option A → Bool
-is_some (Some x) = true
-is_some None = false
-
 pub has_room : HasRoom
-unfolding stored is_some
-has_room w n h e = go (holds w n) refl e
-  where
-    go : (b : Bool) → holds w n ≡ b → cond b (Some (homing_at w n)) None ≡ Some h → (word_count ≤ length w) × (number_count ≤ length n)
-    go true t e = loads-room w n t
-    go false t e = absurd (false≢true (ap is_some e))
+unfolding stored
+has_room w n h e = loads-room w n (then-held (holds w n) (homing_at w n) h e)

@@ -1,33 +1,38 @@
 -- What was stored is read back, field by field. Assumes nothing.
 use Prim.Native.Nat.{ℕ, ◌+◌, ◌<◌}
 use mathlib.Core.Path.{◌≡◌, refl, ap, ◌∙◌}
-use mathlib.Core.Bool.{true, ◌&&◌, cond}
-use mathlib.Core.List.{List, ◌++◌}
+use mathlib.Core.Bool.{true, ◌&&◌}
+use mathlib.Core.List.{List, [], ◌++◌}
 use native.Mathlib.Omega.{arith}
 use borrow.Author.Tests.{le-leb}
 use lib.Dec.{leb, eqb}
 use lib.ListN.{length, get_or, take, drop, length-append}
 use lib.Seq.{take_at}
 use lib.Ieee.{Float}
-use Rattle.std.specs.Prelude.{Some, None}
-use Rattle.lap.specs.declared.Stage.TheVariants as stage
-use Rattle.state.specs.declared.Line.TheVariants as line
-use Rattle.state.specs.declared.Mode.TheVariants as mode
+use Rattle.std.specs.Prelude.{Some}
+use Rattle.std.specs.Bool.{then_some}
+use Rattle.std.specs.Option.{unwrap_or}
+use Rattle.binary32.specs.Limits.{plus_zero}
+use Rattle.plane.specs.declared.Point.{Point}
 use Rattle.state.specs.declared.Guide.{Guide}
 use Rattle.state.specs.declared.Homing.{Homing}
-use Rattle.stored.specs.Fields.{most32, most16, most8, within, word_at, flag_at, signed_at, spot_at, heading_at, heading_in, place_read}
+use Rattle.stored.specs.Fields.{most32, most16, most8, within, word_at, flag_at, signed_at, spot_at, heading_at, place_read, some_flag}
 use Rattle.stored.specs.Stored.{mark, mosts, homing_at, holds, stored, words_of, head_of, numbers_of, StateFits, ReadBack}
 use Rattle.stored.specs.Parts.{number_count, trail_at, frame_at, motion_at, follow_at, course_at, lap_at, guide_read, shown_at, guide_in}
-use Rattle.stored.specs.Parts.{shown_flag, guide_words}
+use Rattle.stored.specs.Parts.{guide_words}
 use Rattle.stored.proofs.fields.Limits.{within_more}
 pub use Rattle.stored.proofs.fields.Limits.{within-at}
-use Rattle.stored.proofs.fields.Same.{narrow-same, flag_same, line_same, stage-same, mode-same, spot-same, heading-back}
-use Rattle.stored.proofs.parts.Parts.{place-back, shown-same}
+use Rattle.stored.proofs.fields.Same.{narrow-same, flag_same, line_same, stage-same, mode-same, some-same, heading-back}
+use Rattle.stored.proofs.parts.Parts.{place-back}
 
 -- ---- the parts
+-- what is written where there is no place
+abbrev nowhere : Point
+nowhere = record { east = plus_zero; north = plus_zero }
+
 -- a guide's words, whatever lies behind
 pub guide-same : (g : Guide) (ws : List ℕ) → leb g.direct_m most32 ≡ true → leb g.track_m most32 ≡ true
-    → leb g.off_m most32 ≡ true → leb g.bearing most16 ≡ true → leb (heading_in g.heading) most16 ≡ true
+    → leb g.off_m most32 ≡ true → leb g.bearing most16 ≡ true → leb (unwrap_or g.heading 0) most16 ≡ true
     → guide_read (guide_words g ++ ws) 0 ≡ g
 unfolding guide_read heading_at
 guide-same g ws direct track off bearing way = λ i. record {
@@ -80,12 +85,12 @@ module _ (h : Homing) (fits : StateFits h) (ws : List ℕ) (ns : List Float) whe
 
   here_back : spot_at W 11 N 2 ≡ h.here
   unfolding spot_at words_of numbers_of head_of
-  here_back = spot-same h.here
+  here_back = some-same h.here nowhere
 
   motion-back : motion_at W N ≡ h.motion
   unfolding motion_at spot_at heading_at words_of numbers_of head_of mosts
   motion-back = λ i. record {
-    from = spot-same h.motion.from i;
+    from = some-same h.motion.from nowhere i;
     heading = heading-back h.motion.heading (at 15 (omega arith)) i;
     heading_ms = h.motion.heading_ms;
   }
@@ -95,7 +100,7 @@ module _ (h : Homing) (fits : StateFits h) (ws : List ℕ) (ns : List Float) whe
   follow-back = λ i. record {
     line = line_same h.follow.line i;
     segment = h.follow.segment;
-    matched = spot-same h.follow.matched i;
+    matched = some-same h.follow.matched nowhere i;
     off = flag_same h.follow.off i;
     reminded_ms = h.follow.reminded_ms;
   }
@@ -110,14 +115,14 @@ module _ (h : Homing) (fits : StateFits h) (ws : List ℕ) (ns : List Float) whe
     join_end = h.course.join_end;
     along = h.course.along;
     reached = h.course.reached;
-    fix = spot-same h.course.fix i;
+    fix = some-same h.course.fix nowhere i;
   }
 
   lap-back : lap_at W N ≡ h.lap
   unfolding lap_at spot_at words_of numbers_of head_of
   lap-back = λ i. record {
     pass = record { stage = stage-same h.lap.pass.stage i };
-    start = spot-same h.lap.start i;
+    start = some-same h.lap.start nowhere i;
     passed = flag_same h.lap.passed i;
   }
 
@@ -129,7 +134,7 @@ module _ (h : Homing) (fits : StateFits h) (ws : List ℕ) (ns : List Float) whe
 
   shown-back : shown_at W ≡ h.guide
   unfolding shown_at words_of
-  shown-back = ap (λ g. cond (eqb (shown_flag h.guide) 1) (Some g) None) guide-back ∙ shown-same h.guide
+  shown-back = ap (then_some (eqb (some_flag h.guide) 1)) guide-back ∙ some-same h.guide (guide_read [] 0)
 
   flags-back : (flag_at W 28 ≡ h.auto_follow) × (flag_at W 29 ≡ h.arrived)
   unfolding words_of
@@ -178,5 +183,5 @@ module _ (h : Homing) (fits : StateFits h) (ws : List ℕ) (ns : List Float) whe
 pub read_back : ReadBack
 unfolding stored
 read_back h fits ws ns =
-    ap (λ b. cond b (Some (homing_at (words_of h ++ ws) (numbers_of h ++ ns))) None) (holds-it h fits ws ns)
+    ap (λ b. then_some b (homing_at (words_of h ++ ws) (numbers_of h ++ ns))) (holds-it h fits ws ns)
     ∙ ap Some (homing-back h fits ws ns)

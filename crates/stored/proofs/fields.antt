@@ -1,6 +1,5 @@
 pub mod Copying
 pub mod Limits
-pub mod Fielded
-pub mod Signs
+pub mod Narrowing
 pub mod Fitting
 pub mod Same

@@ -2,4 +2,3 @@ pub mod Holding
 pub mod RebuildBack
 pub mod Storing
 pub mod Fitting
-pub mod Fielded

@@ -3,4 +3,3 @@ pub mod Fields
 pub mod Parts
 pub mod Words
 pub mod Rebuilt
-pub mod Inner

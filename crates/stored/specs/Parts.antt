@@ -1,7 +1,9 @@
 -- The parts of a guide's state: how each is read, and the words that it is written as. Where a part stands among the words and the
 -- numbers is in the table of crates/stored/specs/Stored.antt.
-use Rattle.std.specs.Prelude.{ℕ, ◌+◌, cond, List, [], ◌∷◌, ◌++◌, Float, Option, Some, None}
-use Rattle.std.specs.Int.{w32}
+use Rattle.std.specs.Prelude.{ℕ, ◌+◌, List, [], ◌∷◌, ◌++◌, Float, Option}
+use Rattle.std.specs.Bool.{then_some}
+use Rattle.std.specs.Int.{w32, cast_unsigned}
+use Rattle.std.specs.Option.{unwrap_or}
 use Rattle.std.proofs.Common.{SFits}
 use Rattle.plane.specs.declared.Fix.{Fix}
 use Rattle.motion.specs.declared.Motion.{Motion}
@@ -13,14 +15,17 @@ use Rattle.state.specs.declared.Course.{Course}
 use Rattle.state.specs.declared.Guide.{Guide}
 use Rattle.state.specs.State.{course_with}
 use Rattle.stored.specs.Fields.{most64, most32, most16, most8, word_at, number_at, narrow_at, flag_at, spot_at, heading_at, place_read}
-use Rattle.stored.specs.Fields.{line_of_tag, stage_of_tag, mode_of_tag, flag_of, unsigned, spot_flag, heading_flag, heading_in, place_flag}
-use Rattle.stored.specs.Fields.{lat_in, lon_in, line_tag, stage_tag, mode_tag}
+use Rattle.stored.specs.Fields.{line_of_tag, stage_of_tag, mode_of_tag, flag_of, some_flag, fix_in, line_tag, stage_tag, mode_tag}
 
 abbrev pub word_count : ℕ
 word_count = 45
 
 abbrev pub number_count : ℕ
 number_count = 110
+
+-- how many words a guide takes
+abbrev pub guide_size : ℕ
+guide_size = 10
 
 -- the number at which the window begins
 abbrev pub window_at : ℕ
@@ -99,36 +104,31 @@ guide_read w i =
     }
 
 unfoldable pub shown_at : List ℕ → Option Guide
-shown_at w = cond (flag_at w 34) (Some (guide_read w 35)) None
+shown_at w = then_some (flag_at w 34) (guide_read w 35)
 
 -- ---- written
 -- where no guide is shown, one whose words are 0
 abbrev pub guide_in : Option Guide → Guide
-guide_in (Some g) = g
-guide_in None = guide_read [] 0
-
-abbrev pub shown_flag : Option Guide → ℕ
-shown_flag (Some g) = 1
-shown_flag None = 0
+guide_in s = unwrap_or s (guide_read [] 0)
 
 -- the words of each part
 abbrev pub place_words : Option Fix → List ℕ
-place_words p = place_flag p ∷ unsigned (lat_in p) ∷ unsigned (lon_in p) ∷ []
+place_words p = some_flag p ∷ cast_unsigned w32 (fix_in p).lat ∷ cast_unsigned w32 (fix_in p).lon ∷ []
 
 abbrev pub heading_words : Option ℕ → List ℕ
-heading_words h = heading_flag h ∷ heading_in h ∷ []
+heading_words h = some_flag h ∷ unwrap_or h 0 ∷ []
 
 abbrev pub motion_words : Motion → List ℕ
-motion_words m = spot_flag m.from ∷ heading_words m.heading ++ m.heading_ms ∷ []
+motion_words m = some_flag m.from ∷ heading_words m.heading ++ m.heading_ms ∷ []
 
 abbrev pub follow_words : Follow → List ℕ
-follow_words f = line_tag f.line ∷ f.segment ∷ spot_flag f.matched ∷ flag_of f.off ∷ f.reminded_ms ∷ []
+follow_words f = line_tag f.line ∷ f.segment ∷ some_flag f.matched ∷ flag_of f.off ∷ f.reminded_ms ∷ []
 
 abbrev pub course_words : Course → List ℕ
-course_words c = c.line_len ∷ flag_of c.unplaced ∷ flag_of c.held ∷ c.join_fixes ∷ c.join_end ∷ spot_flag c.fix ∷ []
+course_words c = c.line_len ∷ flag_of c.unplaced ∷ flag_of c.held ∷ c.join_fixes ∷ c.join_end ∷ some_flag c.fix ∷ []
 
 abbrev pub lap_words : Lap → List ℕ
-lap_words l = stage_tag l.pass.stage ∷ spot_flag l.start ∷ flag_of l.passed ∷ []
+lap_words l = stage_tag l.pass.stage ∷ some_flag l.start ∷ flag_of l.passed ∷ []
 
 abbrev pub guide_words : Guide → List ℕ
 guide_words g =
@@ -138,5 +138,5 @@ guide_words g =
 -- ---- what is promised
 -- a place's latitude and longitude are each an i32
 pub record PlaceFits (p : Option Fix) : Type 0 where
-  pub lat : SFits w32 (lat_in p)
-  pub lon : SFits w32 (lon_in p)
+  pub lat : SFits w32 (fix_in p).lat
+  pub lon : SFits w32 (fix_in p).lon

@@ -6,11 +6,13 @@
 -- | 1, 2 | recovered, walk: slot |
 -- | 3 to 5 | stage: whether it is pending, and the time (two) that it then has |
 -- | 6 | clock_ms |
-use Rattle.std.specs.Prelude.{ℕ, ◌+◌, ◌≤◌, ◌≡◌, Bool, true, false, ◌&&◌, cond, List, [], ◌∷◌, ◌++◌, eqb, length, drop, Option, Some, None}
+use Rattle.std.specs.Prelude.{ℕ, ◌+◌, ◌≤◌, ◌≡◌, Bool, true, ◌&&◌, cond, List, [], ◌∷◌, ◌++◌, eqb, length, drop, Option, Some, None}
+use Rattle.std.specs.Bool.{then_some}
+use Rattle.std.specs.Option.{unwrap_or}
 use Rattle.rebuild.specs.declared.Stage.{Stage}
 use Rattle.rebuild.specs.declared.Stage.TheVariants as stage
 use Rattle.rebuild.specs.declared.Rebuild.{Rebuild}
-use Rattle.stored.specs.Fields.{most64, most32, within, word_at, narrow_at, flag_at}
+use Rattle.stored.specs.Fields.{most64, most32, within, word_at, narrow_at, flag_at, some_flag}
 
 -- the letters CITTUMAR
 abbrev pub rebuild_mark : ℕ
@@ -23,12 +25,8 @@ abbrev pub rebuild_mosts : List ℕ
 rebuild_mosts = rebuild_mark ∷ most32 ∷ most64 ∷ 1 ∷ 1 ∷ most64 ∷ most64 ∷ []
 
 -- ---- read
-abbrev pub utc_of : Bool → ℕ → Option ℕ
-utc_of true t = Some t
-utc_of false t = None
-
 unfoldable pub utc_read : List ℕ → ℕ → Option ℕ
-utc_read w i = utc_of (flag_at w i) (word_at w (i + 1))
+utc_read w i = then_some (flag_at w i) (word_at w (i + 1))
 
 unfoldable pub stage_read : List ℕ → Stage
 stage_read w = cond (flag_at w 3) (stage.Pending (utc_read w 4)) stage.Decided
@@ -41,7 +39,7 @@ unfoldable pub holds_rebuild : List ℕ → Bool
 holds_rebuild w = eqb (word_at w 0) rebuild_mark && within rebuild_mosts w
 
 unfoldable pub stored_rebuild : List ℕ → Option Rebuild
-stored_rebuild w = cond (holds_rebuild w) (Some (rebuild_at w)) None
+stored_rebuild w = then_some (holds_rebuild w) (rebuild_at w)
 
 -- ---- written
 abbrev pub pending_flag : Stage → ℕ
@@ -52,19 +50,11 @@ abbrev pub pending_in : Stage → Option ℕ
 pending_in (stage.Pending t) = t
 pending_in stage.Decided = None
 
-abbrev pub utc_flag : Option ℕ → ℕ
-utc_flag (Some t) = 1
-utc_flag None = 0
-
-abbrev pub utc_in : Option ℕ → ℕ
-utc_in (Some t) = t
-utc_in None = 0
-
 unfoldable pub rebuild_words : Rebuild → List ℕ
 rebuild_words r =
     rebuild_mark
     ∷ r.recovered ∷ r.walk.slot
-    ∷ pending_flag r.stage ∷ utc_flag (pending_in r.stage) ∷ utc_in (pending_in r.stage)
+    ∷ pending_flag r.stage ∷ some_flag (pending_in r.stage) ∷ unwrap_or (pending_in r.stage) 0
     ∷ r.clock_ms
     ∷ []
 

@@ -18,13 +18,13 @@
 -- | 8, 9 | course: along, reached |
 -- | 10 to 13 | the points of course's fix, lap's start |
 -- | 14 to 109 | trail: window |
-use Rattle.std.specs.Prelude.{ℕ, ◌≤◌, ◌≡◌, Bool, true, ◌&&◌, cond, List, [], ◌∷◌, ◌++◌, leb, eqb, length, take, drop, Float}
-use Rattle.std.specs.Prelude.{Option, Some, None}
+use Rattle.std.specs.Prelude.{ℕ, ◌≤◌, ◌≡◌, Bool, true, ◌&&◌, List, [], ◌∷◌, ◌++◌, leb, eqb, length, take, drop, Float, Option, Some}
+use Rattle.std.specs.Bool.{then_some}
 use Rattle.state.specs.declared.Homing.{Homing}
 use Rattle.stored.specs.Fields.{within, word_at, flag_at, spot_at, place_read, point_in}
 unfoldable pub use Rattle.stored.specs.Parts.{trail_at, frame_at, motion_at, follow_at, course_at, lap_at, guide_read, shown_at}
 pub use Rattle.stored.specs.Parts.{word_count, number_count, window_at, place_mosts, heading_mosts, motion_mosts, follow_mosts}
-pub use Rattle.stored.specs.Parts.{course_mosts, lap_mosts, guide_mosts, guide_in, shown_flag, place_words, heading_words}
+pub use Rattle.stored.specs.Parts.{course_mosts, lap_mosts, guide_mosts, guide_in, place_words, heading_words}
 pub use Rattle.stored.specs.Parts.{motion_words, follow_words, course_words, lap_words, guide_words, PlaceFits}
 unfoldable pub use Rattle.stored.specs.Words.{mosts, words_of}
 pub use Rattle.stored.specs.Words.{mark}
@@ -58,7 +58,7 @@ unfoldable pub holds : List ℕ → List Float → Bool
 holds w n = eqb (word_at w 0) mark && (within mosts w && leb number_count (length n))
 
 unfoldable pub stored : List ℕ → List Float → Option Homing
-stored w n = cond (holds w n) (Some (homing_at w n)) None
+stored w n = then_some (holds w n) (homing_at w n)
 
 -- ---- written
 -- the numbers before the window

@@ -64,26 +64,10 @@ pub const PASSED: usize = 32;
 
 pub const UPDATED_MS: usize = 33;
 
-// Whether there is a guide, whose fields follow.
+// Whether there is a guide, whose ten words follow.
 pub const SHOWN: usize = 34;
 
-pub const MODE: usize = 35;
-
-pub const FOLLOWING: usize = 36;
-
-pub const COURSE: usize = 37;
-
-pub const COURSE_NEAR: usize = 38;
-
-pub const DIRECT_M: usize = 39;
-
-pub const TRACK_M: usize = 40;
-
-pub const OFF_M: usize = 41;
-
-pub const BEARING: usize = 42;
-
-pub const GUIDE_HEADING_KNOWN: usize = 43;
+pub const GUIDE: usize = 35;
 
 // ---- its numbers
 

@@ -10,13 +10,12 @@ mod state_words;
 mod stored_rebuild;
 
 ghost use Rattle.std.specs.Prelude.{◌≡◌, ◌++◌, ◌<◌, ◌≤◌, length, drop};
-ghost use Rattle.stored.specs.Fields.{within};
 ghost use Rattle.stored.specs.Parts.{word_count, number_count};
-ghost use Rattle.stored.specs.Stored.{mosts, homing_at, room_for, holds as holds_state, StateFits, words_of, head_of, numbers_of, Stores};
-ghost use Rattle.stored.specs.Inner.{Loads};
+ghost use Rattle.stored.specs.Stored.{homing_at, room_for, holds as holds_state, stored, StateFits, words_of, head_of, numbers_of, Stores};
 
+pub use parts::{guide_at, guide_words};
 use state::Homing;
-pub use stored_rebuild::{HeldRebuild, REBUILD_WORDS, load_rebuild, store_rebuild};
+pub use stored_rebuild::{REBUILD_WORDS, load_rebuild, store_rebuild};
 
 pub const WORDS: usize = 45;
 
@@ -71,13 +70,6 @@ const MOST: [u64; 45] = [
     fields::U16,
 ];
 
-// A guide's state, and whether the slices held it. Where they did not, the state says nothing.
-#[derive(Clone, Copy)]
-pub struct Held {
-    pub homing: Homing,
-    pub held: bool,
-}
-
 fn homing_at(words: &[u64], numbers: &[f32]) -> Homing
     requires { (word_count ≤ length words.now) × (number_count ≤ length numbers.now) }
     ensures { result ≡ homing_at words.now numbers.now }
@@ -102,21 +94,6 @@ fn homing_at(words: &[u64], numbers: &[f32]) -> Homing
 
 // ---- whether a state is held
 
-fn within(words: &[u64]) -> bool
-    ensures { result ≡ within mosts words.now }
-{
-    if words.len() < WORDS {
-        return false;
-    }
-    let most = MOST;
-    for i in 0..WORDS {
-        if most[i] < words[i] {
-            return false;
-        }
-    }
-    true
-}
-
 // Whether there is room for a state.
 pub fn has_room(words: &[u64], numbers: &[f32]) -> bool
     ensures { result ≡ room_for words.now numbers.now }
@@ -127,26 +104,20 @@ pub fn has_room(words: &[u64], numbers: &[f32]) -> bool
 fn holds(words: &[u64], numbers: &[f32]) -> bool
     ensures { result ≡ holds_state words.now numbers.now }
 {
-    if !within(words) {
+    if !fields::within(&MOST, words) {
         return false;
     }
     (words[layout::MARK] == state_words::MARK) & (NUMBERS <= numbers.len())
 }
 
 // The state that the slices hold.
-pub fn load(words: &[u64], numbers: &[f32]) -> Held
-    ensures { Loads words.now numbers.now result.homing result.held }
+pub fn load(words: &[u64], numbers: &[f32]) -> Option<Homing>
+    ensures { result ≡ stored words.now numbers.now }
 {
-    if holds(words, numbers) {
-        return Held {
-            homing: homing_at(words, numbers),
-            held: true,
-        };
+    if !holds(words, numbers) {
+        return None;
     }
-    Held {
-        homing: steer::new(),
-        held: false,
-    }
+    Some(homing_at(words, numbers))
 }
 
 // ---- the state, written
@@ -155,20 +126,11 @@ pub fn load(words: &[u64], numbers: &[f32]) -> Held
 fn head_of(h: Homing) -> [f32; 14]
     ensures { result ≡ head_of h }
 {
-    let s = h.here;
-    let here = fields::point_in(s);
-    let motion = h.motion;
-    let m = motion.from;
-    let from = fields::point_in(m);
-    let follow = h.follow;
-    let f = follow.matched;
-    let matched = fields::point_in(f);
-    let course = h.course;
-    let c = course.fix;
-    let fix = fields::point_in(c);
-    let lap = h.lap;
-    let l = lap.start;
-    let start = fields::point_in(l);
+    let here = fields::point_in(h.here);
+    let from = fields::point_in(h.motion.from);
+    let matched = fields::point_in(h.follow.matched);
+    let fix = fields::point_in(h.course.fix);
+    let start = fields::point_in(h.lap.start);
     [
         h.trail.tolerance,
         h.frame.east_per_e7,
@@ -178,8 +140,8 @@ fn head_of(h: Homing) -> [f32; 14]
         from.north,
         matched.east,
         matched.north,
-        course.along,
-        course.reached,
+        h.course.along,
+        h.course.reached,
         fix.east,
         fix.north,
         start.east,
@@ -191,23 +153,19 @@ fn store_words(h: Homing, words: &mut [u64])
     requires { word_count ≤ length words.old }
     ensures { (words.new ≡ words_of h ++ drop word_count words.old) × (StateFits h) }
 {
-    let front = state_words::front_words(h);
-    fields::put_words(&front, words, 0);
-    let back = state_words::back_words(h);
-    fields::put_words(&back, words, layout::LINE_LEN);
+    words[..layout::LINE_LEN].copy_from_slice(&state_words::front_words(h));
+    words[layout::LINE_LEN..WORDS].copy_from_slice(&state_words::back_words(h));
 }
 
 fn store_numbers(h: Homing, numbers: &mut [f32])
     requires { number_count ≤ length numbers.old }
     ensures { numbers.new ≡ numbers_of h ++ drop number_count numbers.old }
 {
-    let window = h.window;
-    fields::put_numbers(&window, numbers, layout::WINDOW);
-    let head = head_of(h);
-    fields::put_numbers(&head, numbers, 0);
+    numbers[..layout::WINDOW].copy_from_slice(&head_of(h));
+    numbers[layout::WINDOW..NUMBERS].copy_from_slice(&h.window);
 }
 
-// The state `h` in the slices, in front of what lies behind. The window is written first, from where it stands.
+// The state `h` in the slices, in front of what lies behind.
 pub fn store(h: Homing, words: &mut [u64], numbers: &mut [f32])
     requires { (word_count ≤ length words.old) × (number_count ≤ length numbers.old) }
     ensures { Stores h words.old numbers.old words.new numbers.new }

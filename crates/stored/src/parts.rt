@@ -4,9 +4,9 @@
 ghost use Rattle.std.specs.Prelude.{◌≡◌, true, [], ◌+◌, ◌≤◌, length, take, drop};
 ghost use Rattle.stored.specs.Fields.{within};
 ghost use Rattle.stored.specs.Parts.{word_count, number_count, window_at, trail_at, frame_at, motion_at, follow_at, course_at, lap_at};
-ghost use Rattle.stored.specs.Parts.{guide_read, shown_at, guide_in, shown_flag, place_words, heading_words, motion_words, follow_words};
+ghost use Rattle.stored.specs.Parts.{guide_read, shown_at, guide_in, place_words, heading_words, motion_words, follow_words};
 ghost use Rattle.stored.specs.Parts.{course_words, lap_words, guide_words, place_mosts, heading_mosts, motion_mosts, follow_mosts};
-ghost use Rattle.stored.specs.Parts.{course_mosts, lap_mosts, guide_mosts, PlaceFits};
+ghost use Rattle.stored.specs.Parts.{course_mosts, lap_mosts, guide_mosts, guide_size, PlaceFits};
 
 use crate::{fields, layout};
 use lap::{Lap, StartPass};
@@ -20,14 +20,12 @@ const WINDOW: usize = 96;
 
 // ---- parts, read
 
-pub fn window_at(numbers: &[f32]) -> [f32; 96]
+pub fn window_at(numbers: &[f32]) -> [f32; WINDOW]
     requires { number_count ≤ length numbers.now }
     ensures { result ≡ take 96 (drop window_at numbers.now) }
 {
-    let mut window = [0.0; 96];
-    for i in 0..WINDOW {
-        window[i] = numbers[layout::WINDOW + i];
-    }
+    let mut window = [0.0; WINDOW];
+    window.copy_from_slice(&numbers[layout::WINDOW..layout::WINDOW + WINDOW]);
     window
 }
 
@@ -36,11 +34,11 @@ pub fn trail_at(words: &[u64], numbers: &[f32]) -> Trail
     ensures { result ≡ trail_at words.now numbers.now }
 {
     Trail {
-        len: fields::usize_at(words, layout::LEN),
+        len: words[layout::LEN] as usize,
         tolerance: numbers[layout::TOLERANCE],
-        window_len: fields::usize_at(words, layout::WINDOW_LEN),
-        retrace: fields::u8_at(words, layout::RETRACE),
-        retrace_len: fields::usize_at(words, layout::RETRACE_LEN),
+        window_len: words[layout::WINDOW_LEN] as usize,
+        retrace: u8::try_from(words[layout::RETRACE]).unwrap_or(0),
+        retrace_len: words[layout::RETRACE_LEN] as usize,
     }
 }
 
@@ -71,7 +69,7 @@ pub fn follow_at(words: &[u64], numbers: &[f32]) -> Follow
 {
     Follow {
         line: fields::line_of(words[layout::LINE]),
-        segment: fields::usize_at(words, layout::SEGMENT),
+        segment: words[layout::SEGMENT] as usize,
         matched: fields::spot_at(words, layout::MATCHED, numbers, layout::MATCHED_POINT),
         off: fields::flag_at(words, layout::OFF),
         reminded_ms: words[layout::REMINDED_MS],
@@ -83,11 +81,11 @@ pub fn course_at(words: &[u64], numbers: &[f32]) -> Course
     ensures { result ≡ course_at words.now numbers.now }
 {
     Course {
-        line_len: fields::usize_at(words, layout::LINE_LEN),
+        line_len: words[layout::LINE_LEN] as usize,
         unplaced: fields::flag_at(words, layout::UNPLACED),
         held: fields::flag_at(words, layout::HELD),
-        join_fixes: fields::u8_at(words, layout::JOIN_FIXES),
-        join_end: fields::usize_at(words, layout::JOIN_END),
+        join_fixes: u8::try_from(words[layout::JOIN_FIXES]).unwrap_or(0),
+        join_end: words[layout::JOIN_END] as usize,
         along: numbers[layout::COURSE_ALONG],
         reached: numbers[layout::COURSE_REACHED],
         fix: fields::spot_at(words, layout::FIX, numbers, layout::FIX_POINT),
@@ -106,20 +104,21 @@ pub fn lap_at(words: &[u64], numbers: &[f32]) -> Lap
     }
 }
 
-fn guide_at(words: &[u64]) -> Guide
-    requires { word_count ≤ length words.now }
-    ensures { result ≡ guide_read words.now 35 }
+// A guide whose words begin at word `i`.
+pub fn guide_at(words: &[u64], i: usize) -> Guide
+    requires { i + guide_size ≤ length words.now }
+    ensures { result ≡ guide_read words.now i }
 {
     Guide {
-        mode: fields::mode_of(words[layout::MODE]),
-        following: fields::flag_at(words, layout::FOLLOWING),
-        course: fields::flag_at(words, layout::COURSE),
-        course_near: fields::flag_at(words, layout::COURSE_NEAR),
-        direct_m: fields::u32_at(words, layout::DIRECT_M),
-        track_m: fields::u32_at(words, layout::TRACK_M),
-        off_m: fields::u32_at(words, layout::OFF_M),
-        bearing: fields::u16_at(words, layout::BEARING),
-        heading: fields::heading_at(words, layout::GUIDE_HEADING_KNOWN),
+        mode: fields::mode_of(words[i]),
+        following: fields::flag_at(words, i + 1),
+        course: fields::flag_at(words, i + 2),
+        course_near: fields::flag_at(words, i + 3),
+        direct_m: u32::try_from(words[i + 4]).unwrap_or(0),
+        track_m: u32::try_from(words[i + 5]).unwrap_or(0),
+        off_m: u32::try_from(words[i + 6]).unwrap_or(0),
+        bearing: u16::try_from(words[i + 7]).unwrap_or(0),
+        heading: fields::heading_at(words, i + 8),
     }
 }
 
@@ -127,10 +126,7 @@ pub fn shown_at(words: &[u64]) -> Option<Guide>
     requires { word_count ≤ length words.now }
     ensures { result ≡ shown_at words.now }
 {
-    if fields::flag_at(words, layout::SHOWN) {
-        return Some(guide_at(words));
-    }
-    None
+    fields::flag_at(words, layout::SHOWN).then_some(guide_at(words, layout::GUIDE))
 }
 
 // ---- parts, written
@@ -151,59 +147,45 @@ fn blank() -> Guide
     }
 }
 
+// Where no guide is shown its words are 0.
 pub fn guide_in(s: Option<Guide>) -> Guide
     ensures { result ≡ guide_in s }
 {
-    match s {
-        Some(g) => g,
-        None => blank(),
-    }
-}
-
-pub fn shown_flag(s: Option<Guide>) -> u64
-    ensures { result ≡ shown_flag s }
-{
-    match s {
-        Some(_) => 1,
-        None => 0,
-    }
+    s.unwrap_or(blank())
 }
 
 pub fn place_words(p: Option<Fix>) -> [u64; 3]
     ensures { (result ≡ place_words p) × (within place_mosts (place_words p) ≡ true) × (PlaceFits p) }
 {
+    let fix = p.unwrap_or(Fix { lat: 0, lon: 0 });
     [
-        fields::place_flag(p),
-        fields::unsigned(fields::lat_in(p)),
-        fields::unsigned(fields::lon_in(p)),
+        u64::from(p.is_some()),
+        u64::from(fix.lat.cast_unsigned()),
+        u64::from(fix.lon.cast_unsigned()),
     ]
 }
 
 fn heading_words(h: Option<u16>) -> [u64; 2]
     ensures { (result ≡ heading_words h) × (within heading_mosts (heading_words h) ≡ true) }
 {
-    [fields::heading_flag(h), fields::heading_in(h) as u64]
+    [u64::from(h.is_some()), u64::from(h.unwrap_or(0))]
 }
 
 pub fn motion_words(m: Motion) -> [u64; 4]
     ensures { (result ≡ motion_words m) × (within motion_mosts (motion_words m) ≡ true) }
 {
-    let from = m.from;
-    let heading = m.heading;
-    let at = heading_words(heading);
-    [fields::spot_flag(from), at[0], at[1], m.heading_ms]
+    let [known, heading] = heading_words(m.heading);
+    [u64::from(m.from.is_some()), known, heading, m.heading_ms]
 }
 
 pub fn follow_words(f: Follow) -> [u64; 5]
     ensures { (result ≡ follow_words f) × (within follow_mosts (follow_words f) ≡ true) }
 {
-    let line = f.line;
-    let matched = f.matched;
     [
-        fields::line_tag(line),
+        fields::line_tag(f.line),
         f.segment as u64,
-        fields::spot_flag(matched),
-        fields::flag(f.off),
+        u64::from(f.matched.is_some()),
+        u64::from(f.off),
         f.reminded_ms,
     ]
 }
@@ -211,46 +193,40 @@ pub fn follow_words(f: Follow) -> [u64; 5]
 pub fn course_words(c: Course) -> [u64; 6]
     ensures { (result ≡ course_words c) × (within course_mosts (course_words c) ≡ true) }
 {
-    let fix = c.fix;
     [
         c.line_len as u64,
-        fields::flag(c.unplaced),
-        fields::flag(c.held),
-        c.join_fixes as u64,
+        u64::from(c.unplaced),
+        u64::from(c.held),
+        u64::from(c.join_fixes),
         c.join_end as u64,
-        fields::spot_flag(fix),
+        u64::from(c.fix.is_some()),
     ]
 }
 
 pub fn lap_words(l: Lap) -> [u64; 3]
     ensures { (result ≡ lap_words l) × (within lap_mosts (lap_words l) ≡ true) }
 {
-    let pass = l.pass;
-    let stage = pass.stage;
-    let start = l.start;
     [
-        fields::pass_tag(stage),
-        fields::spot_flag(start),
-        fields::flag(l.passed),
+        fields::pass_tag(l.pass.stage),
+        u64::from(l.start.is_some()),
+        u64::from(l.passed),
     ]
 }
 
 pub fn guide_words(g: Guide) -> [u64; 10]
     ensures { (result ≡ guide_words g) × (within guide_mosts (guide_words g) ≡ true) }
 {
-    let mode = g.mode;
-    let heading = g.heading;
-    let at = heading_words(heading);
+    let [known, heading] = heading_words(g.heading);
     [
-        fields::mode_tag(mode),
-        fields::flag(g.following),
-        fields::flag(g.course),
-        fields::flag(g.course_near),
-        g.direct_m as u64,
-        g.track_m as u64,
-        g.off_m as u64,
-        g.bearing as u64,
-        at[0],
-        at[1],
+        fields::mode_tag(g.mode),
+        u64::from(g.following),
+        u64::from(g.course),
+        u64::from(g.course_near),
+        u64::from(g.direct_m),
+        u64::from(g.track_m),
+        u64::from(g.off_m),
+        u64::from(g.bearing),
+        known,
+        heading,
     ]
 }

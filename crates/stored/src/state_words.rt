@@ -5,7 +5,7 @@ ghost use Rattle.stored.specs.Fields.{within};
 ghost use Rattle.stored.specs.Parts.{PlaceFits};
 ghost use Rattle.stored.specs.Words.{mosts, words_of};
 
-use crate::{fields, parts};
+use crate::parts;
 use state::Homing;
 
 // The letters CITTUMA1.
@@ -17,21 +17,15 @@ pub fn front_words(h: Homing) -> [u64; 22]
         × (PlaceFits h.fed) × (length h.window ≡ 96) }
 {
     let trail = h.trail;
-    let frame = h.frame;
-    let place = frame.origin;
-    let origin = parts::place_words(place);
-    let last = h.fed;
-    let fed = parts::place_words(last);
-    let here = h.here;
-    let moved = h.motion;
-    let motion = parts::motion_words(moved);
-    let followed = h.follow;
-    let follow = parts::follow_words(followed);
+    let origin = parts::place_words(h.frame.origin);
+    let fed = parts::place_words(h.fed);
+    let motion = parts::motion_words(h.motion);
+    let follow = parts::follow_words(h.follow);
     [
         MARK,
         trail.len as u64,
         trail.window_len as u64,
-        trail.retrace as u64,
+        u64::from(trail.retrace),
         trail.retrace_len as u64,
         origin[0],
         origin[1],
@@ -39,7 +33,7 @@ pub fn front_words(h: Homing) -> [u64; 22]
         fed[0],
         fed[1],
         fed[2],
-        fields::spot_flag(here),
+        u64::from(h.here.is_some()),
         h.here_ms,
         motion[0],
         motion[1],
@@ -57,12 +51,9 @@ pub fn front_words(h: Homing) -> [u64; 22]
 pub fn back_words(h: Homing) -> [u64; 23]
     ensures { (result ≡ drop 22 (words_of h)) × (within (drop 22 mosts) (drop 22 (words_of h)) ≡ true) }
 {
-    let loaded = h.course;
-    let course = parts::course_words(loaded);
-    let passes = h.lap;
-    let lap = parts::lap_words(passes);
-    let shown = h.guide;
-    let guide = parts::guide_words(parts::guide_in(shown));
+    let course = parts::course_words(h.course);
+    let lap = parts::lap_words(h.lap);
+    let guide = parts::guide_words(parts::guide_in(h.guide));
     [
         course[0],
         course[1],
@@ -70,13 +61,13 @@ pub fn back_words(h: Homing) -> [u64; 23]
         course[3],
         course[4],
         course[5],
-        fields::flag(h.auto_follow),
-        fields::flag(h.arrived),
+        u64::from(h.auto_follow),
+        u64::from(h.arrived),
         lap[0],
         lap[1],
         lap[2],
         h.updated_ms,
-        parts::shown_flag(shown),
+        u64::from(h.guide.is_some()),
         guide[0],
         guide[1],
         guide[2],

@@ -1,5 +1,9 @@
 -- Each word of a field is within its type. Assumes nothing.
-use Prim.Native.Nat.{ℕ, ◌≤◌}
+use Prim.Native.Nat.{ℕ, ◌≤◌, ◌-◌, ◌^◌}
+use lib.IntN.{ℤ, pos, negsuc}
+use mir.Syntax.{w32}
+use mir.Val.{SFits}
+use Rattle.std.specs.Int.{cast_unsigned}
 use mathlib.Core.Path.{◌≡◌, refl, ap, ◌∙◌}
 use mathlib.Core.Bool.{Bool, true, false, ◌&&◌}
 use mathlib.Core.List.{List, [], ◌∷◌, ◌++◌}
@@ -7,16 +11,14 @@ use native.Mathlib.Omega.{arith}
 use borrow.Author.Tests.{le-leb}
 use lib.Dec.{leb}
 use lib.ListN.{length}
-use Rattle.std.specs.Prelude.{Option, Some, None, ℕ}
-use Rattle.plane.specs.declared.Fix.{Fix}
-use Rattle.plane.specs.declared.Point.{Point}
+use Rattle.std.specs.Prelude.{Option, Some, None}
 use Rattle.lap.specs.declared.Stage.{Stage}
 use Rattle.lap.specs.declared.Stage.TheVariants as stage
 use Rattle.state.specs.declared.Line.{Line}
 use Rattle.state.specs.declared.Line.TheVariants as line
 use Rattle.state.specs.declared.Mode.{Mode}
 use Rattle.state.specs.declared.Mode.TheVariants as mode
-use Rattle.stored.specs.Fields.{within, flag_of, spot_flag, heading_flag, place_flag, line_tag, stage_tag, mode_tag}
+use Rattle.stored.specs.Fields.{within, flag_of, some_flag, line_tag, stage_tag, mode_tag}
 
 -- words that are within
 pub record Inside (ms w : List ℕ) : Type 0 where
@@ -49,17 +51,9 @@ pub flag-most : (b : Bool) → flag_of b ≤ 1
 flag-most true = omega arith
 flag-most false = omega arith
 
-pub spot-most : (s : Option Point) → spot_flag s ≤ 1
-spot-most (Some p) = omega arith
-spot-most None = omega arith
-
-pub heading-most : (h : Option ℕ) → heading_flag h ≤ 1
-heading-most (Some a) = omega arith
-heading-most None = omega arith
-
-pub place-most : (p : Option Fix) → place_flag p ≤ 1
-place-most (Some x) = omega arith
-place-most None = omega arith
+pub some-most : {A : Type 0} (o : Option A) → some_flag o ≤ 1
+some-most (Some x) = omega arith
+some-most None = omega arith
 
 pub line-most : (l : Line) → line_tag l ≤ 2
 line-most line.Nothing = omega arith
@@ -76,3 +70,7 @@ mode-most mode.Direct = omega arith
 mode-most mode.Track = omega arith
 mode-most mode.OffTrack = omega arith
 mode-most mode.Arrived = omega arith
+
+pub bits-most : (z : ℤ) → SFits w32 z → cast_unsigned w32 z ≤ 2 ^ 32 - 1
+bits-most (pos n) f = omega (arith, f.sfits)
+bits-most (negsuc n) f = omega arith

@@ -1,14 +1,12 @@
 -- Words held to the most that each may be. Assumes nothing.
-use Prim.Native.Nat.{ℕ, zero, suc, ◌+◌, ◌≤◌, ◌<◌}
-use mathlib.Core.Path.{◌≡◌, refl, sym, ap, ◌∙◌}
+use Prim.Native.Nat.{ℕ, zero, suc, ◌≤◌, ◌<◌}
+use mathlib.Core.Path.{◌≡◌, refl, ap, ◌∙◌}
 use mathlib.Core.Bool.{Bool, true, false, ◌&&◌, false≢true, and-false}
 use mathlib.Core.List.{List, [], ◌∷◌, ◌++◌}
 use native.Mathlib.Omega.{arith}
-use native.Mathlib.Numerals.{add-one}
-use borrow.Author.Tests.{le-leb, lt-leb}
 use lib.Dec.{leb}
-use lib.ListN.{length, get_or, drop, drop_of_length-le}
-use lib.Seq.{drop-cons}
+use lib.ListN.{length, get_or}
+use Rattle.std.specs.List.{list_all, zip}
 use Rattle.stored.specs.Fields.{within}
 
 pub within-short : (ms w : List ℕ) → length w < length ms → within ms w ≡ false
@@ -39,22 +37,12 @@ within_more (m ∷ ms) (x ∷ w) ws h = both (leb x m) (within ms w) (within ms 
     both true b d h f = f h
     both false b d h f = h
 
-module _ (ms w : List ℕ) (i : ℕ) (a : i < length ms) (b : i < length w) where
-  opened : within (drop i ms) (drop i w) ≡ (leb (get_or w i 0) (get_or ms i 0) && within (drop (suc i) ms) (drop (suc i) w))
-  unfolding within
-  opened = ap (λ l. within l (drop i w)) (drop-cons ms i 0 a) ∙ ap (λ l. within (get_or ms i 0 ∷ drop (suc i) ms) l) (drop-cons w i 0 b)
-
-  pub within-over : get_or ms i 0 < get_or w i 0 → within (drop i ms) (drop i w) ≡ false
-  within-over h = opened ∙ ap (λ t. t && within (drop (suc i) ms) (drop (suc i) w)) (lt-leb (get_or w i 0) (get_or ms i 0) h)
-
-  pub within_on : get_or w i 0 ≤ get_or ms i 0 → within (drop i ms) (drop i w) ≡ within (drop (i + 1) ms) (drop (i + 1) w)
-  within_on h =
-      opened ∙ ap (λ t. t && within (drop (suc i) ms) (drop (suc i) w)) (le-leb (get_or w i 0) (get_or ms i 0) h)
-      ∙ ap (λ j. within (drop j ms) (drop j w)) (sym (add-one i))
-
-pub within_end : (ms w : List ℕ) (i : ℕ) → length ms ≤ i → within (drop i ms) (drop i w) ≡ true
+-- each word held to its own limit
+pub within-all : (ms w : List ℕ) → length ms ≤ length w → list_all (λ (p : ℕ × ℕ). leb p.1 p.0) (zip ms w) ≡ within ms w
 unfolding within
-within_end ms w i h = ap (λ l. within l (drop i w)) (drop_of_length-le ms h)
+within-all [] w h = refl
+within-all (m ∷ ms) [] h = absurd (omega arith)
+within-all (m ∷ ms) (x ∷ w) h = ap (λ b. leb x m && b) (within-all ms w (omega arith))
 
 -- a word that is within is at most its own limit
 pub within-at : (ms w : List ℕ) → within ms w ≡ true → (i : ℕ) → i < length ms → leb (get_or w i 0) (get_or ms i 0) ≡ true

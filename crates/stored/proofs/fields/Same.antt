@@ -6,20 +6,19 @@ use lib.Dec.{leb, eqb}
 use lib.IntN.{ℤ}
 use mir.Syntax.{w32}
 use mir.Val.{SFits}
-use Rattle.std.specs.Prelude.{Option, Some, None, ℕ}
-use Rattle.plane.specs.declared.Fix.{Fix}
-use Rattle.plane.specs.declared.Point.{Point}
+use mir.ValLaws.{to_z-of_z}
+use Rattle.std.specs.Prelude.{Option, Some, None}
+use Rattle.std.proofs.lemmas.Option.{none-some}
+use Rattle.std.specs.Bool.{then_some}
+use Rattle.std.specs.Int.{cast_signed, cast_unsigned}
+use Rattle.std.specs.Option.{unwrap_or}
 use Rattle.lap.specs.declared.Stage.{Stage}
 use Rattle.lap.specs.declared.Stage.TheVariants as stage
 use Rattle.state.specs.declared.Line.{Line}
 use Rattle.state.specs.declared.Line.TheVariants as line
 use Rattle.state.specs.declared.Mode.{Mode}
 use Rattle.state.specs.declared.Mode.TheVariants as mode
-use Rattle.state.specs.declared.Course.{Course}
-use Rattle.ride_log.specs.Entry.{signed}
-use Rattle.stored.specs.Fields.{most32, most16, heading_of, line_of_tag, stage_of_tag, mode_of_tag, flag_of, unsigned, spot_flag, point_in}
-use Rattle.stored.specs.Fields.{heading_flag, heading_in, place_flag, lat_in, lon_in, line_tag, stage_tag, mode_tag}
-use Rattle.stored.proofs.fields.Signs.{signed-unsigned}
+use Rattle.stored.specs.Fields.{most32, most16, line_of_tag, stage_of_tag, mode_of_tag, flag_of, some_flag, line_tag, stage_tag, mode_tag}
 
 pub narrow-same : (most x : ℕ) → leb x most ≡ true → cond (leb x most) x 0 ≡ x
 narrow-same most x h = ap (λ b. cond b x 0) h
@@ -44,21 +43,19 @@ mode-same mode.Track = refl
 mode-same mode.OffTrack = refl
 mode-same mode.Arrived = refl
 
-pub spot-same : (s : Option Point) → cond (eqb (spot_flag s) 1) (Some (point_in s)) None ≡ s
-spot-same (Some p) = refl
-spot-same None = refl
+-- a value that was given was held
+pub then-held : {A : Type 0} (b : Bool) (x y : A) → then_some b x ≡ Some y → b ≡ true
+then-held true x y e = refl
+then-held false x y e = absurd (none-some y e)
 
-pub heading-same : (h : Option ℕ) → heading_of (eqb (heading_flag h) 1) (heading_in h) ≡ h
-heading-same (Some a) = refl
-heading-same None = refl
+pub some-same : {A : Type 0} (o : Option A) (d : A) → then_some (eqb (some_flag o) 1) (unwrap_or o d) ≡ o
+some-same (Some x) d = refl
+some-same None d = refl
 
-pub place_same : (p : Option Fix) → cond (eqb (place_flag p) 1) (Some (lat_in p) (lon_in p)) None ≡ p
-place_same (Some x) = refl
-place_same None = refl
+pub heading-back : (h : Option ℕ) → leb (unwrap_or h 0) most16 ≡ true
+    → then_some (eqb (some_flag h) 1) (cond (leb (unwrap_or h 0) most16) (unwrap_or h 0) 0) ≡ h
+heading-back h l = ap (then_some (eqb (some_flag h) 1)) (narrow-same most16 (unwrap_or h 0) l) ∙ some-same h 0
 
-pub heading-back : (h : Option ℕ) → leb (heading_in h) most16 ≡ true
-    → heading_of (eqb (heading_flag h) 1) (cond (leb (heading_in h) most16) (heading_in h) 0) ≡ h
-heading-back h l = ap (heading_of (eqb (heading_flag h) 1)) (narrow-same most16 (heading_in h) l) ∙ heading-same h
-
-pub signed_back : (z : ℤ) → SFits w32 z → leb (unsigned z) most32 ≡ true → signed (cond (leb (unsigned z) most32) (unsigned z) 0) ≡ z
-signed_back z f l = ap signed (narrow-same most32 (unsigned z) l) ∙ signed-unsigned z f
+pub signed_back : (z : ℤ) → SFits w32 z → leb (cast_unsigned w32 z) most32 ≡ true
+    → cast_signed w32 (cond (leb (cast_unsigned w32 z) most32) (cast_unsigned w32 z) 0) ≡ z
+signed_back z f l = ap (cast_signed w32) (narrow-same most32 (cast_unsigned w32 z) l) ∙ to_z-of_z w32 z f

@@ -9,8 +9,7 @@ use Rattle.stored.specs.Fields.{most64, most8, within}
 use Rattle.stored.specs.Words.{mark, mosts, words_of}
 use Rattle.stored.specs.Parts.{place_mosts, motion_mosts, follow_mosts, course_mosts, lap_mosts, guide_mosts, place_words, motion_words}
 use Rattle.stored.specs.Parts.{follow_words, course_words, lap_words, guide_words, guide_in}
-use Rattle.stored.proofs.parts.Parts.{shown-most}
-use Rattle.stored.proofs.fields.Fitting.{none_left, and_in, and-part, flag-most, spot-most}
+use Rattle.stored.proofs.fields.Fitting.{none_left, and_in, and-part, flag-most, some-most}
 
 pub mark-most : mark ≤ mark
 mark-most = omega arith
@@ -26,7 +25,7 @@ front_fits h a b d e f g k m n =
     (and_in mark-most (and_in a (and_in b (and_in d (and_in e
     (and-part place_mosts (place_words h.frame.origin) refl f
     (and-part place_mosts (place_words h.fed) refl g
-    (and_in (spot-most h.here) (and_in k
+    (and_in (some-most h.here) (and_in k
     (and-part motion_mosts (motion_words h.motion) refl m
     (and-part follow_mosts (follow_words h.follow) refl n none_left))))))))))).ok
 
@@ -39,4 +38,4 @@ back_fits h o p q r =
     (and-part course_mosts (course_words h.course) refl o
     (and_in (flag-most h.auto_follow) (and_in (flag-most h.arrived)
     (and-part lap_mosts (lap_words h.lap) refl p
-    (and_in q (and_in (shown-most h.guide) (record { ok = r }))))))).ok
+    (and_in q (and_in (some-most h.guide) (record { ok = r }))))))).ok

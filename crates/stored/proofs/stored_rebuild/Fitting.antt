@@ -1,15 +1,9 @@
 -- Each word of a rebuild is within its type. Assumes nothing.
 use Prim.Native.Nat.{◌≤◌}
 use native.Mathlib.Omega.{arith}
-use Rattle.std.specs.Prelude.{Option, Some, None, ℕ}
 use Rattle.rebuild.specs.declared.Stage.{Stage as Pending}
 use Rattle.rebuild.specs.declared.Stage.TheVariants as pending
-use Rattle.stored.specs.Fields.{within}
-use Rattle.stored.specs.Rebuilt.{rebuild_mark, pending_flag, utc_flag}
-
-pub utc-most : (t : Option ℕ) → utc_flag t ≤ 1
-utc-most (Some a) = omega arith
-utc-most None = omega arith
+use Rattle.stored.specs.Rebuilt.{rebuild_mark, pending_flag}
 
 pub pending-most : (s : Pending) → pending_flag s ≤ 1
 pending-most (pending.Pending t) = omega arith

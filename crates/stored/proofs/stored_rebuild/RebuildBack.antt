@@ -1,23 +1,19 @@
 -- A rebuild that was stored is read back, field by field. Assumes nothing.
-use Prim.Native.Nat.{ℕ}
+use Rattle.std.specs.Prelude.{ℕ, Some}
 use mathlib.Core.Path.{◌≡◌, refl, ap, ◌∙◌}
 use mathlib.Core.Bool.{true, cond}
 use mathlib.Core.List.{List, ◌++◌}
 use native.Mathlib.Omega.{arith}
 use lib.Dec.{leb, eqb}
-use Rattle.std.specs.Prelude.{Option, Some, None, ℕ}
+use Rattle.std.specs.Bool.{then_some}
 use Rattle.rebuild.specs.declared.Stage.{Stage}
 use Rattle.rebuild.specs.declared.Stage.TheVariants as stage
 use Rattle.rebuild.specs.declared.Rebuild.{Rebuild}
 use Rattle.stored.specs.Fields.{most32, within}
-use Rattle.stored.specs.Rebuilt.{rebuild_mosts, utc_of, utc_read, stage_read, rebuild_at, holds_rebuild, stored_rebuild, pending_flag}
-use Rattle.stored.specs.Rebuilt.{pending_in, utc_flag, utc_in, rebuild_words, RebuildReadBack}
+use Rattle.stored.specs.Rebuilt.{rebuild_mosts, utc_read, stage_read, rebuild_at, holds_rebuild, stored_rebuild, pending_flag}
+use Rattle.stored.specs.Rebuilt.{pending_in, rebuild_words, RebuildReadBack}
 use Rattle.stored.proofs.fields.Limits.{within_more, within-at}
-use Rattle.stored.proofs.fields.Same.{narrow-same}
-
-utc-same : (t : Option ℕ) → utc_of (eqb (utc_flag t) 1) (utc_in t) ≡ t
-utc-same (Some a) = refl
-utc-same None = refl
+use Rattle.stored.proofs.fields.Same.{narrow-same, some-same}
 
 pending-same : (s : Stage) → cond (eqb (pending_flag s) 1) (stage.Pending (pending_in s)) stage.Decided ≡ s
 pending-same (stage.Pending t) = refl
@@ -33,7 +29,7 @@ module _ (r : Rebuild) (fits : within rebuild_mosts (rebuild_words r) ≡ true) 
   rebuild-back = λ i. record {
     recovered = narrow-same most32 r.recovered recovered-fits i;
     walk = r.walk;
-    stage = (ap (λ t. cond (eqb (pending_flag r.stage) 1) (stage.Pending t) stage.Decided) (utc-same (pending_in r.stage))
+    stage = (ap (λ t. cond (eqb (pending_flag r.stage) 1) (stage.Pending t) stage.Decided) (some-same (pending_in r.stage) 0)
         ∙ pending-same r.stage) i;
     clock_ms = r.clock_ms;
   }
@@ -45,4 +41,4 @@ module _ (r : Rebuild) (fits : within rebuild_mosts (rebuild_words r) ≡ true) 
 pub rebuild-read-back : RebuildReadBack
 unfolding stored_rebuild
 rebuild-read-back r fits ws =
-    ap (λ b. cond b (Some (rebuild_at (rebuild_words r ++ ws))) None) (holds-rebuild r fits ws) ∙ ap Some (rebuild-back r fits ws)
+    ap (λ b. then_some b (rebuild_at (rebuild_words r ++ ws))) (holds-rebuild r fits ws) ∙ ap Some (rebuild-back r fits ws)

@@ -1,10 +1,8 @@
 -- `stored::fields::heading_at` meets its contract.
-use Rattle.stored.proofs.fields.Fielded.{heading-there, heading-missing}
-use mathlib.Core.Path.{◌∙◌, sym}
+use Rattle.stored.specs.Fields.{heading_at}
+use Rattle.stored.proofs.fields.Narrowing.{narrowed}
 use Rattle.stored.proofs.fields.heading_at.Goals as goal
 
-pub returns-then-flag_at : goal.returns-then-flag_at
-returns-then-flag_at c = heading-there _ _ (sym c.flag_at.ensures ∙ c.if-flag_at.true) c.u16_at.ensures
-
 pub returns : goal.returns
-returns c = heading-missing _ _ (sym c.flag_at.ensures ∙ c.if-flag_at.false)
+unfolding heading_at
+returns c = simp (c.then_some.ensures, c.flag_at.ensures, c.unwrap_or-heading.ensures, narrowed 65535 _ _ c.try_from.ensures)

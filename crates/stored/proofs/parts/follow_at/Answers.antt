@@ -4,9 +4,4 @@ use Rattle.stored.proofs.parts.follow_at.Goals as goal
 
 pub returns : goal.returns
 unfolding follow_at
-returns c = simp (
-  ← c.line_of.ensures,
-  ← c.usize_at.ensures,
-  ← c.spot_at.ensures,
-  ← c.flag_at.ensures,
-)
+returns c = simp (← c.line_of.ensures, ← c.spot_at.ensures, ← c.flag_at.ensures)

@@ -1,14 +1,13 @@
 -- `stored::parts::heading_words` meets its contract.
-use Rattle.stored.specs.Fields.{heading_in}
-use Rattle.stored.proofs.fields.Fitting.{none_left, and_in, heading-most}
 use Prim.Native.Nat.{◌≤◌}
 use native.Mathlib.Omega.{arith}
-use mathlib.Core.Path.{refl}
-use Rattle.stored.proofs.fields.Copying.{cons}
+use Rattle.std.specs.Option.{unwrap_or}
+use Rattle.stored.proofs.fields.Fitting.{none_left, and_in, some-most}
 use Rattle.stored.proofs.parts.heading_words.Goals as goal
 
 pub returns : goal.returns
-returns c = let at : heading_in c.args.h ≤ 65535 = omega (arith, c.heading_in.type_inv, c.heading_in.ensures) in (
-  cons c.heading_flag.ensures (cons c.heading_in.ensures refl),
-  (and_in (heading-most c.args.h) (and_in at none_left)).ok,
-)
+returns c =
+    let most : unwrap_or c.args.h 0 ≤ 65535 = omega (arith, c.unwrap_or.type_inv, c.unwrap_or.ensures) in (
+      simp (c.from.ensures, c.is_some.ensures, c.from-2.ensures, c.unwrap_or.ensures),
+      (and_in (some-most c.args.h) (and_in most none_left)).ok,
+    )

@@ -1,13 +1,16 @@
 -- `stored::stored_rebuild::load_rebuild` meets its contract.
-use Rattle.stored.proofs.stored_rebuild.Holding.{loads-there-rebuild, loads-nothing-rebuild, loads-room-rebuild}
 use mathlib.Core.Path.{sym, ◌∙◌}
+use Rattle.stored.specs.Rebuilt.{stored_rebuild}
+use Rattle.stored.proofs.stored_rebuild.Holding.{loads-room-rebuild}
 use Rattle.stored.proofs.stored_rebuild.load_rebuild.Goals as goal
 
-pub rebuild_at-requires : goal.rebuild_at-requires
-rebuild_at-requires c = loads-room-rebuild _ (sym c.holds_rebuild.ensures ∙ c.if-holds_rebuild.true)
+pub returns-then-not-holds_rebuild : goal.returns-then-not-holds_rebuild
+unfolding stored_rebuild
+returns-then-not-holds_rebuild c = simp (sym c.holds_rebuild.ensures ∙ c.if-not-holds_rebuild.true)
 
-pub returns-then-holds_rebuild : goal.returns-then-holds_rebuild
-returns-then-holds_rebuild c = loads-there-rebuild _ (sym c.holds_rebuild.ensures ∙ c.if-holds_rebuild.true) c.rebuild_at.ensures
+pub rebuild_at-requires : goal.rebuild_at-requires
+rebuild_at-requires c = loads-room-rebuild _ (sym c.holds_rebuild.ensures ∙ c.if-not-holds_rebuild.false)
 
 pub returns : goal.returns
-returns c = loads-nothing-rebuild _ _ (sym c.holds_rebuild.ensures ∙ c.if-holds_rebuild.false)
+unfolding stored_rebuild
+returns c = simp (sym c.holds_rebuild.ensures ∙ c.if-not-holds_rebuild.false, c.rebuild_at.ensures)
