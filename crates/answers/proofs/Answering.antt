@@ -1,12 +1,8 @@
 -- An answer by the number of the first question that says no, and the rules by what the program holds. Assumes nothing.
-use Prim.Native.Nat.{ℕ, zero, suc}
-use mathlib.Core.Path.{◌≡◌, refl, sym, ap, ap₂, ◌∙◌}
-use mathlib.Core.Logic.{◌≢◌}
-use mathlib.Core.List.{List, []}
-use Rattle.std.specs.Prelude.{None, Option, Some}
-use borrow.Author.Tests.{ne_eqb, eq-eqb}
-use lib.ListN.{length}
-use lib.Ieee.{Float}
+use Rattle.std.proofs.Common.{ℕ, zero, suc, ◌≡◌, ◌≢◌, ◌==◌, refl, sym, ap, ap₂, ◌∙◌, false, List, [], length, Float, Option, Some, None, Result, Ok, Err, Bor}
+use Rattle.refusal.specs.declared.Refusal.{Refusal}
+use Rattle.refusal.specs.declared.Refusal.TheVariants as refusal
+use Rattle.refusal.specs.Refusal.{number}
 use Rattle.binary32.specs.Casts.{as_u32}
 use Rattle.plane.specs.declared.Point.{Point}
 use Rattle.plane.specs.Plane.{distance}
@@ -15,23 +11,37 @@ use Rattle.crumbs.specs.Inner.{Front}
 use Rattle.crumbs.proofs.Crumbs.{length-crumbs}
 use Rattle.crumbs.specs.Along.{recorded_m, start_of}
 use Rattle.trail.specs.View.{track}
+use Rattle.state.specs.declared.Back.{Back}
 use Rattle.state.specs.declared.Homing.{Homing}
 use Rattle.state.specs.State.{state_of}
-use Rattle.calls.specs.Ask.{Back, len, way_back_from}
+use Rattle.calls.specs.Ask.{len, way_back_from}
 use Rattle.calls.specs.Questions.{asks_crumbs, asks_line}
 use Rattle.calls.specs.Calls.{asks_lent, asks}
-use Rattle.calls.specs.Promises.{refused, gives, answer}
+use Rattle.calls.specs.Promises.{gives, answer, says}
 use Rattle.questions.proofs.Given.{crumbs-given, line-given}
 use Rattle.answers.specs.Promises.{ReturnsCrumbs, ReturnsCourse}
 
-module _ {A : Type 0} {n asked : ℕ} (told : n ≡ asked) where
-  pub no : (a : A) → n ≢ 0 → refused n ≡ answer asked a
-  unfolding answer
-  no a h = ap refused told ∙ simp (ne_eqb asked 0 (λ e. h (told ∙ e)))
+-- a question's number is no 0
+numbered : (q : Refusal) → (number q == 0) ≡ false
+numbered refusal.CrumbBuffer = refl
+numbered refusal.Latitude = refl
+numbered refusal.Longitude = refl
+numbered refusal.LineBuffer = refl
+numbered refusal.SampleCount = refl
+numbered refusal.FileLength = refl
+numbered refusal.Chain = refl
+numbered refusal.EntryKind = refl
+numbered refusal.Thinning = refl
+numbered refusal.State = refl
 
-  pub yes : {x a : A} → n ≡ 0 → x ≡ a → gives x ≡ answer asked a
+module _ {A : Type 0} {n : ℕ} where
+  pub no : {r : Result A Refusal} {q : Refusal} → r ≡ Err q → number q ≡ n → (a : A) → says r ≡ answer n a
   unfolding answer
-  yes passed e = ap gives e ∙ simp (eq-eqb asked 0 (sym told ∙ passed))
+  no {r} {q} e told a = rw (e, ← told, numbered q) refl
+
+  pub yes : {x a : A} → 0 ≡ n → x ≡ a → gives x ≡ answer n a
+  unfolding answer
+  yes passed e = rw (← passed) (ap gives e)
 
 -- ---- the crumbs held
 pub len-held : (h : Homing) (b : List Float) → h.trail.len ≡ len (state_of h b)
@@ -58,26 +68,28 @@ pub back-held : (p : Point) (n : ℕ) (b : List Float) → n ≢ 0 → (direct t
 back-held p n b ne direct track d t = ap₂ metres d t ∙ held p n b ne
 
 -- ---- a part that is returned
-module _ {n : ℕ} (h : Homing) (b : List Float) (told : n ≡ asks_crumbs (length b) (state_of h b)) where
-  pub crumbs-refused : n ≢ 0 → ReturnsCrumbs h b n []
+module _ (h : Homing) (b : List Float) where
+  pub crumbs-refused : {r : Result (Bor (List Float)) Refusal} {q : Refusal} → r ≡ Err q → number q ≡ asks_crumbs (length b) (state_of h b)
+      → ReturnsCrumbs h b r
   unfolding asks asks_lent
-  crumbs-refused ne =
-      record { asked = told; numbers = λ e. absurd (ne e); held = λ e. absurd (ne e); empty = λ _. refl }
+  crumbs-refused e told = rw e (record { answered = told; numbers = tt; held = tt })
 
-  pub crumbs-returned : {r : List Float} → n ≡ 0 → Front h.trail.len b r → ReturnsCrumbs h b n r
+  pub crumbs-returned : {part : Bor (List Float)} → 0 ≡ asks_crumbs (length b) (state_of h b) → Front h.trail.len b part.now
+      → ReturnsCrumbs h b (Ok part)
   unfolding asks asks_lent
   crumbs-returned passed front =
-      let fits = (crumbs-given (length b) h b (sym told ∙ passed)).trail.held in
-      record { asked = told; numbers = λ _. front.numbers fits; held = λ _. front.held fits; empty = λ ne. absurd (ne passed) }
+      let fits = (crumbs-given (length b) h b (sym passed)).trail.held in
+      record { answered = passed; numbers = front.numbers fits; held = front.held fits }
 
-module _ {n : ℕ} (h : Homing) (line : List Float) (told : (b : List Float) → n ≡ asks_line line 0 (state_of h b)) where
-  pub course-refused : n ≢ 0 → ReturnsCourse h line n []
+module _ (h : Homing) (line : List Float) where
+  pub course-refused : {r : Result (Bor (List Float)) Refusal} {q : Refusal} → r ≡ Err q
+      → ((b : List Float) → number q ≡ asks_line line 0 (state_of h b)) → ReturnsCourse h line r
   unfolding asks asks_lent
-  course-refused ne =
-      record { asked = told; numbers = λ e. absurd (ne e); held = λ e. absurd (ne e); empty = λ _. refl }
+  course-refused e told = rw e (record { answered = told; numbers = tt; held = tt })
 
-  pub course-returned : {r : List Float} → n ≡ 0 → Front h.course.line_len line r → ReturnsCourse h line n r
+  pub course-returned : {part : Bor (List Float)} → ((b : List Float) → 0 ≡ asks_line line 0 (state_of h b))
+      → Front h.course.line_len line part.now → ReturnsCourse h line (Ok part)
   unfolding asks asks_lent
   course-returned passed front =
-      let fits = (line-given line 0 h [] (sym (told []) ∙ passed)).1.placed in
-      record { asked = told; numbers = λ _. front.numbers fits; held = λ _. front.held fits; empty = λ ne. absurd (ne passed) }
+      let fits = (line-given line 0 h [] (sym (passed []))).1.placed in
+      record { answered = passed; numbers = front.numbers fits; held = front.held fits }

@@ -1,5 +1,6 @@
 -- What the calls promise that only answer, one record a call. Those that are lent no crumb buffer promise it whatever the buffer holds.
-use Rattle.std.specs.Prelude.{ℕ, Bool, ◌≡◌, List, length, Float, Option, Result, Bor, IfOk}
+use Rattle.std.specs.Prelude.{ℕ, Bool, ◌≡◌, List, length, Float, Option, Result, IfOk}
+use Rattle.std.specs.Borrow.{Bor}
 use Rattle.refusal.specs.declared.Refusal.{Refusal}
 use Rattle.refusal.specs.Refusal.{asked}
 use Rattle.crumbs.specs.Crumb.{capacity, crumbs, in_front}

@@ -1,43 +1,30 @@
 -- `answers::arrow` meets its contract.
-use native.Mathlib.Omega.{arith}
-use mathlib.Core.Path.{sym, ap, ◌∙◌}
-use Rattle.std.specs.Prelude.{Option, ℕ}
+use Rattle.std.proofs.Common.{rules, arith, ◌≡◌, sym, ap, Option, ℕ, Err}
 use Rattle.state.specs.Guide.{arrow, arrow_from}
 use Rattle.questions.proofs.Given.{guide-given}
-use Rattle.answers.specs.Answers.{says_angle}
 use Rattle.answers.proofs.Answering.{no, yes}
 use Rattle.answers.proofs.arrow.Goals as goal
 
-pub returns-then-asked-ne0 : goal.returns-then-asked-ne0
-unfolding says_angle
-returns-then-asked-ne0 c = record { says = no c.asks_guide-asked.ensures _ c.if-asked-ne0.true }
+pub returns-in_err-asks_guide : goal.returns-in_err-asks_guide
+returns-in_err-asks_guide c =
+    let e : c.from_residual.result ≡ Err c.in_err-asks_guide.field-0.0 = search rules in
+    record { said = no e c.in_err-asks_guide.ensures _ }
+
+pub returns-in_default : goal.returns-in_default
+unfolding arrow
+returns-in_default c =
+    record { said = yes c.in_ok-asks_guide.ensures (sym (ap (λ (x : Option ℕ). arrow_from x c.args.g.bearing) c.in_default.is)) }
 
 pub overflow_add-result : goal.overflow_add-result
 overflow_add-result c =
-    let pointed = guide-given c.args.g
-    (sym c.asks_guide-asked.ensures ∙ c.if-asked-ne0.false) in
-    record { fits = omega (arith, pointed.bearing, pointed.heading _ c.in-Some.is) }
+    let pointed = guide-given c.args.g (sym c.in_ok-asks_guide.ensures) in
+    record { fits = omega (arith, pointed.bearing) }
 
 pub overflow_sub-result : goal.overflow_sub-result
 overflow_sub-result c =
-    let pointed = guide-given c.args.g
-    (sym c.asks_guide-asked.ensures ∙ c.if-asked-ne0.false) in
-    omega (arith, pointed.bearing, pointed.heading _ c.in-Some.is)
+    let pointed = guide-given c.args.g (sym c.in_ok-asks_guide.ensures) in
+    omega (arith, pointed.heading _ c.in-Some.is)
 
-pub returns-in-Some : goal.returns-in-Some
-unfolding says_angle arrow
-returns-in-Some c =
-    let g = c.args.g in
-    record {
-      says = yes c.asks_guide-asked.ensures c.if-asked-ne0.false
-          (sym (ap (λ (x : Option ℕ). arrow_from x g.bearing) c.in-Some.is));
-    }
-
-pub returns-in-None : goal.returns-in-None
-unfolding says_angle arrow
-returns-in-None c =
-    let g = c.args.g in
-    record {
-      says = yes c.asks_guide-asked.ensures c.if-asked-ne0.false
-          (sym (ap (λ (x : Option ℕ). arrow_from x g.bearing) c.in-None.is));
-    }
+pub returns : goal.returns
+unfolding arrow
+returns c = record { said = yes c.in_ok-asks_guide.ensures (sym (ap (λ (x : Option ℕ). arrow_from x c.args.g.bearing) c.in-Some.is)) }

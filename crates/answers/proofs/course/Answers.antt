@@ -1,11 +1,12 @@
 -- `answers::course` meets its contract.
+use Rattle.std.proofs.Common.{rules, ◌≡◌, Err}
 use Rattle.answers.proofs.Answering.{course-refused, course-returned}
 use Rattle.answers.proofs.course.Goals as goal
 
-pub returns-then-asked-ne0 : goal.returns-then-asked-ne0
-returns-then-asked-ne0 c = let g = c.args in
-    course-refused g.h g.line.now c.asks_line-asked.ensures c.if-asked-ne0.true
+pub returns-in_err-asks_line : goal.returns-in_err-asks_line
+returns-in_err-asks_line c =
+    let e : c.from_residual.result ≡ Err c.in_err-asks_line.field-0.0 = search rules in
+    course-refused c.args.h.now c.args.line.now e c.in_err-asks_line.ensures
 
 pub returns : goal.returns
-returns c = let g = c.args in
-    course-returned g.h g.line.now c.asks_line-asked.ensures c.if-asked-ne0.false c.front.ensures
+returns c = course-returned c.args.h.now c.args.line.now c.in_ok-asks_line.ensures c.front.ensures

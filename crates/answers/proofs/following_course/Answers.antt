@@ -1,15 +1,17 @@
 -- `answers::following_course` meets its contract.
-use Rattle.calls.specs.Ask.{following_course}
+use Rattle.std.proofs.Common.{rules, ◌≡◌, ◌∙◌, Err}
+use Rattle.calls.specs.Ask as rule
 use Rattle.calls.specs.Calls.{asks_lent, asks}
-use Rattle.answers.specs.Answers.{says_verdict}
+use Rattle.answers.proofs.Lines.{on-course}
 use Rattle.answers.proofs.Answering.{no, yes}
 use Rattle.answers.proofs.following_course.Goals as goal
 
-pub returns-then-asked-ne0 : goal.returns-then-asked-ne0
-unfolding says_verdict asks asks_lent
-returns-then-asked-ne0 c = record { says = λ b. no (c.asks_state-asked.ensures b) _ c.if-asked-ne0.true }
+pub returns-in_err-asks_state : goal.returns-in_err-asks_state
+unfolding asks asks_lent
+returns-in_err-asks_state c =
+    let e : c.from_residual.result ≡ Err c.in_err-asks_state.field-0.0 = search rules in
+    record { said = λ b. no e (c.in_err-asks_state.ensures b) _ }
 
 pub returns : goal.returns
-unfolding says_verdict asks asks_lent following_course
-returns c =
-    record { says = λ b. yes (c.asks_state-asked.ensures b) c.if-asked-ne0.false c.on_course.ensures }
+unfolding asks asks_lent rule.following_course
+returns c = record { said = λ b. yes (c.in_ok-asks_state.ensures b) (c.eq.ensures ∙ on-course _) }

@@ -1,24 +1,23 @@
 -- `answers::way_back` meets its contract.
-use mathlib.Core.Path.{refl, sym, ◌∙◌}
-use lib.ListN.{length}
+use Rattle.std.proofs.Common.{rules, ◌≡◌, sym, Err, length}
+use Rattle.trail.specs.View.{track}
 use Rattle.calls.specs.Ask.{way_back}
 use Rattle.calls.specs.Calls.{asks_lent, asks}
 use Rattle.questions.proofs.Given.{crumbs-given}
-use Rattle.trail.specs.View.{track}
-use Rattle.answers.specs.Answers.{says_back}
 use Rattle.answers.proofs.Answering.{no, yes}
 use Rattle.answers.proofs.way_back.Goals as goal
 
-pub returns-then-asked-ne0 : goal.returns-then-asked-ne0
-unfolding says_back asks asks_lent
-returns-then-asked-ne0 c = record { says = no c.asks_crumbs-asked.ensures _ c.if-asked-ne0.true }
+pub returns-in_err-asks_crumbs : goal.returns-in_err-asks_crumbs
+unfolding asks asks_lent
+returns-in_err-asks_crumbs c =
+    let e : c.from_residual.result ≡ Err c.in_err-asks_crumbs.field-0.0 = search rules in
+    record { said = no e c.in_err-asks_crumbs.ensures _ }
 
 pub way_back_from-requires : goal.way_back_from-requires
 way_back_from-requires c =
-    let g = c.args in
-    let b = g.crumbs.now in
-    (crumbs-given (length b) g.h b (sym c.asks_crumbs-asked.ensures ∙ c.if-asked-ne0.false)).trail.held
+    let b = c.args.crumbs.now in
+    (crumbs-given (length b) c.args.h.now b (sym c.in_ok-asks_crumbs.ensures)).trail.held
 
 pub returns : goal.returns
 unfolding asks asks_lent way_back track
-returns c = record { says = c.way_back_from.ensures ∙ yes c.asks_crumbs-asked.ensures c.if-asked-ne0.false refl }
+returns c = record { said = yes c.in_ok-asks_crumbs.ensures c.way_back_from.ensures }
