@@ -18,7 +18,7 @@ use Rattle.state.specs.State.{State}
 use Rattle.state.specs.Rule.{Done, done}
 use Rattle.follow.specs.Parts.{leads, stopped}
 use Rattle.follow.specs.Engage.{engage_at, engage, cut_to, leave_at, forgotten, stop_nothing, stop_course, stop_breadcrumb, stop_on, stop}
-use Rattle.journal.proofs.Trace.{impossible, front, cut}
+use Rattle.journal.proofs.Trace.{front, cut}
 use Rattle.journal.proofs.Sound.{Holds, Ran, Good, Quiet, still, quiet}
 use Rattle.journal.proofs.Recording.{keep-good}
 
@@ -46,10 +46,10 @@ module _ {C : ℕ} where
 
 -- ---- another line is not the breadcrumb
 pub nothing-followed : {A : Type 0} → line.Nothing ≡ line.Breadcrumb → A
-nothing-followed e = impossible (cc)
+nothing-followed e = cc
 
 pub course-followed : {A : Type 0} → line.Course ≡ line.Breadcrumb → A
-course-followed e = impossible (cc)
+course-followed e = cc
 
 -- ---- ended
 module _ {C : ℕ} where

@@ -1,7 +1,7 @@
 -- A fix along the course, or back along the breadcrumb: a turn-round is counted only where there are crumbs to go back to. Assumes nothing.
 use Prim.Native.Nat.{ℕ, ◌+◌, ◌≤◌}
-use mathlib.Core.Path.{◌≡◌, refl, sym}
-use mathlib.Core.Bool.{Bool, true, false, cond, true≢false}
+use mathlib.Core.Path.{◌≡◌, refl}
+use mathlib.Core.Bool.{Bool, true, false, cond}
 use mathlib.Core.List.{List}
 use native.Mathlib.Omega.{arith}
 use borrow.Author.Tests.{eqb-false, leb-true}
@@ -38,7 +38,7 @@ only-there false answer e = e
 
 rides-crumbs : (way : Option ℕ) (l : List Crumb) (p : Point) → rides_back way l p ≡ true → 2 ≤ length l
 unfolding rides_back
-rides-crumbs None l p e = absurd (true≢false (sym e))
+rides-crumbs None l p e = cc
 rides-crumbs (Some heading) l p e = leb-true 2 (length l) (only-there _ _ e)
 
 len-before : (t : Track) → 2 ≤ length t.crumbs → (1 ≤ t.retrace → 1 ≤ t.retrace_len) → 1 ≤ len_before t
@@ -81,5 +81,5 @@ module _ {C : ℕ} where
           record {
             ran = record { trace = over; sound = counted 0 _ s h (λ n. absurd (omega arith)) };
             some =
-                λ f. absurd (true≢false (sym f));
+                λ f. cc;
           }

@@ -18,7 +18,7 @@ use Rattle.state.specs.State.{State}
 use Rattle.follow.specs.Parts.{ended_by_thinning}
 use Rattle.follow.specs.Record.{after_thinning, recorded_in, recorded, keep_in, add_in, flush_in}
 use Rattle.journal.proofs.Walking.{Steps, keeps, flushes, adds}
-use Rattle.journal.proofs.Trace.{impossible, Trace, over, kept, thinned}
+use Rattle.journal.proofs.Trace.{Trace, over, kept, thinned}
 use Rattle.journal.proofs.Sound.{Sound, Ran, Good}
 
 -- ---- the turn-round
@@ -46,7 +46,7 @@ back-steps C =
 left-segment : (l : Line) (f : Follow) → l ≡ f.line → (f.line ≡ Breadcrumb → 1 ≤ f.segment) → (ended_by_thinning l f).line ≡ Breadcrumb
     → 1 ≤ (ended_by_thinning l f).segment
 unfolding ended_by_thinning
-left-segment Breadcrumb f e h on = impossible (cc)
+left-segment Breadcrumb f e h on = cc
 left-segment Nothing f e h on = h on
 left-segment Course f e h on = h on
 

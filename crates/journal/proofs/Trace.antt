@@ -1,12 +1,13 @@
 -- What may happen to what is held, one thing at a time, with the note that it leaves; from an empty guide any run of these gives the claim.
 -- Assumes nothing.
-use Prim.Native.Nat.{ℕ, zero, suc, ◌+◌, ◌-◌, ◌≤◌}
+use Prim.Native.Nat.{ℕ, ◌+◌, ◌-◌, ◌≤◌}
 use mathlib.Core.Path.{◌≡◌, refl, ap, ◌∙◌}
 use mathlib.Core.List.{List, [], ◌∷◌, ◌++◌, map, map-append}
 use native.Mathlib.Omega.{arith}
 use lib.ListN.{length, take, length-append, length-take}
 use lib.Ieee.{Float}
 use Rattle.plane.specs.declared.Point.{Point}
+use Rattle.std.proofs.lemmas.List.{take-map}
 use Rattle.crumbs.specs.declared.Crumb.{Crumb}
 use Rattle.crumbs.specs.Crumb.{point}
 use Rattle.crumbs.specs.Choice.{end}
@@ -36,18 +37,9 @@ pub data Trace (C : ℕ) : Holding → List Note → Holding → Type 0 where
   cut : {x y : Holding} {ns : List Note} (n : ℕ) → 1 ≤ n → Trace C (front n x) ns y → Trace C x ns y
   reset : {x y : Holding} {ns : List Note} → Trace C nothing_held ns y → Trace C x (Reset ∷ ns) y
 
--- what is not the same, as two different notes, is not equal
-pub impossible : {A : Type 0} → ◌≡◌ {A = ℕ} 0 1 → A
-impossible z = absurd (omega arith)
-
 -- ---- what is held is chosen from what was kept, and the tolerance is that of the notes
 chosen-then : {k m l : List Point} → Chosen k m → Chosen m l → Chosen k l
 chosen-then c d = record { choice = choice-trans c.choice d.choice; begins = c.begins ∙ d.begins }
-
-map-take : (n : ℕ) (l : List Crumb) → map point (take n l) ≡ take n (map point l)
-map-take zero l = refl
-map-take (suc n) [] = refl
-map-take (suc n) (a ∷ l) = ap (λ r. point a ∷ r) (map-take n l)
 
 record From (x : Holding) (ks : List Point) (t : Float) : Type 0 where
   chosen : Chosen (map point x.crumbs) ks
@@ -77,7 +69,7 @@ module _ {x : Holding} {ks : List Point} {t : Float} (f : From x ks t) where
   from_cut n h =
       let m = map point x.crumbs in
       let first : Chosen (take n m) m = record { choice = choice-take n m; begins = first-take n m h } in
-      record { chosen = chosen-then (rw (map-take n x.crumbs) first) f.chosen; tolerance = f.tolerance }
+      record { chosen = chosen-then (rw (← take-map point n x.crumbs) first) f.chosen; tolerance = f.tolerance }
 
   notes-thinning : {C n : ℕ} {y : Holding} → length x.crumbs ≡ C → Leaves C x y n → NotesThinning C ks t n y.crumbs
   notes-thinning {C} full d =
@@ -115,16 +107,16 @@ module _ {C : ℕ} where
   -- before any thinning to come, as many crumbs are kept as there is room for
   far : {x y : Holding} {ns : List Note} (b c : List Note) (n : ℕ) (l : List Crumb) → Trace C x ns y → ns ≡ b ++ Thinned n l ∷ c
       → C ≤ length x.crumbs + kept_in b
-  far [] c n l over e = impossible (cc)
-  far (v ∷ b) c n l over e = impossible (cc)
-  far [] c n l (kept p a q t) e = impossible (cc)
+  far [] c n l over e = cc
+  far (v ∷ b) c n l over e = cc
+  far [] c n l (kept p a q t) e = cc
   far {x} (v ∷ b) c n l (kept p a q t) e =
       let ih = far b c n l t (cc) in
       let y : kept_in (v ∷ b) ≡ kept_in (Kept p ∷ b) = cc in
       omega (arith, y, ih, length-append x.crumbs (a ∷ []))
   far b c n l (thinned m z p a q f d t) e = omega arith
   far {x} b c n l (cut m h t) e = omega (arith, far b c n l t e, length-take m x.crumbs)
-  far [] c n l (reset t) e = impossible (cc)
+  far [] c n l (reset t) e = cc
   far (v ∷ b) c n l (reset t) e =
       let ih = far b c n l t (cc) in
       let y : kept_in (v ∷ b) ≡ kept_in (Reset ∷ b) = cc in
@@ -133,23 +125,23 @@ module _ {C : ℕ} where
   -- between any two thinnings as many crumbs are kept as the first makes room for
   spaced : {x y : Holding} {ns : List Note} (a b c : List Note) (n m : ℕ) (l k : List Crumb) → Trace C x ns y
       → ns ≡ a ++ Thinned n l ∷ b ++ Thinned m k ∷ c → C - target C ≤ kept_in b
-  spaced [] b c n m l k over e = impossible (cc)
-  spaced (v ∷ a) b c n m l k over e = impossible (cc)
-  spaced [] b c n m l k (kept p o q t) e = impossible (cc)
+  spaced [] b c n m l k over e = cc
+  spaced (v ∷ a) b c n m l k over e = cc
+  spaced [] b c n m l k (kept p o q t) e = cc
   spaced (v ∷ a) b c n m l k (kept p o q t) e = spaced a b c n m l k t (cc)
   spaced [] b c n m l k (thinned i z p o q f d t) e = omega (arith, d.few-left, far {x = z} b c m k (kept p o q t) (cc))
-  spaced (v ∷ []) b c n m l k (thinned i z p o q f d t) e = impossible (cc)
+  spaced (v ∷ []) b c n m l k (thinned i z p o q f d t) e = cc
   spaced (v ∷ w ∷ a) b c n m l k (thinned i z p o q f d t) e = spaced a b c n m l k t (cc)
   spaced a b c n m l k (cut i h t) e = spaced a b c n m l k t e
-  spaced [] b c n m l k (reset t) e = impossible (cc)
+  spaced [] b c n m l k (reset t) e = cc
   spaced (v ∷ a) b c n m l k (reset t) e = spaced a b c n m l k t (cc)
 
   -- each is as it must be, and is followed by the crumb that set it off
   each-noted : {x y : Holding} {ns : List Note} (ks : List Point) (u : Float) → From x ks u → (a b : List Note) (n : ℕ) (l : List Crumb)
       → Trace C x ns y → ns ≡ a ++ Thinned n l ∷ b → NotesThinning C (kept_after ks a) (tolerance_after u a) n l × KeepsNext b
-  each-noted ks u f [] b n l over e = impossible (cc)
-  each-noted ks u f (v ∷ a) b n l over e = impossible (cc)
-  each-noted ks u f [] b n l (kept p c q t) e = impossible (cc)
+  each-noted ks u f [] b n l over e = cc
+  each-noted ks u f (v ∷ a) b n l over e = cc
+  each-noted ks u f [] b n l (kept p c q t) e = cc
   each-noted ks u f (v ∷ a) b n l (kept p c q t) e =
       let is : v ≡ Kept p = cc in
       rw is (each-noted (ks ++ p ∷ []) u (from-kept f c q) a b n l t (cc))
@@ -158,13 +150,13 @@ module _ {C : ℕ} where
       let left : z.crumbs ≡ l = cc in
       let next : b ≡ Kept p ∷ ns = cc in
       (rw (← count, ← left) (notes-thinning f full d), (p, (ns, next)))
-  each-noted ks u f (v ∷ []) b n l (thinned i z p c q full d t) e = impossible (cc)
+  each-noted ks u f (v ∷ []) b n l (thinned i z p c q full d t) e = cc
   each-noted ks u f (v ∷ w ∷ a) b n l (thinned i z p c q full d t) e =
       let is : v ≡ Thinned i z.crumbs = cc in
       let next : w ≡ Kept p = cc in
       rw (is, next) (each-noted (ks ++ p ∷ []) _ (from-kept (from-thinned f d) c q) a b n l t (cc))
   each-noted ks u f a b n l (cut i h t) e = each-noted ks u (from_cut f i h) a b n l t e
-  each-noted ks u f [] b n l (reset t) e = impossible (cc)
+  each-noted ks u f [] b n l (reset t) e = cc
   each-noted ks u f (v ∷ a) b n l (reset t) e =
       let is : v ≡ Reset = cc in
       rw is (each-noted [] tolerance_m from_nothing a b n l t (cc))

@@ -16,7 +16,7 @@ use Rattle.state.specs.Rule.{Done}
 use Rattle.calls.specs.Questions.{question1, asks_state}
 use Rattle.calls.specs.Calls.{Call, Ask, Reset, WayBack, Replay, asks_lent, asks, after_call}
 use Rattle.taken.specs.Taken.{InRange, Lent, Own, start, called as own-called}
-use Rattle.taken.proofs.Tests.{both}
+use Rattle.std.specs.Cmp.Derive.{both_true as both}
 use Rattle.taken.proofs.Asking.{or_else_none}
 use Rattle.taken.proofs.Taken.{taken}
 use Rattle.journal.specs.Journal.{run}

@@ -19,7 +19,7 @@ use Rattle.calls.specs.Questions.{latitude_fits}
 use Rattle.calls.specs.Questions.{longitude_fits, asks_fix, ◌or_else◌, asks_fixes}
 use Rattle.calls.specs.Calls.{point_of, asks_place}
 use Rattle.taken.specs.Taken.{FixOnGlobe, FixesOnGlobe}
-use Rattle.taken.proofs.Tests.{both}
+use Rattle.std.specs.Cmp.Derive.{both_true}
 use Rattle.taken.proofs.Bounds.{along-fits, factor-fits}
 use Rattle.taken.proofs.Laid.{most, laid-fits}
 use Rattle.taken.proofs.Recording.{places-fit, retrace-fits}
@@ -44,47 +44,47 @@ room_of size e =
 segment-fits : (on : Line) (segment len n : ℕ) → SegmentOn on segment len n → follow_fits on segment len n ≡ true
 unfolding follow_fits segment_fits
 segment-fits line.Nothing segment len n h = refl
-segment-fits line.Breadcrumb segment len n h = both (le-leb 1 segment h.0) (lt-ltb segment len h.1)
-segment-fits line.Course segment len n h = both (le-leb 1 segment h.0) (lt-ltb segment n h.1)
+segment-fits line.Breadcrumb segment len n h = both_true (le-leb 1 segment h.0) (lt-ltb segment len h.1)
+segment-fits line.Course segment len n h = both_true (le-leb 1 segment h.0) (lt-ltb segment n h.1)
 
 module _ {C n : ℕ} (s : State) (k : Kept C n s) where
   counts-fit : counts_fit s ≡ true
   unfolding counts_fit
   counts-fit =
-      both
-      (both (le-leb (length s.track.window) window_places k.track.sound.waiting)
+      both_true
+      (both_true (le-leb (length s.track.window) window_places k.track.sound.waiting)
       (rw k.course.len (segment-fits s.follow.line s.follow.segment (length s.track.crumbs) n k.follow.segment)))
       (retrace-fits s.track k.counted)
 
   spots-fit : spots_fit s ≡ true
   unfolding spots_fit
   spots-fit =
-      both
-      (both
-      (both (both (spot-fits s.here k.here) (spot-fits s.motion.from k.motion.from))
+      both_true
+      (both_true
+      (both_true (both_true (spot-fits s.here k.here) (spot-fits s.motion.from k.motion.from))
       (spot-fits s.follow.matched k.follow.matched))
       (spot-fits s.course.fix k.course.fix)) (spot-fits s.lap.start k.lap)
 
   numbers_fit_lem : numbers_fit s ≡ true
   unfolding numbers_fit
   numbers_fit_lem =
-      both
-      (both
-      (both
-      (both
-      (both
-      (both (both (places-fit s.track.window k.track.waiting) spots-fit) (along-fits s.course.along k.course.along))
+      both_true
+      (both_true
+      (both_true
+      (both_true
+      (both_true
+      (both_true (both_true (places-fit s.track.window k.track.waiting) spots-fit) (along-fits s.course.along k.course.along))
       (along-fits s.course.reached k.course.reached)) k.motion.heading) k.guide)
       (factor-fits s.frame.east_per_e7 k.frame.factor))
       k.track.sound.tolerance
 
   pub state-fits : state_fits s ≡ true
   unfolding state_fits
-  state-fits = both counts-fit numbers_fit_lem
+  state-fits = both_true counts-fit numbers_fit_lem
 
   pub held_fits_lem : C ≤ most → held_fits C s ≡ true
   unfolding held_fits
-  held_fits_lem room = both (le-leb (length s.track.crumbs) C k.track.sound.held)
+  held_fits_lem room = both_true (le-leb (length s.track.crumbs) C k.track.sound.held)
       (laid-fits 0 s.track.crumbs (omega (arith, k.track.sound.held)) k.track.crumbs)
 
 -- ---- questions 2 and 3

@@ -1,8 +1,8 @@
 -- Each of the guide's calls keeps the state within its bounds. Assumes nothing.
 use Prim.Native.Nat.{ℕ, ◌+◌, ◌≤◌}
 use native.Mathlib.Omega.{arith}
-use mathlib.Core.Path.{◌≡◌, refl, sym, ap, ◌∙◌}
-use mathlib.Core.Bool.{Bool, true, false, ◌&&◌, true≢false}
+use mathlib.Core.Path.{◌≡◌, refl, ap, ◌∙◌}
+use mathlib.Core.Bool.{Bool, true, false, ◌&&◌}
 use mathlib.Core.List.{List}
 use borrow.Author.Tests.{leb-false}
 use lib.Dec.{ltb}
@@ -106,7 +106,7 @@ module _ (C : ℕ) (least : 3 ≤ C) (room : C ≤ most) (course : List Crumb) (
 
   near-here-on : (x : Option Point) (near : Nearest) → Spotted x → near_here x course ≡ Some near → OnSegment (length course) near
   unfolding near_here
-  near-here-on None near h e = let z : ◌≡◌ {A = ℕ} 0 1 = cc in absurd (omega arith)
+  near-here-on None near h e = cc
   near-here-on (Some p) near h e =
       let m = (course-near-met course p _ near e).0 in
       let some : 1 ≤ length course = omega (arith, m.from, m.to) in
@@ -193,7 +193,7 @@ module _ (C : ℕ) (least : 3 ≤ C) (room : C ≤ most) (course : List Crumb) (
               (more-counted (t.retrace + 1) t (leb-false _ _ a) k.counted) k.follow,
         ))
         (λ r. (
-          λ a. absurd (true≢false (sym a)),
+          λ a. cc,
           λ a. kept-track k (retrace-recorded C 0 t.retrace_len t k.track) (none-counted t.retrace_len t) k.follow,
         ))
 

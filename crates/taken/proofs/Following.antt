@@ -2,7 +2,7 @@
 use Prim.Native.Nat.{ℕ, ◌≤◌, ◌<◌}
 use native.Mathlib.Omega.{arith}
 use mathlib.Core.Path.{◌≡◌, refl, sym, subst}
-use mathlib.Core.Bool.{Bool, true, false, cond, true≢false, and-eq-true_iff}
+use mathlib.Core.Bool.{Bool, true, false, cond, and-eq-true_iff}
 use mathlib.Core.List.{List}
 use borrow.Author.Tests.{ltb-true, leb-true}
 use lib.Dec.{ltb}
@@ -206,18 +206,18 @@ module _ (C : ℕ) (course : List Crumb) (lined : Lined course) where
   join-on-end : (j : Option ℕ) (s : State) → ((end : ℕ) → j ≡ Some end → (1 ≤ end) × (end < length course)) → (join_on j s).answer ≡ true
       → Joined (join_on j s).state
   unfolding join_on joined_to
-  join-on-end None s h e = absurd (true≢false (sym e))
+  join-on-end None s h e = cc
   join-on-end (Some end) s h e = h end refl
 
   join-with-end : (heading : Option ℕ) (p : Point) (s : State) (end : ℕ) → join_with heading course p s ≡ Some end
       → (1 ≤ end) × (end < length course)
   unfolding join_with
-  join-with-end None p s end e = let z : ◌≡◌ {A = ℕ} 0 1 = cc in absurd (omega arith)
+  join-with-end None p s end e = cc
   join-with-end (Some heading) p s end e = by (may_join course s) e
     where
       by : (b : Bool) → cond b (joined course p heading) None ≡ Some end → (1 ≤ end) × (end < length course)
       by true f = joined_end course p heading end f
-      by false f = let z : ◌≡◌ {A = ℕ} 0 1 = cc in absurd (omega arith)
+      by false f = cc
 
   pub joining-end : (p : Point) (s : State) → (joining course p s).answer ≡ true → Joined (joining course p s).state
   unfolding joining

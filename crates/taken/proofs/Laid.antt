@@ -95,7 +95,7 @@ realong-behind i a (b ∷ l) few A h =
 realong-laid : (m l : List Crumb) → length m ≤ most → first m ≡ first l → Placed m → Laid 0 l → Laid 0 (realong m)
 unfolding realong
 realong-laid [] l few e p h = tt
-realong-laid (a ∷ m) [] few e p h = let z : ◌≡◌ {A = ℕ} 0 1 = cc in absurd (omega arith)
+realong-laid (a ∷ m) [] few e p h = cc
 realong-laid (a ∷ m) (b ∷ l) few e p h =
     let i : b ≡ a = cc in
     let A : CrumbAt 0 a = subst (λ c. CrumbAt 0 c) i h.0 in

@@ -24,7 +24,7 @@ All Q (x ∷ l) = Q x × All Q l
 
 module _ (Q : Point → Type 0) where
   all-last : (l : List Point) (p : Point) → All Q l → last l ≡ Some p → Q p
-  all-last [] p h e = let z : ◌≡◌ {A = ℕ} 0 1 = cc in absurd (omega arith)
+  all-last [] p h e = cc
   all-last (q ∷ []) p h e = let i : q ≡ p = cc in subst Q i h.0
   all-last (q ∷ r ∷ l) p h e = all-last (r ∷ l) p h.1 e
 

@@ -3,7 +3,7 @@ use Prim.Native.Nat.{ℕ, ◌≤◌, ◌<◌}
 use native.Mathlib.Omega.{arith}
 use native.Mathlib.Decide.{ℕ_discrete}
 use mathlib.Core.Path.{◌≡◌, refl}
-use mathlib.Core.Bool.{true, false, ◌||◌, true≢false}
+use mathlib.Core.Bool.{true, false, ◌||◌}
 use mathlib.Core.List.{List, [], ◌∷◌, ◌++◌}
 use borrow.Author.Tests.{eqb-false, lt-ltb, le-leb, eq-eqb, ne_eqb}
 use lib.Dec.{eqb, leb}
@@ -137,7 +137,7 @@ retrace-fits t k = rw (lt-ltb _ _ k.few) (by (ℕ_discrete t.retrace 0))
 keeps-grows : (C : ℕ) (p : Point) (x y : Holding) (notes : List Note) → Keeps C p x y notes → thinned_in notes ≡ false
     → length x.crumbs ≤ length y.crumbs
 keeps-grows C p x y notes (trail.room c e ne) t = simp length-append (omega arith)
-keeps-grows C p x y notes (full z n c e is leaves) t = absurd (true≢false t)
+keeps-grows C p x y notes (full z n c e is leaves) t = cc
 
 pub grows : (C : ℕ) (x y : Holding) (notes : List Note) → MayKeep C x y notes → thinned_in notes ≡ false
     → length x.crumbs ≤ length y.crumbs

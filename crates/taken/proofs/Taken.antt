@@ -3,7 +3,7 @@ use Prim.Native.Nat.{ℕ, ◌≤◌}
 use native.Mathlib.Omega.{arith}
 use mathlib.Core.Path.{◌≡◌, refl, sym, ap, ◌∙◌, subst}
 use mathlib.Core.Logic.{◌≢◌}
-use mathlib.Core.Bool.{Bool, true, ◌&&◌, and-eq-true_iff}
+use mathlib.Core.Bool.{true, ◌&&◌, and-eq-true_iff}
 use mathlib.Core.List.{List, []}
 use borrow.Author.Tests.{le-leb, leb-true, eqb-true, eqb-false}
 use lib.Dec.{leb, eqb}
@@ -17,7 +17,7 @@ use Rattle.state.specs.State.{State}
 use Rattle.state.specs.Rule.{Done}
 use Rattle.plane.specs.declared.Fix.{Fix}
 use Rattle.course.specs.Course.{points}
-use Rattle.calls.specs.Questions.{question1, question4, state_fits, held_fits, line_fits, crumbs_fit, unless, asks_state, asks_crumbs}
+use Rattle.calls.specs.Questions.{question1, question4, state_fits, held_fits, line_fits, crumbs_fit, asks_state, asks_crumbs}
 use Rattle.calls.specs.Questions.{asks_line}
 use Rattle.calls.specs.Questions.{asks_both}
 use Rattle.calls.specs.Line.{new, set_course}
@@ -26,7 +26,8 @@ use Rattle.calls.specs.Calls.{SetCourse, SetAutoFollow, Observe, Replay, SetFoll
 use Rattle.calls.specs.Calls.{after_call}
 use Rattle.taken.specs.Taken.{FixesOnGlobe, InRange, placed_of, Lendable, LendsLine, Lent, line_left, line_after, Own, start, called}
 use Rattle.taken.specs.Taken.{refused, BufferAfter, EveryTaken, AnyLineAtFirst, EveryLineAgain}
-use Rattle.taken.proofs.Tests.{either, both}
+use Rattle.taken.proofs.Tests.{either, says-yes}
+use Rattle.std.specs.Cmp.Derive.{both_true}
 use Rattle.taken.proofs.Laid.{most, laid-fits}
 use Rattle.taken.proofs.State.{Lined, Kept}
 use Rattle.taken.proofs.Calls.{replay-kept, end-replay-kept, auto-follow-kept, following-kept, observe-kept}
@@ -48,7 +49,7 @@ roomy size n e =
     record {
       short = leb-true (capacity size) points ((and-eq-true_iff (whole size) (leb (capacity size) points)).0 fits).1;
       room = leb-true n (capacity size) ((and-eq-true_iff long (leb n (capacity size))).0 e).1;
-      none = both fits (le-leb 0 (capacity size) (omega arith));
+      none = both_true fits (le-leb 0 (capacity size) (omega arith));
     }
 
 -- ---- a state and the line that `set_course` left, as a guide's own calls make them
@@ -89,10 +90,6 @@ lent-whole : (l : List Crumb) (t : State) (after : List Float) → t.course.line
 lent-whole l t after e q r p =
     record { passes = q; room = rw e r; placed = ap (λ n. crumbs n after) e ∙ (p ∙ sym (ap (λ n. take n l) e ∙ take-length l)) }
 
--- a question that says yes
-says-yes : {a : Bool} (n : ℕ) → a ≡ true → unless a n ≡ 0
-says-yes n e = rw e
-
 module _ (size : ℕ) (passes : question1 size ≡ true) where
   least : 3 ≤ capacity size
   least = (room_of size passes).least
@@ -107,7 +104,7 @@ module _ (size : ℕ) (passes : question1 size ≡ true) where
     state-asked = says-yes 10 (state-fits s h.kept)
 
     held : (state_fits s && held_fits (capacity size) s) ≡ true
-    held = both (state-fits s h.kept) (held_fits_lem s h.kept most-room)
+    held = both_true (state-fits s h.kept) (held_fits_lem s h.kept most-room)
 
     crumbs-asked : asks_crumbs size s ≡ 0
     unfolding asks_crumbs
@@ -120,16 +117,16 @@ module _ (size : ℕ) (passes : question1 size ≡ true) where
       line-fits =
           let fits : crumbs_fit (course_in b s) ≡ true =
           ap (λ k. crumbs_fit k) lent.placed ∙ laid-fits 0 (placed_of l s) (omega (arith, h.lined.few)) h.lined.laid in
-          both (le-leb s.course.line_len (capacity (length b)) lent.room) fits
+          both_true (le-leb s.course.line_len (capacity (length b)) lent.room) fits
 
       line-asked : asks_line b n s ≡ 0
       unfolding asks_line
-      line-asked = or_else_none _ _ (says-yes 10 (both (state-fits s h.kept) line-fits)) (says-yes 4 lent.passes)
+      line-asked = or_else_none _ _ (says-yes 10 (both_true (state-fits s h.kept) line-fits)) (says-yes 4 lent.passes)
 
     both-asked : {b : List Float} → Lendable l s 0 b → asks_both size b s ≡ 0
     unfolding asks_both
     both-asked lent =
-        or_else_none _ _ (says-yes 1 passes) (or_else_none _ _ (says-yes 10 (both held (line-fits lent))) (says-yes 4 lent.passes))
+        or_else_none _ _ (says-yes 1 passes) (or_else_none _ _ (says-yes 10 (both_true held (line-fits lent))) (says-yes 4 lent.passes))
 
     lent-asked : (loan : Loan) → LendsLine l s loan → asks_lent size loan s ≡ 0
     unfolding asks_lent

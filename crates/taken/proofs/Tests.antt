@@ -1,6 +1,8 @@
--- What holds by a test, and what a test of two parts says of each. Assumes nothing.
+-- What holds by a test, and the number of a question that says yes. Assumes nothing.
+use Prim.Native.Nat.{ℕ}
 use mathlib.Core.Path.{◌≡◌, refl}
-use mathlib.Core.Bool.{Bool, true, false, ◌&&◌, cond}
+use mathlib.Core.Bool.{Bool, true, false, cond}
+use Rattle.calls.specs.Questions.{unless}
 
 -- either of two, by a test
 pub either : {A : Type 0} (P : A → Type 0) (b : Bool) {x y : A} → (b ≡ true → P x) → (b ≡ false → P y) → P (elim b [ true ↦ x | false ↦ y ])
@@ -12,5 +14,6 @@ pub one_of : {A : Type 0} (P : A → Type 0) (b : Bool) {x y : A} → (b ≡ tru
 one_of P true h k = h refl
 one_of P false h k = k refl
 
-pub both : {a b : Bool} → a ≡ true → b ≡ true → (a && b) ≡ true
-both e f = rw (e, f)
+-- a question that says yes
+pub says-yes : {b : Bool} (n : ℕ) → b ≡ true → unless b n ≡ 0
+says-yes n e = rw e

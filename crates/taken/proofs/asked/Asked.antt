@@ -3,7 +3,7 @@
 use Prim.Native.Nat.{ℕ, ◌*◌, ◌≤◌}
 use native.Mathlib.Omega.{arith}
 use mathlib.Core.Path.{◌≡◌, subst, sym}
-use mathlib.Core.Bool.{Bool, true, ◌&&◌, and-eq-true_iff}
+use mathlib.Core.Bool.{true, ◌&&◌, and-eq-true_iff}
 use mathlib.Core.List.{List, [], ◌∷◌}
 use lib.Dec.{eqb}
 use Rattle.crumbs.specs.Crumb.{stride, capacity}
@@ -15,7 +15,8 @@ use Rattle.calls.specs.Fix.{replay}
 use Rattle.calls.specs.Line.{new, reset}
 use Rattle.calls.specs.Calls.{Call, Reset, Replay, asks, performs, after_call}
 use Rattle.taken.specs.Taken.{FixOnGlobe}
-use Rattle.taken.proofs.Tests.{either, both}
+use Rattle.taken.proofs.Tests.{either, says-yes}
+use Rattle.std.specs.Cmp.Derive.{both_true}
 use Rattle.taken.proofs.Asking.{room_of, or_else_none}
 use Rattle.journal.specs.Journal.{run, journal}
 use Rattle.taken.proofs.asked.State.{Passing, parts-given, state-passes, held-passes, replay-passing, reset-passing}
@@ -23,9 +24,6 @@ use Rattle.taken.proofs.asked.Measured.{Measured, new-measured, turn-measured}
 use Rattle.questions.proofs.Given.{passed, neither}
 
 -- ---- the questions
-says-yes : {b : Bool} (n : ℕ) → b ≡ true → unless b n ≡ 0
-says-yes n e = rw e
-
 -- ---- one call
 -- the state alone
 pub reset-asked-state : (s : State) → asks_state s ≡ 0 → asks_state (reset s).state ≡ 0
@@ -52,7 +50,7 @@ module _ (size : ℕ) where
 
   passes : (s : State) → question1 size ≡ true → Passing (capacity size) s → asks_crumbs size s ≡ 0
   unfolding asks_crumbs
-  passes s one k = or_else_none _ _ (says-yes 1 one) (says-yes 10 (both (state-passes s k) (held-passes s k)))
+  passes s one k = or_else_none _ _ (says-yes 1 one) (says-yes 10 (both_true (state-passes s k) (held-passes s k)))
 
   -- the state and a crumb buffer
   pub replay-asked : (x : Fix) (now : ℕ) (s : State) → Measured s → FixOnGlobe x → asks_crumbs size s ≡ 0

@@ -25,7 +25,7 @@ use Rattle.plane.specs.Plane.{distance}
 use Rattle.calls.specs.Questions.{sized, place_fits, along_fits}
 use Rattle.questions.specs.Sure.{place_most}
 use Rattle.questions.proofs.Exact.{sized-tested, along_end, whole_part, small-part, along-tested}
-use Rattle.taken.proofs.Tests.{both}
+use Rattle.std.specs.Cmp.Derive.{both_true}
 use Rattle.taken.proofs.Bounds.{some_more}
 
 -- ---- a place that passes question 10
@@ -132,7 +132,7 @@ before-end (fin true m e) w = lt→ltb 0 (m * up e * 1 + 4656613 * 2 ^ 31 * down
 pub along-passes : (x : Float) → Reaches x → along_fits x ≡ true
 unfolding along_end constant
 along-passes x a =
-    sym (along-tested x a.fits) ∙ both (is_true (le plus_zero x) (nonneg→le x a.least)) (is_true _ (before-end x a.most))
+    sym (along-tested x a.fits) ∙ both_true (is_true (le plus_zero x) (nonneg→le x a.least)) (is_true _ (before-end x a.most))
 
 -- ---- the start of a line, and a step on it
 pub along-start : Reaches plus_zero

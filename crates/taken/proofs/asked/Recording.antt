@@ -15,7 +15,7 @@ use Rattle.crumbs.specs.Along.{crumb_of, along_to, along_behind, recorded_m, rea
 use Rattle.thin.specs.Crumb.{thinning}
 use Rattle.trail.specs.Trail.{Track, add}
 use Rattle.calls.specs.Questions.{place_fits, places_fit, along_fits, crumb_fits, crumbs_fit}
-use Rattle.taken.proofs.Tests.{both}
+use Rattle.std.specs.Cmp.Derive.{both_true}
 use Rattle.taken.proofs.Onward as onward
 use Rattle.taken.proofs.Onward.{All}
 use Rattle.taken.proofs.asked.Bounds.{Reaches, along-given, along-passes, along-start, along-step}
@@ -48,7 +48,7 @@ crumbs-given (c ∷ l) f e =
 pub crumbs-pass : (l : List Crumb) → AllPass l → crumbs_fit l ≡ true
 unfolding crumbs_fit crumb_fits
 crumbs-pass [] h = refl
-crumbs-pass (c ∷ l) h = both (both h.0.place (along-passes c.along h.0.along)) (crumbs-pass l h.1)
+crumbs-pass (c ∷ l) h = both_true (both_true h.0.place (along-passes c.along h.0.along)) (crumbs-pass l h.1)
 
 pass-snoc : (l : List Crumb) (c : Crumb) → AllPass l → Passes c → AllPass (l ++ c ∷ [])
 pass-snoc [] c h k = (k, tt)
@@ -97,7 +97,7 @@ window-given (p ∷ l) e = let both = (and-eq-true_iff (place_fits p) (places_fi
 pub window-passes : (l : List Point) → All Waits l → places_fit l ≡ true
 unfolding places_fit
 window-passes [] h = refl
-window-passes (p ∷ l) h = both h.0 (window-passes l h.1)
+window-passes (p ∷ l) h = both_true h.0 (window-passes l h.1)
 
 -- ---- the breadcrumb
 abbrev pub Recorded : ℕ → Track → Type 0

@@ -34,7 +34,8 @@ use Rattle.calls.specs.Questions.{counts_fit, spots_fit, numbers_fit, state_fits
 use Rattle.calls.specs.Fix.{headed, pass_only, replay, unheaded}
 use Rattle.calls.specs.Line.{no_lap, lined, awaiting, reset}
 use Rattle.taken.specs.Taken.{FixOnGlobe}
-use Rattle.taken.proofs.Tests.{one_of, both}
+use Rattle.taken.proofs.Tests.{one_of}
+use Rattle.std.specs.Cmp.Derive.{both_true}
 use Rattle.taken.proofs.Bounds.{place-fits, factor-fits}
 use Rattle.taken.proofs.Onward.{Counted}
 use Rattle.taken.proofs.Recording.{retrace-fits, grows, reset-recorded, reset-counted}
@@ -158,21 +159,21 @@ module _ {C : ℕ} (s : State) (k : Passing C s) where
   pub state-passes : state_fits s ≡ true
   unfolding state_fits counts_fit spots_fit numbers_fit
   state-passes =
-      both (both (both (le-leb (length s.track.window) window_places k.track.sound.waiting) k.follow)
+      both_true (both_true (both_true (le-leb (length s.track.window) window_places k.track.sound.waiting) k.follow)
       (retrace-fits s.track k.counted))
-      (both
-      (both
-      (both
-      (both
-      (both
-      (both
-      (both (window-passes s.track.window k.track.waiting)
-      (both (both (both (both k.here k.from) k.matched) k.fix) k.start))
+      (both_true
+      (both_true
+      (both_true
+      (both_true
+      (both_true
+      (both_true
+      (both_true (window-passes s.track.window k.track.waiting)
+      (both_true (both_true (both_true (both_true k.here k.from) k.matched) k.fix) k.start))
       k.along) k.reached) k.heading) k.guide) k.factor) k.track.sound.tolerance)
 
   pub held-passes : held_fits C s ≡ true
   unfolding held_fits
-  held-passes = both (le-leb (length s.track.crumbs) C k.track.sound.held) (crumbs-pass s.track.crumbs k.track.crumbs)
+  held-passes = both_true (le-leb (length s.track.crumbs) C k.track.sound.held) (crumbs-pass s.track.crumbs k.track.crumbs)
 
 -- ---- the breadcrumb in the whole state
 longer-follow : (on : Line) (segment len len' n : ℕ) → len ≤ len' → follow_fits on segment len n ≡ true
@@ -181,7 +182,7 @@ unfolding follow_fits segment_fits
 longer-follow line.Nothing segment len len' n g h = refl
 longer-follow line.Breadcrumb segment len len' n g h =
     let below : segment < len = ltb-true segment len ((and-eq-true_iff (leb 1 segment) (ltb segment len)).0 h).1 in
-    both ((and-eq-true_iff (leb 1 segment) (ltb segment len)).0 h).0 (lt-ltb segment len' (omega arith))
+    both_true ((and-eq-true_iff (leb 1 segment) (ltb segment len)).0 h).0 (lt-ltb segment len' (omega arith))
 longer-follow line.Course segment len len' n g h = h
 
 record Followed (len n : ℕ) (f : Follow) : Type 0 where
