@@ -1,6 +1,7 @@
 -- Demand 3 where calls of a rebuild stand among the guide's, whoever wrote the lines. Assumes nothing.
 use Prim.Native.Nat.{ℕ, zero, suc, ◌*◌, ◌≤◌}
 use mathlib.Core.Path.{◌≡◌, refl, sym, ap, ap₂, ◌∙◌, subst}
+use mathlib.Core.Bool.{Bool}
 use mathlib.Core.Logic.{◌≢◌}
 use mathlib.Core.List.{List, [], ◌∷◌, ◌++◌}
 use native.Mathlib.Omega.{arith}
@@ -9,7 +10,8 @@ use lib.Dec.{leb, eqb}
 use lib.ListN.{length}
 use lib.Ieee.{Float}
 use Rattle.crumbs.specs.Crumb.{stride, capacity}
-use Rattle.std.specs.Prelude.{Option, Some, None, ℕ}
+use Rattle.std.specs.Prelude.{Option, Some, None, Result, Ok, ℕ}
+use Rattle.refusal.specs.declared.Refusal.{Refusal}
 use Rattle.plane.specs.declared.Fix.{Fix}
 use Rattle.state.specs.declared.Homing.{Homing}
 use Rattle.state.specs.State.{State, state_of}
@@ -25,7 +27,6 @@ use Rattle.taken.proofs.Asking.{fix-asked, or_else_none}
 use Rattle.journal.specs.Journal.{run, journal}
 use Rattle.taken.proofs.asked.Measured.{Measured, turn-measured}
 use Rattle.taken.proofs.asked.Asked.{journal-measured, state-asked, replay-turn, reset-turn}
-use Rattle.homing.specs.declared.Changed.{Changed}
 use Rattle.homing.specs.Promises.{MakesNew}
 use Rattle.history.specs.History.{Holds, Ran}
 use Rattle.history.specs.History as history
@@ -43,8 +44,6 @@ use Rattle.rebuild.specs.Made.{perform}
 use Rattle.rebuild.specs.Rebuild.{carries_on, decide, step, settle_from, settle}
 use Rattle.rebuild.proofs.Theorems.{journal-same}
 use Rattle.rebuild.proofs.Counting.{Rebuilding, nothing, reset, replay, SamplesOnGlobe, SlotOnGlobe, walk-makes}
-use Rattle.restart.specs.declared.Stepped.{Stepped}
-use Rattle.restart.specs.declared.Settled.{Settled}
 use Rattle.restart.specs.Walk.{record_at}
 use Rattle.restart.specs.Promises.{asks_step, Steps, SettlesBreadcrumb}
 use Rattle.restart.specs.History.{step_calls, settle_calls, RanOn, new, called, stepped, settled, EveryHistoryWithRebuilds}
@@ -123,7 +122,7 @@ journal-on C cs ks = sym (run-both (stride * C) cs ks rule.new)
 
 -- ---- runs
 -- the guide that `new` makes begins one
-pub made : {C : ℕ} {b : List Float} {r : Changed} → length b ≡ stride * C → MakesNew b r → RanOn C [] r.homing b
+pub made : {C : ℕ} {b : List Float} {h : Homing} → length b ≡ stride * C → MakesNew b (Ok h) → RanOn C [] h b
 made {b = b} size m = new size (m.fresh b)
 
 -- one without a call of a rebuild
@@ -159,28 +158,29 @@ module _ (C : ℕ) (least : 3 ≤ C) (cs : List Call) (h : Homing) (b : List Flo
   unfolding perform
   uncounted r b' e f = counted [] r b' tt (ap₂ (λ (x : Homing) (y : List Float). state_of x y) e f)
 
-  step_counts : (budget upper : ℕ) (file : List ℕ) (x : Rebuild) {v : Stepped} {b' : List Float} → Steps budget upper file x h b v b'
-      → state_of v.homing b' ≡ (journal C (cs ++ step_calls (length b) budget upper file x (state_of h b))).state
+  step_counts : (budget upper : ℕ) (file : List ℕ) (x : Rebuild) {y : Rebuild} {r : Homing} {a : Result Bool Refusal} {b' : List Float}
+      → Steps budget upper file x h b y r a b'
+      → state_of r b' ≡ (journal C (cs ++ step_calls (length b) budget upper file x (state_of h b))).state
   unfolding step_calls step
-  step_counts budget upper file x {v = v} {b' = b'} did =
-      either (λ (ks : List Call). state_of v.homing b' ≡ (journal C (cs ++ ks)).state) (eqb (asks_step (length b) file (state_of h b)) 0)
+  step_counts budget upper file x {r = r} {b' = b'} did =
+      either (λ (ks : List Call). state_of r b' ≡ (journal C (cs ++ ks)).state) (eqb (asks_step (length b) file (state_of h b)) 0)
       (λ t.
       let z = eqb-true (asks_step (length b) file (state_of h b)) 0 t in
       let makes = walk-makes budget upper (slot file) x (slot-globe file (step-file file h b refl z)) in
-      counted _ v.homing b' (none-refused (length b) room (state_of h b) measured (step-crumbs file h b refl z) makes)
+      counted _ r b' (none-refused (length b) room (state_of h b) measured (step-crumbs file h b refl z) makes)
       (did.taken z).same)
       (λ t. let stays = did.refused (eqb-false (asks_step (length b) file (state_of h b)) 0 t) in
-      uncounted v.homing b' stays.1 stays.2)
+      uncounted r b' stays.1 stays.2)
 
-  settle-counts : (t : Option ℕ) (x : Rebuild) {v : Settled} → SettlesBreadcrumb t x h v
-      → state_of v.homing b ≡ (journal C (cs ++ settle_calls t x (state_of h b))).state
+  settle-counts : (t : Option ℕ) (x : Rebuild) {y : Rebuild} {r : Homing} {a : Result (Unit {0}) Refusal} → SettlesBreadcrumb t x h y r a
+      → state_of r b ≡ (journal C (cs ++ settle_calls t x (state_of h b))).state
   unfolding settle_calls
-  settle-counts t x {v = v} did =
-      either (λ (ks : List Call). state_of v.homing b ≡ (journal C (cs ++ ks)).state) (eqb (asks_state (state_of h b)) 0)
+  settle-counts t x {r = r} did =
+      either (λ (ks : List Call). state_of r b ≡ (journal C (cs ++ ks)).state) (eqb (asks_state (state_of h b)) 0)
       (λ u.
       let z = eqb-true (asks_state (state_of h b)) 0 u in
-      counted _ v.homing b (settle-asked (length b) (state_of h b) z t x) ((did.taken b z).same (capacity (length b)) b))
-      (λ u. uncounted v.homing b (did.refused b (eqb-false (asks_state (state_of h b)) 0 u)).1 refl)
+      counted _ r b (settle-asked (length b) (state_of h b) z t x) ((did.taken b z).same (capacity (length b)) b))
+      (λ u. uncounted r b (did.refused b (eqb-false (asks_state (state_of h b)) 0 u)).1 refl)
 
 -- ---- demand 3
 module _ (C : ℕ) (least : 8 ≤ C) where

@@ -20,7 +20,7 @@ use Rattle.std.specs.Cmp.Derive.{both_true as both}
 use Rattle.taken.proofs.Asking.{or_else_none}
 use Rattle.taken.proofs.Taken.{taken}
 use Rattle.journal.specs.Journal.{run}
-use Rattle.homing.specs.declared.Changed.{Changed}
+use Rattle.std.specs.Prelude.{Ok}
 use Rattle.homing.specs.Promises.{MakesNew}
 use Rattle.ride_log.specs.Entry.{slot}
 use Rattle.ride_log.specs.Questions.{asks_file}
@@ -37,7 +37,7 @@ use Rattle.restart.proofs.Calling.{step-file}
 use Rattle.restart.proofs.History.{slot-globe, long as history-long}
 
 -- the guide that `new` makes begins such a run
-pub begun : {C : ℕ} {b : List Float} {r : Changed} → length b ≡ stride * C → MakesNew b r → Rebuilt C r.homing b []
+pub begun : {C : ℕ} {b : List Float} {h : Homing} → length b ≡ stride * C → MakesNew b (Ok h) → Rebuilt C h b []
 begun {b = b} size m = new size (m.fresh b)
 
 -- each is one of those that demand 3 speaks of
@@ -124,6 +124,6 @@ never-refused C least most h b l run =
     }
 
 pub course-left : EveryCourseLeft
-course-left xs h entry r exit did b z =
+course-left xs h entry r a exit did b z =
     let p = did.placed b z in
     (did.size, ap (λ (n : ℕ). crumbs n exit) (sym p.count) ∙ p.held)

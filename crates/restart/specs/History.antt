@@ -1,6 +1,7 @@
 -- Demand 3 of the program where calls of a rebuild stand among the guide's. Document 01, "Journal": "A call of `Rebuild` counts as the
 -- guide's calls it makes, a refused one as none."
-use Rattle.std.specs.Prelude.{ℕ, ◌*◌, ◌≤◌, ◌≡◌, true, false, List, [], ◌∷◌, ◌++◌, eqb, length, Float, Option}
+use Rattle.std.specs.Prelude.{ℕ, ◌*◌, ◌≤◌, ◌≡◌, Bool, true, false, List, [], ◌∷◌, ◌++◌, eqb, length, Float, Option, Result}
+use Rattle.refusal.specs.declared.Refusal.{Refusal}
 use Rattle.crumbs.specs.Crumb.{stride}
 use Rattle.state.specs.declared.Homing.{Homing}
 use Rattle.state.specs.State.{State, state_of}
@@ -13,8 +14,6 @@ use Rattle.history.specs.History.{Holds}
 use Rattle.ride_log.specs.Entry.{slot}
 use Rattle.rebuild.specs.declared.Rebuild.{Rebuild}
 use Rattle.rebuild.specs.Rebuild.{step, settle}
-use Rattle.restart.specs.declared.Stepped.{Stepped}
-use Rattle.restart.specs.declared.Settled.{Settled}
 use Rattle.restart.specs.Promises.{asks_step, Steps, SettlesBreadcrumb}
 
 -- ---- what a call of a rebuild counts as, on a crumb buffer of `size` numbers and in the state s; `new` and `caught_up` make no call of
@@ -34,12 +33,12 @@ pub data RanOn (C : ℕ) : List Call → Homing → List Float → Type 0 where
   new : {h : Homing} {b : List Float} → length b ≡ stride * C → state_of h b ≡ rule.new → RanOn C [] h b
   called : {cs : List Call} {h r : Homing} {b b' : List Float} (c : Call) → RanOn C cs h b → Called c h b r b' → RanOn C (cs ++ c ∷ []) r b'
   -- `step` and `settle` of any rebuild x
-  stepped : {cs : List Call} {h : Homing} {b b' : List Float} {v : Stepped} (budget upper : ℕ) (file : List ℕ) (x : Rebuild)
-      → RanOn C cs h b
-      → Steps budget upper file x h b v b' → RanOn C (cs ++ step_calls (stride * C) budget upper file x (journal C cs).state) v.homing b'
-  settled : {cs : List Call} {h : Homing} {b : List Float} {v : Settled} (t : Option ℕ) (x : Rebuild) → RanOn C cs h b
-      → SettlesBreadcrumb t x h v
-      → RanOn C (cs ++ settle_calls t x (journal C cs).state) v.homing b
+  stepped : {cs : List Call} {h r : Homing} {b b' : List Float} {y : Rebuild} {a : Result Bool Refusal} (budget upper : ℕ) (file : List ℕ)
+      (x : Rebuild) → RanOn C cs h b → Steps budget upper file x h b y r a b'
+      → RanOn C (cs ++ step_calls (stride * C) budget upper file x (journal C cs).state) r b'
+  settled : {cs : List Call} {h r : Homing} {b : List Float} {y : Rebuild} {a : Result (Unit {0}) Refusal} (t : Option ℕ) (x : Rebuild)
+      → RanOn C cs h b → SettlesBreadcrumb t x h y r a
+      → RanOn C (cs ++ settle_calls t x (journal C cs).state) r b
 
 -- Demand 3 of all these
 abbrev pub EveryHistoryWithRebuilds : Type 0

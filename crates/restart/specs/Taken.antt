@@ -1,6 +1,7 @@
 -- Demand 1 of the program: the states, buffers and placed lines that a guide's own calls and those of rebuilds make, and that none of these
 -- calls is refused there. Document 01, "Crumb": "every state and buffer made by a guide's own calls".
-use Rattle.std.specs.Prelude.{ℕ, ◌*◌, ◌≤◌, ◌≡◌, ◌≢◌, List, [], length, Float, Option}
+use Rattle.std.specs.Prelude.{ℕ, ◌*◌, ◌≤◌, ◌≡◌, ◌≢◌, Bool, List, [], length, Float, Option, Result}
+use Rattle.refusal.specs.declared.Refusal.{Refusal}
 use Rattle.crumbs.specs.declared.Crumb.{Crumb}
 use Rattle.crumbs.specs.Crumb.{stride}
 use Rattle.state.specs.declared.Homing.{Homing}
@@ -11,12 +12,9 @@ use Rattle.calls.specs.Questions.{asks_state}
 use Rattle.calls.specs.Calls.{line_for_course, Call, SetCourse, asks}
 use Rattle.calls.specs.Promises.{Called}
 use Rattle.taken.specs.Taken.{InRange, Lent, line_after, BufferAfter}
-use Rattle.homing.specs.declared.Changed.{Changed}
 use Rattle.homing.specs.Promises.{SetsCourse}
 use Rattle.ride_log.specs.Questions.{asks_file}
 use Rattle.rebuild.specs.declared.Rebuild.{Rebuild}
-use Rattle.restart.specs.declared.Stepped.{Stepped}
-use Rattle.restart.specs.declared.Settled.{Settled}
 use Rattle.restart.specs.Promises.{asks_step, Steps, SettlesBreadcrumb}
 
 -- `Rebuilt C h b l`: a new guide on a buffer for C crumbs, whatever that held, came to the state h and the buffer b by calls of its own and
@@ -30,10 +28,10 @@ pub data Rebuilt (C : ℕ) : Homing → List Float → List Crumb → Type 0 whe
   refused : {h r : Homing} {b b' : List Float} {l : List Crumb} (c : Call) → Rebuilt C h b l → asks (length b) c (state_of h b) ≢ 0
       → Called c h b r b' → Rebuilt C r b' l
   -- `step` and `settle`, refused or not, of any rebuild x
-  stepped : {h : Homing} {b b' : List Float} {l : List Crumb} {v : Stepped} (budget upper : ℕ) (file : List ℕ) (x : Rebuild)
-      → Rebuilt C h b l → Steps budget upper file x h b v b' → Rebuilt C v.homing b' l
-  settled : {h : Homing} {b : List Float} {l : List Crumb} {v : Settled} (t : Option ℕ) (x : Rebuild)
-      → Rebuilt C h b l → SettlesBreadcrumb t x h v → Rebuilt C v.homing b l
+  stepped : {h r : Homing} {b b' : List Float} {l : List Crumb} {y : Rebuild} {a : Result Bool Refusal} (budget upper : ℕ) (file : List ℕ)
+      (x : Rebuild) → Rebuilt C h b l → Steps budget upper file x h b y r a b' → Rebuilt C r b' l
+  settled : {h r : Homing} {b : List Float} {l : List Crumb} {y : Rebuild} {a : Result (Unit {0}) Refusal} (t : Option ℕ) (x : Rebuild)
+      → Rebuilt C h b l → SettlesBreadcrumb t x h y r a → Rebuilt C r b l
 
 -- the next call is taken
 pub record NextTaken (h : Homing) (b : List Float) (l : List Crumb) : Type 0 where
@@ -50,6 +48,7 @@ EveryTakenWithRebuilds =
 -- `set_course` leaves the buffer it was lent so that it may be lent to the next call
 abbrev pub EveryCourseLeft : Type 0
 EveryCourseLeft =
-    (xs : List Fix) (h : Homing) (entry : List Float) (r : Changed) (exit : List Float) → SetsCourse xs h entry r exit
+    (xs : List Fix) (h : Homing) (entry : List Float) (r : Homing) (a : Result (Unit {0}) Refusal) (exit : List Float)
+    → SetsCourse xs h entry r a exit
     → (b : List Float) → asks (length b) (SetCourse entry xs) (state_of h b) ≡ 0
     → BufferAfter (state_of h b) (line_for_course entry xs) entry exit

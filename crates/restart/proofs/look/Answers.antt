@@ -2,11 +2,8 @@
 use Rattle.restart.proofs.Stepping.{not-visited, looked}
 use Rattle.restart.proofs.look.Goals as goal
 
-pub returns-then-e-r : goal.returns-then-e-r
-returns-then-e-r c =
-    let g = c.args in
-    not-visited g.e g.r g.h g.crumbs.now c.requires.trail_fit c.if-e-r.true
+pub returns-then-r-e : goal.returns-then-r-e
+returns-then-r-e c = looked c.args.e c.args.r.now c.if-r-e.true c.visit.ensures
 
-pub returns : goal.returns
-returns c = let g = c.args in
-    looked g.e g.r c.if-e-r.false c.visit.ensures
+pub returns-else-r-e : goal.returns-else-r-e
+returns-else-r-e c = not-visited c.args.e c.args.r.now c.args.h.now c.args.crumbs.now c.requires.trail_fit c.if-r-e.false

@@ -13,9 +13,6 @@ use lib.ListN.{length, get_or, take, drop}
 use lib.Seq.{drop-cons}
 use Rattle.std.specs.Prelude.{Option}
 use Rattle.plane.specs.declared.Fix.{Fix}
-use Rattle.refusal.specs.declared.Refusal.{Refusal}
-use Rattle.refusal.specs.declared.Refusal.TheVariants as refusal
-use Rattle.refusal.specs.Refusal.{number}
 use Rattle.calls.specs.Questions.{◌or_else◌}
 use Rattle.ride_log.specs.Entry.{next_of, record_count, records_from, chain, count_of, sample_start, sample_at, no_sample, sample_of}
 use Rattle.ride_log.specs.Entry.{samples_of, used, entry_at}
@@ -23,19 +20,6 @@ use Rattle.calls.specs.Calls.{asks_place}
 use Rattle.ride_log.specs.Questions.{question6, question7, asks_samples, asks_record, asks_records, asks_chain}
 use Rattle.ride_log.specs.Questions.{asks_file}
 use Rattle.ride_log.proofs.file_questions.Chain.{ends, steps-are}
-
--- ---- refusals
-pub refused : (q : Refusal) → number q ≢ 0
-refused refusal.CrumbBuffer e = absurd (omega arith)
-refused refusal.Latitude e = absurd (omega arith)
-refused refusal.Longitude e = absurd (omega arith)
-refused refusal.LineBuffer e = absurd (omega arith)
-refused refusal.SampleCount e = absurd (omega arith)
-refused refusal.FileLength e = absurd (omega arith)
-refused refusal.Chain e = absurd (omega arith)
-refused refusal.EntryKind e = absurd (omega arith)
-refused refusal.Thinning e = absurd (omega arith)
-refused refusal.State e = absurd (omega arith)
 
 -- ---- the count of steps
 ends-out : (n count : ℕ) (f : List ℕ) (r : ℕ) → r ≢ 0 → count ≤ r → ends n count f r ≡ false
