@@ -1,5 +1,7 @@
 -- An answer by the number of the first question that says no, and the rules by what the program holds. Assumes nothing.
-use Rattle.std.proofs.Common.{ℕ, zero, suc, ◌≡◌, ◌≢◌, ◌==◌, refl, sym, ap, ap₂, ◌∙◌, false, List, [], length, Float, Option, Some, None, Result, Ok, Err, Bor}
+use Rattle.std.proofs.Common.{ℕ, zero, suc, ◌≡◌, ◌≢◌, ◌==◌, refl, sym, ap, ap₂, ◌∙◌, subst, false, List, [], length, Float, Option, Some, None, Result, Ok, Err, Bor}
+use borrow.Author.Tests.{eq-eqb}
+use lib.Dec.{T}
 use Rattle.refusal.specs.declared.Refusal.{Refusal}
 use Rattle.refusal.specs.declared.Refusal.TheVariants as refusal
 use Rattle.refusal.specs.Refusal.{number}
@@ -22,7 +24,7 @@ use Rattle.questions.proofs.Given.{crumbs-given, line-given}
 use Rattle.answers.specs.Promises.{ReturnsCrumbs, ReturnsCourse}
 
 -- a question's number is no 0
-numbered : (q : Refusal) → (number q == 0) ≡ false
+pub numbered : (q : Refusal) → (number q == 0) ≡ false
 numbered refusal.CrumbBuffer = refl
 numbered refusal.Latitude = refl
 numbered refusal.Longitude = refl
@@ -33,6 +35,9 @@ numbered refusal.Chain = refl
 numbered refusal.EntryKind = refl
 numbered refusal.Thinning = refl
 numbered refusal.State = refl
+
+pub refused-not : (q : Refusal) → number q ≢ 0
+refused-not q e = absurd (subst T (sym (eq-eqb _ 0 e) ∙ numbered q) tt)
 
 module _ {A : Type 0} {n : ℕ} where
   pub no : {r : Result A Refusal} {q : Refusal} → r ≡ Err q → number q ≡ n → (a : A) → says r ≡ answer n a

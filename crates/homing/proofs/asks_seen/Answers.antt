@@ -1,18 +1,16 @@
 -- `homing::asks_seen` meets its contract.
-use mathlib.Core.Path.{ap, ◌∙◌}
-use Rattle.plane.specs.declared.Fix.{Fix}
-use Rattle.calls.specs.Questions.{asks_fix}
+use Rattle.std.proofs.Common.{rules, ◌≡◌, ◌∙◌}
+use Rattle.refusal.specs.Refusal.{asked, number}
 use Rattle.calls.specs.Calls.{asks, asks_place}
-use Rattle.fix.proofs.Arriving.{handed-fix}
 use Rattle.homing.proofs.Calling.{or-this, or-next}
 use Rattle.homing.proofs.asks_seen.Goals as goal
 
-pub returns-then-number-ne0 : goal.returns-then-number-ne0
-unfolding asks
-returns-then-number-ne0 c = λ at. or-this _ c.asks_both-number.ensures c.if-number-ne0.true
+pub returns-in_err-asks_both : goal.returns-in_err-asks_both
+unfolding asks asks_place
+returns-in_err-asks_both c = λ at.
+    let no : asked c.from_residual.result ≡ number c.in_err-asks_both.field-0.0 = search rules in
+    no ∙ or-this _ c.in_err-asks_both.ensures _
 
 pub returns : goal.returns
 unfolding asks asks_place
-returns c = λ at.
-    or-next c.asks_both-number.ensures c.if-number-ne0.false (c.asks_fix.ensures
-    ∙ ap (λ (x : Fix). asks_fix x) (handed-fix c.args.lat c.args.lon c.ranges.lat.sfits c.ranges.lon.sfits))
+returns c = λ at. or-next c.in_ok-asks_both.ensures c.asks_fix.ensures

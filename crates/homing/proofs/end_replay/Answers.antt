@@ -1,31 +1,23 @@
 -- `homing::end_replay` meets its contract.
-use mathlib.Core.Path.{refl, sym, ◌∙◌, subst}
+use Rattle.std.proofs.Common.{rules, ◌≡◌, refl, sym, Err}
 use Rattle.calls.specs.Calls as call
-use Rattle.calls.specs.Calls.{asks, performs}
+use Rattle.calls.specs.Calls.{asks, asks_place, course_in, performs}
 use Rattle.answers.proofs.Answering.{no, yes}
-use Rattle.homing.specs.declared.Changed.{Changed}
-use Rattle.homing.specs.Answers.{says_reply}
-use Rattle.homing.specs.Promises.{EndsReplay}
 use Rattle.homing.proofs.Calling.{refuses, takes}
 use Rattle.homing.proofs.end_replay.Goals as goal
 
-pub returns-then-number-ne0 : goal.returns-then-number-ne0
-unfolding says_reply asks
-returns-then-number-ne0 c =
-    let h = c.args.h in
-    subst (λ (r : Changed). EndsReplay h r) (sym c.refused.ensures)
-    (record {
-      answered = λ b. no (c.asks_state-number.ensures b) tt c.if-number-ne0.true;
-      called = λ b. refuses call.EndReplay h b (c.asks_state-number.ensures b) c.if-number-ne0.true;
-    })
+pub returns-in_err-asks_state : goal.returns-in_err-asks_state
+unfolding asks
+returns-in_err-asks_state c =
+    let e : c.from_residual.result ≡ Err c.in_err-asks_state.field-0.0 = search rules in
+    record {
+      answered = λ b. no e (c.in_err-asks_state.ensures b) tt;
+      called = λ b. refuses call.EndReplay c.args.h.now b _ (c.in_err-asks_state.ensures b);
+    }
 
 pub returns : goal.returns
-unfolding says_reply asks performs
-returns c =
-    let h = c.args.h in
-    subst (λ (r : Changed). EndsReplay h r) (sym c.taken.ensures)
-    (record {
-      answered = λ b. yes (c.asks_state-number.ensures b) c.if-number-ne0.false refl;
-      called = λ b. takes call.EndReplay h c.end_replay-ended.result b b (sym (c.asks_state-number.ensures b)
-          ∙ c.if-number-ne0.false) (c.end_replay-ended.ensures.same b) refl refl;
-    })
+unfolding asks performs
+returns c = record {
+  answered = λ b. yes (c.in_ok-asks_state.ensures b) refl;
+  called = λ b. takes call.EndReplay c.args.h.now c.end_replay.result b b (sym (c.in_ok-asks_state.ensures b)) (c.end_replay.ensures.same b) refl refl;
+}

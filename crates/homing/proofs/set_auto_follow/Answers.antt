@@ -1,45 +1,33 @@
 -- `homing::set_auto_follow` meets its contract.
-use mathlib.Core.Path.{refl, sym, ◌∙◌, subst}
-use native.Mathlib.Omega.{arith}
+use Rattle.std.proofs.Common.{rules, arith, ◌≡◌, refl, sym, Err}
 use Rattle.calls.specs.Follow.{set_auto_follow}
 use Rattle.calls.specs.Calls as call
-use Rattle.calls.specs.Calls.{asks, performs}
+use Rattle.calls.specs.Calls.{asks, asks_place, course_in, performs}
 use Rattle.questions.proofs.Given.{crumbs-given}
 use Rattle.answers.proofs.Answering.{no, yes}
-use Rattle.homing.specs.declared.Changed.{Changed}
-use Rattle.homing.specs.Answers.{says_reply}
-use Rattle.homing.specs.Promises.{SetsAuto}
 use Rattle.homing.proofs.Calling.{refuses, takes-rule}
 use Rattle.homing.proofs.set_auto_follow.Goals as goal
 
-pub returns-then-number-ne0 : goal.returns-then-number-ne0
-unfolding says_reply asks
-returns-then-number-ne0 c =
+pub returns-in_err-asks_crumbs : goal.returns-in_err-asks_crumbs
+unfolding asks
+returns-in_err-asks_crumbs c =
     let g = c.args in
-    let b = g.crumbs.now in
-    let e = c.asks_crumbs-number.ensures in
-    subst (λ (r : Changed). SetsAuto g.on g.h b r b) (sym c.refused.ensures)
-    (record {
-      answered = no e tt c.if-number-ne0.true;
-      called = refuses (call.SetAutoFollow g.on) g.h b e c.if-number-ne0.true;
-    })
+    let e : c.from_residual.result ≡ Err c.in_err-asks_crumbs.field-0.0 = search rules in
+    let told = c.in_err-asks_crumbs.ensures in
+    record { answered = no e told tt; called = refuses (call.SetAutoFollow g.on) g.h.now g.crumbs.now _ told }
 
-pub set_auto_follow-chosen-requires : goal.set_auto_follow-chosen-requires
-set_auto_follow-chosen-requires c =
-    let g = c.args in
-    let given = crumbs-given _ g.h g.crumbs.now (sym c.asks_crumbs-number.ensures ∙ c.if-number-ne0.false) in
+pub set_auto_follow-requires : goal.set_auto_follow-requires
+set_auto_follow-requires c =
+    let given = crumbs-given _ c.args.h.now c.args.crumbs.now (sym c.in_ok-asks_crumbs.ensures) in
     (given.trail, λ e. omega (arith, (given.counted.on_trail e).1))
 
 pub returns : goal.returns
-unfolding says_reply asks performs
+unfolding asks performs
 returns c =
     let g = c.args in
-    let b = g.crumbs.now in
-    let e = c.asks_crumbs-number.ensures in
-    let k = c.set_auto_follow-chosen in
-    subst (λ (r : Changed). SetsAuto g.on g.h b r k.new.crumbs) (sym c.taken.ensures)
-    (record {
-      answered = yes e c.if-number-ne0.false refl;
-      called = takes-rule (call.SetAutoFollow g.on) g.h k.result b k.new.crumbs (set_auto_follow g.on)
-          (sym e ∙ c.if-number-ne0.false) refl k.ensures;
-    })
+    let k = c.set_auto_follow in
+    let told = c.in_ok-asks_crumbs.ensures in
+    record {
+      answered = yes told refl;
+      called = takes-rule (call.SetAutoFollow g.on) g.h.now k.result g.crumbs.now k.new.crumbs (set_auto_follow g.on) (sym told) refl k.ensures;
+    }

@@ -1,54 +1,46 @@
 -- `homing::set_course` meets its contract.
-use mathlib.Core.Path.{refl, sym, ◌∙◌, subst}
-use mathlib.Core.List.{[]}
+use Rattle.std.proofs.Common.{rules, ◌≡◌, refl, sym, ◌∙◌, [], Err}
 use Rattle.course.specs.Course.{fixes}
 use Rattle.calls.specs.Calls as call
-use Rattle.calls.specs.Calls.{asks, performs}
+use Rattle.calls.specs.Calls.{asks, asks_place, course_in, performs}
 use Rattle.questions.proofs.Given.{line-given, neither}
-use Rattle.answers.proofs.Answering.{no, yes}
-use Rattle.homing.specs.declared.Changed.{Changed}
-use Rattle.homing.specs.Answers.{says_reply}
-use Rattle.homing.specs.Promises.{SetsCourse}
+use Rattle.answers.proofs.Answering.{no, yes, refused-not}
 use Rattle.homing.proofs.Calling.{refuses, takes, places-line}
 use Rattle.homing.proofs.set_course.Goals as goal
 
-pub returns-then-number-ne0 : goal.returns-then-number-ne0
-unfolding says_reply
-returns-then-number-ne0 c =
+pub returns-in_err-asks_course : goal.returns-in_err-asks_course
+returns-in_err-asks_course c =
     let g = c.args in
     let l = g.line.now in
     let xs = fixes g.lats.now g.lons.now in
-    let e = c.asks_course-number.ensures in
-    subst (λ (r : Changed). SetsCourse xs g.h l r l) (sym c.refused.ensures)
-    (record {
-      answered = λ b. no (e b) tt c.if-number-ne0.true;
-      called = λ b. refuses (call.SetCourse l xs) g.h b (e b) c.if-number-ne0.true;
-      placed = λ b z. absurd (c.if-number-ne0.true (e b ∙ z));
+    let e : c.from_residual.result ≡ Err c.in_err-asks_course.field-0.0 = search rules in
+    let told = c.in_err-asks_course.ensures in
+    record {
+      answered = λ b. no e (told b) tt;
+      called = λ b. refuses (call.SetCourse l xs) g.h.now b _ (told b);
+      placed = λ b z. absurd (refused-not _ (told b ∙ z));
       refused = λ b _. refl;
       size = refl;
-    })
+    }
 
-pub set_course-lined-requires : goal.set_course-lined-requires
+pub set_course-requires : goal.set_course-requires
 unfolding asks
-set_course-lined-requires c =
+set_course-requires c =
     let g = c.args in
-    let asked = (neither _ _ (sym (c.asks_course-number.ensures []) ∙ c.if-number-ne0.false)).0 in
-    (line-given g.line.now _ g.h [] asked).1.room
+    (line-given g.line.now _ g.h.now [] (neither _ _ (sym (c.in_ok-asks_course.ensures []))).0).1.room
 
 pub returns : goal.returns
-unfolding says_reply performs
+unfolding performs
 returns c =
     let g = c.args in
     let l = g.line.now in
     let xs = fixes g.lats.now g.lons.now in
-    let e = c.asks_course-number.ensures in
-    let k = c.set_course-lined in
-    subst (λ (r : Changed). SetsCourse xs g.h l r k.new.line) (sym c.taken.ensures)
-    (record {
-      answered = λ b. yes (e b) c.if-number-ne0.false refl;
-      called = λ b. takes (call.SetCourse l xs) g.h k.result b b (sym (e b) ∙ c.if-number-ne0.false)
-          (k.ensures.same b) refl refl;
-      placed = λ b _. places-line xs g.h k.result l k.new.line k.ensures;
-      refused = λ b ne. absurd (ne (sym (e b) ∙ c.if-number-ne0.false));
+    let told = c.in_ok-asks_course.ensures in
+    let k = c.set_course in
+    record {
+      answered = λ b. yes (told b) refl;
+      called = λ b. takes (call.SetCourse l xs) g.h.now k.result b b (sym (told b)) (k.ensures.same b) refl refl;
+      placed = λ b _. places-line xs g.h.now k.result l k.new.line k.ensures;
+      refused = λ b ne. absurd (ne (sym (told b)));
       size = k.ensures.size;
-    })
+    }
