@@ -1,268 +1,249 @@
 // What the guide and the rebuild answer, told as numbers. What is not known is told as 0.
 
-ghost use Rattle.std.specs.Prelude.{◌≤◌};
-
+use crate::performing::State;
 use door::answering;
 use rebuild::Stage;
-use records::ANSWERS;
+use records::calls::Question;
+use records::telling::{Answers, Field};
 
-// The questions' numbers among the calls; any from the last on is `course`'s.
-const LEN: u64 = 14;
+const GUIDE: [Field; 10] = [
+    Field::Mode,
+    Field::GuideFollowing,
+    Field::GuideCourse,
+    Field::CourseNear,
+    Field::DirectM,
+    Field::TrackM,
+    Field::OffM,
+    Field::Bearing,
+    Field::GuideHeadingKnown,
+    Field::GuideHeading,
+];
 
-const FOLLOWING: u64 = 15;
+const COURSE_AHEAD: [Field; 5] = [
+    Field::CourseAheadKnown,
+    Field::CourseAheadEnd,
+    Field::CourseAheadMatched,
+    Field::CourseAheadEast,
+    Field::CourseAheadNorth,
+];
 
-const FOLLOWING_COURSE: u64 = 16;
+const ROUTE_HOME: [Field; 5] = [
+    Field::RouteHomeKnown,
+    Field::RouteHomeEnd,
+    Field::RouteHomeMatched,
+    Field::RouteHomeEast,
+    Field::RouteHomeNorth,
+];
 
-const COURSE_AHEAD: u64 = 17;
+// Every question but those that return a part of a buffer.
+const ALL: [Question; 8] = [
+    Question::Len,
+    Question::Following,
+    Question::FollowingCourse,
+    Question::CourseAhead,
+    Question::RouteHome,
+    Question::Heading,
+    Question::Guide,
+    Question::WayBack,
+];
 
-const ROUTE_HOME: u64 = 18;
-
-const HEADING: u64 = 19;
-
-const GUIDE: u64 = 20;
-
-const WAY_BACK: u64 = 21;
-
-const CRUMBS: u64 = 22;
-
-// The words of a guide.
-const GUIDE_WORDS: usize = 10;
-
-fn ask_len(words: &[u64], numbers: &[f32], told: &mut [u64; ANSWERS]) -> u8 {
-    let mut len = 0;
-    let refused = answering::cittumay_len(words, numbers, &mut len);
-    told[records::LEN] = len as u64;
-    refused
-}
-
-fn ask_following(words: &[u64], numbers: &[f32], told: &mut [u64; ANSWERS]) -> u8 {
-    let mut yes = 0;
-    let refused = answering::cittumay_following(words, numbers, &mut yes);
-    told[records::FOLLOWING] = yes as u64;
-    refused
-}
-
-fn ask_following_course(words: &[u64], numbers: &[f32], told: &mut [u64; ANSWERS]) -> u8 {
-    let mut yes = 0;
-    let refused = answering::cittumay_following_course(words, numbers, &mut yes);
-    told[records::FOLLOWING_COURSE] = yes as u64;
-    refused
-}
-
-// The way ahead, from answer `at` on.
-fn tell_ahead(
-    told: &mut [u64; ANSWERS],
-    at: usize,
+// The way ahead.
+#[derive(Clone, Copy, Default)]
+struct Ahead {
     known: u8,
     end: usize,
     matched: u8,
     east: f32,
     north: f32,
-)
-    requires { at ≤ 37 }
-{
-    told[at] = known as u64;
-    told[at + 1] = end as u64;
-    told[at + 2] = matched as u64;
-    told[at + 3] = binary32::pattern(east) as u64;
-    told[at + 4] = binary32::pattern(north) as u64;
 }
 
-fn ask_course_ahead(words: &[u64], numbers: &[f32], told: &mut [u64; ANSWERS]) -> u8 {
-    let mut known = 0;
-    let mut end = 0;
-    let mut matched = 0;
-    let mut east = 0.0;
-    let mut north = 0.0;
-    let refused = answering::cittumay_course_ahead(
-        words,
-        numbers,
-        &mut known,
-        &mut end,
-        &mut matched,
-        &mut east,
-        &mut north,
-    );
-    tell_ahead(
-        told,
-        records::COURSE_AHEAD,
-        known,
-        end,
-        matched,
-        east,
-        north,
-    );
-    refused
-}
-
-fn ask_route_home(words: &[u64], numbers: &[f32], told: &mut [u64; ANSWERS]) -> u8 {
-    let mut known = 0;
-    let mut end = 0;
-    let mut matched = 0;
-    let mut east = 0.0;
-    let mut north = 0.0;
-    let refused = answering::cittumay_route_home(
-        words,
-        numbers,
-        &mut known,
-        &mut end,
-        &mut matched,
-        &mut east,
-        &mut north,
-    );
-    tell_ahead(told, records::ROUTE_HOME, known, end, matched, east, north);
-    refused
-}
-
-fn ask_heading(words: &[u64], numbers: &[f32], told: &mut [u64; ANSWERS]) -> u8 {
-    let mut known = 0;
-    let mut heading = 0;
-    let refused = answering::cittumay_heading(words, numbers, &mut known, &mut heading);
-    told[records::HEADING_KNOWN] = known as u64;
-    told[records::HEADING] = heading as u64;
-    refused
-}
-
-fn wide(word: u32) -> u64 {
-    word as u64
-}
-
-fn tell_guide(told: &mut [u64; ANSWERS], guide: &[u32; GUIDE_WORDS]) {
-    for i in 0..GUIDE_WORDS {
-        told[records::GUIDE + i] = wide(guide[i]);
+impl Ahead {
+    fn tell(&self, fields: [Field; 5], told: &mut Answers) {
+        let numbers = [
+            u64::from(self.known),
+            self.end as u64,
+            u64::from(self.matched),
+            u64::from(binary32::pattern(self.east)),
+            u64::from(binary32::pattern(self.north)),
+        ];
+        for (field, number) in fields.iter().zip(numbers) {
+            told.tell(*field, number);
+        }
     }
 }
 
-// The guide, and its arrow where one is shown.
-fn ask_guide(words: &[u64], numbers: &[f32], told: &mut [u64; ANSWERS]) -> u8 {
-    let mut shown = 0;
-    let mut guide = [0u32; GUIDE_WORDS];
-    let refused = answering::cittumay_guide(words, numbers, &mut shown, &mut guide);
-    told[records::SHOWN] = shown as u64;
-    tell_guide(told, &guide);
-    if shown == 0 {
-        return refused;
+// Each asks a question, tells the answer, and gives the number of the refusal.
+impl State {
+    fn len(&self, told: &mut Answers) -> u8 {
+        let mut len = 0;
+        let refused = answering::cittumay_len(&self.words, &self.numbers, &mut len);
+        told.tell(Field::Len, len as u64);
+        refused
     }
-    let mut arrow = 0;
-    let without = answering::cittumay_arrow(&guide, &mut arrow);
-    told[records::ARROW] = arrow as u64;
-    without
-}
 
-fn ask_way_back(words: &[u64], numbers: &[f32], crumbs: &[f32], told: &mut [u64; ANSWERS]) -> u8 {
-    let mut known = 0;
-    let mut direct = 0;
-    let mut track = 0;
-    let refused = answering::cittumay_way_back(
-        words,
-        numbers,
-        crumbs,
-        &mut known,
-        &mut direct,
-        &mut track,
-    );
-    told[records::BACK_KNOWN] = known as u64;
-    told[records::DIRECT] = direct as u64;
-    told[records::TRACK] = track as u64;
-    refused
-}
-
-fn ask_crumbs(words: &[u64], numbers: &[f32], crumbs: &[f32], told: &mut [u64; ANSWERS]) -> u8 {
-    let mut len = 0;
-    let refused = answering::cittumay_crumbs(words, numbers, crumbs, &mut len);
-    told[records::CRUMBS] = len as u64;
-    refused
-}
-
-fn ask_course(words: &[u64], numbers: &[f32], line: &[f32], told: &mut [u64; ANSWERS]) -> u8 {
-    let mut len = 0;
-    let refused = answering::cittumay_course(words, numbers, line, &mut len);
-    told[records::COURSE] = len as u64;
-    refused
-}
-
-// A question to the state alone, or `guide`.
-fn ask_state(which: u64, words: &[u64], numbers: &[f32], told: &mut [u64; ANSWERS]) -> u8 {
-    match which {
-        LEN => ask_len(words, numbers, told),
-        FOLLOWING => ask_following(words, numbers, told),
-        FOLLOWING_COURSE => ask_following_course(words, numbers, told),
-        COURSE_AHEAD => ask_course_ahead(words, numbers, told),
-        ROUTE_HOME => ask_route_home(words, numbers, told),
-        HEADING => ask_heading(words, numbers, told),
-        _ => ask_guide(words, numbers, told),
+    fn following(&self, told: &mut Answers) -> u8 {
+        let mut yes = 0;
+        let refused = answering::cittumay_following(&self.words, &self.numbers, &mut yes);
+        told.tell(Field::Following, u64::from(yes));
+        refused
     }
-}
 
-// A question by its number, and the number of its refusal.
-pub fn ask(
-    which: u64,
-    words: &[u64],
-    numbers: &[f32],
-    crumbs: &[f32],
-    line: &[f32],
-    told: &mut [u64; ANSWERS],
-) -> u8 {
-    match which {
-        LEN..=GUIDE => ask_state(which, words, numbers, told),
-        WAY_BACK => ask_way_back(words, numbers, crumbs, told),
-        CRUMBS => ask_crumbs(words, numbers, crumbs, told),
-        _ => ask_course(words, numbers, line, told),
+    fn following_course(&self, told: &mut Answers) -> u8 {
+        let mut yes = 0;
+        let refused = answering::cittumay_following_course(&self.words, &self.numbers, &mut yes);
+        told.tell(Field::FollowingCourse, u64::from(yes));
+        refused
     }
-}
 
-// Both parts of a buffer, and the number of the first refusal.
-pub fn ask_parts(
-    words: &[u64],
-    numbers: &[f32],
-    crumbs: &[f32],
-    line: &[f32],
-    told: &mut [u64; ANSWERS],
-) -> u8 {
-    let refused = ask_crumbs(words, numbers, crumbs, told);
-    if refused != 0 {
-        return refused;
+    fn course_ahead(&self, told: &mut Answers) -> u8 {
+        let mut ahead = Ahead::default();
+        let refused = answering::cittumay_course_ahead(
+            &self.words,
+            &self.numbers,
+            &mut ahead.known,
+            &mut ahead.end,
+            &mut ahead.matched,
+            &mut ahead.east,
+            &mut ahead.north,
+        );
+        ahead.tell(COURSE_AHEAD, told);
+        refused
     }
-    ask_course(words, numbers, line, told)
-}
 
-// The crumbs that are held, none where that is refused.
-pub fn held<'a>(words: &[u64], numbers: &[f32], crumbs: &'a [f32]) -> &'a [f32] {
-    let mut len = 0;
-    answering::cittumay_crumbs(words, numbers, crumbs, &mut len);
-    crumbs::front(crumbs, len)
-}
+    fn route_home(&self, told: &mut Answers) -> u8 {
+        let mut ahead = Ahead::default();
+        let refused = answering::cittumay_route_home(
+            &self.words,
+            &self.numbers,
+            &mut ahead.known,
+            &mut ahead.end,
+            &mut ahead.matched,
+            &mut ahead.east,
+            &mut ahead.north,
+        );
+        ahead.tell(ROUTE_HOME, told);
+        refused
+    }
 
-// Every question but those that return a part of a buffer, and the number of the first refusal.
-pub fn ask_all(words: &[u64], numbers: &[f32], crumbs: &[f32], told: &mut [u64; ANSWERS]) -> u8 {
-    for which in LEN..=GUIDE {
-        let refused = ask_state(which, words, numbers, told);
+    fn heading(&self, told: &mut Answers) -> u8 {
+        let mut known = 0;
+        let mut heading = 0;
+        let refused = answering::cittumay_heading(
+            &self.words,
+            &self.numbers,
+            &mut known,
+            &mut heading,
+        );
+        told.tell(Field::HeadingKnown, u64::from(known));
+        told.tell(Field::Heading, u64::from(heading));
+        refused
+    }
+
+    // The guide, and its arrow where one is shown.
+    fn guide(&self, told: &mut Answers) -> u8 {
+        let mut shown = 0;
+        let mut guide = [0u32; GUIDE.len()];
+        let refused = answering::cittumay_guide(&self.words, &self.numbers, &mut shown, &mut guide);
+        told.tell(Field::Shown, u64::from(shown));
+        for (field, word) in GUIDE.iter().zip(guide) {
+            told.tell(*field, u64::from(word));
+        }
+        if shown == 0 {
+            return refused;
+        }
+        let mut arrow = 0;
+        let without = answering::cittumay_arrow(&guide, &mut arrow);
+        told.tell(Field::Arrow, u64::from(arrow));
+        without
+    }
+
+    fn way_back(&self, crumbs: &[f32], told: &mut Answers) -> u8 {
+        let mut known = 0;
+        let mut direct = 0;
+        let mut track = 0;
+        let refused = answering::cittumay_way_back(
+            &self.words,
+            &self.numbers,
+            crumbs,
+            &mut known,
+            &mut direct,
+            &mut track,
+        );
+        told.tell(Field::WayBackKnown, u64::from(known));
+        told.tell(Field::WayBackDirect, u64::from(direct));
+        told.tell(Field::WayBackTrack, u64::from(track));
+        refused
+    }
+
+    fn crumbs(&self, crumbs: &[f32], told: &mut Answers) -> u8 {
+        let mut len = 0;
+        let refused = answering::cittumay_crumbs(&self.words, &self.numbers, crumbs, &mut len);
+        told.tell(Field::Crumbs, len as u64);
+        refused
+    }
+
+    fn course(&self, line: &[f32], told: &mut Answers) -> u8 {
+        let mut len = 0;
+        let refused = answering::cittumay_course(&self.words, &self.numbers, line, &mut len);
+        told.tell(Field::Course, len as u64);
+        refused
+    }
+
+    pub fn ask(&self, question: Question, crumbs: &[f32], line: &[f32], told: &mut Answers) -> u8 {
+        match question {
+            Question::Len => self.len(told),
+            Question::Following => self.following(told),
+            Question::FollowingCourse => self.following_course(told),
+            Question::CourseAhead => self.course_ahead(told),
+            Question::RouteHome => self.route_home(told),
+            Question::Heading => self.heading(told),
+            Question::Guide => self.guide(told),
+            Question::WayBack => self.way_back(crumbs, told),
+            Question::Crumbs => self.crumbs(crumbs, told),
+            Question::Course => self.course(line, told),
+        }
+    }
+
+    // Both parts of a buffer. The first refusal ends it.
+    pub fn ask_parts(&self, crumbs: &[f32], line: &[f32], told: &mut Answers) -> u8 {
+        let refused = self.crumbs(crumbs, told);
         if refused != 0 {
             return refused;
         }
+        self.course(line, told)
     }
-    ask_way_back(words, numbers, crumbs, told)
-}
 
-fn tell_stage(stage: Stage, told: &mut [u64; ANSWERS]) {
-    let Stage::Pending(last) = stage else {
-        return;
-    };
-    told[records::PENDING] = 1;
-    let Some(utc) = last else {
-        return;
-    };
-    told[records::UTC_KNOWN] = 1;
-    told[records::UTC] = utc;
-}
+    // The crumbs that are held, none where that is refused.
+    pub fn held<'a>(&self, crumbs: &'a [f32]) -> &'a [f32] {
+        let mut len = 0;
+        answering::cittumay_crumbs(&self.words, &self.numbers, crumbs, &mut len);
+        crumbs::front(crumbs, len)
+    }
 
-// The rebuild's slot, clock and stage.
-pub fn tell_rebuild(rebuild: &[u64], told: &mut [u64; ANSWERS]) {
-    let held = stored::load_rebuild(rebuild);
-    let r = held.rebuild;
-    let walk = r.walk;
-    let stage = r.stage;
-    told[records::SLOT] = walk.slot as u64;
-    told[records::CLOCK] = r.clock_ms;
-    tell_stage(stage, told);
+    // What the guide and the rebuild answer behind a call. The first refusal ends the questions.
+    pub fn tell_behind(&self, crumbs: &[f32], told: &mut Answers) {
+        for question in ALL {
+            let refused = self.ask(question, crumbs, &[], told);
+            if refused != 0 {
+                told.tell(Field::Behind, u64::from(refused));
+                break;
+            }
+        }
+        self.tell_rebuild(told);
+    }
+
+    // The rebuild's slot, clock and stage.
+    fn tell_rebuild(&self, told: &mut Answers) {
+        let Some(rebuild) = stored::load_rebuild(&self.rebuild) else {
+            return;
+        };
+        told.tell(Field::Slot, rebuild.walk.slot as u64);
+        told.tell(Field::Clock, rebuild.clock_ms);
+        let Stage::Pending(last) = rebuild.stage else {
+            return;
+        };
+        told.tell(Field::Pending, 1);
+        told.tell(Field::UtcKnown, u64::from(last.is_some()));
+        told.tell(Field::Utc, last.unwrap_or(0));
+    }
 }

@@ -1,181 +1,47 @@
-// A stored ride: where its numbers stand, and how they are read. All are little-endian. `comparing`: what a call tells held to what is
-// stored.
+// A stored ride: what stands in it, and how it is read. All numbers are little-endian. `calls`: which calls there are; `telling`: the
+// answers; `faults`: why a ride is not replayed to its end; `comparing`: what a call tells held to what is stored.
 #![tactic(auto)]
 
+pub mod calls;
 pub mod comparing;
+pub mod faults;
+pub mod telling;
 
-ghost use Rattle.std.specs.Prelude.{◌+◌, ◌*◌, ◌<◌, ◌≤◌, length};
-
+use calls::Call;
+use faults::{Fault, Moment};
+use std::alloc::Global;
 use std::io;
 use std::io::{ErrorKind, Read};
+use telling::{ANSWERS, Answers};
 
-// ---- the header: numbers of eight bytes
+// The letters RECORDED.
+const MARK: u64 = 0x4445_4452_4f43_4552;
 
-pub const HEADER: usize = 24;
-
-// The letters RECORDED, its first number.
-pub const MARK: u64 = 0x4445_4452_4f43_4552;
-
-// How many calls follow, and how many numbers the guide's own crumb buffer has.
-pub const CALLS: usize = 1;
-
-pub const OWN: usize = 2;
-
-// ---- a record: numbers of eight bytes
-
-pub const FIELDS: usize = 55;
-
-pub const RECORD: usize = 8 * FIELDS;
-
-// Which call it is, and its numbers.
-pub const CALL: usize = 0;
-
-pub const FIRST: usize = 1;
-
-pub const SECOND: usize = 2;
-
-pub const THIRD: usize = 3;
-
-// How many bytes behind the record the call is given.
-pub const GIVEN: usize = 4;
-
-// How many numbers the call is lent for crumbs and as the line.
-pub const CRUMBS_LENT: usize = 5;
-
-pub const LINE_LENT: usize = 6;
-
-// Two words of the state that are replaced, and a number: the place of each, and what stands there instead. A place
-// behind the state replaces nothing.
-pub const WORD_AT: usize = 7;
-
-pub const WORD: usize = 8;
-
-pub const NEXT_WORD_AT: usize = 9;
-
-pub const NEXT_WORD: usize = 10;
-
-pub const NUMBER_AT: usize = 11;
-
-pub const NUMBER: usize = 12;
-
-// The stored answers, from here to the record's end.
-pub const STORED: usize = 13;
-
-// ---- the answers
-
-pub const ANSWERS: usize = 42;
-
-// The refusal's number; an event or a flag; and the number of a refusal of what is asked behind the call.
-pub const REFUSED: usize = 0;
-
-pub const ANSWER: usize = 1;
-
-pub const BEHIND: usize = 2;
-
-pub const SHOWN: usize = 3;
-
-// Ten words.
-pub const GUIDE: usize = 4;
-
-pub const ARROW: usize = 14;
-
-pub const FOLLOWING: usize = 15;
-
-pub const FOLLOWING_COURSE: usize = 16;
-
-// Five each: whether one is known, the end, whether a point is matched, east, north.
-pub const COURSE_AHEAD: usize = 17;
-
-pub const ROUTE_HOME: usize = 22;
-
-pub const HEADING_KNOWN: usize = 27;
-
-pub const HEADING: usize = 28;
-
-pub const BACK_KNOWN: usize = 29;
-
-pub const DIRECT: usize = 30;
-
-pub const TRACK: usize = 31;
-
-pub const LEN: usize = 32;
-
-// Of the rebuild.
-pub const SLOT: usize = 33;
-
-pub const CLOCK: usize = 34;
-
-pub const PENDING: usize = 35;
-
-pub const UTC_KNOWN: usize = 36;
-
-pub const UTC: usize = 37;
-
-// Of `thin`.
-pub const TOLERANCE: usize = 38;
-
-pub const PASSES: usize = 39;
-
-// How many crumbs, and how many points of the placed course, stand behind the record.
-pub const CRUMBS: usize = 40;
-
-pub const COURSE: usize = 41;
-
-// ---- reading
-
-// The most bytes that are read at once: a chain file of 683 records.
-pub const BLOCK: usize = 65568;
-
-fn wide(byte: u8) -> u64
-    ensures { result ≤ 255 }
-{
-    byte as u64
+// What stands before the calls: how many follow, and how many numbers the guide's own crumb buffer has.
+#[derive(Clone, Copy)]
+pub struct Header {
+    pub calls: u64,
+    pub own: usize,
 }
 
-// The number of so many bytes at a place.
-fn number_at(bytes: &[u8], at: usize, width: usize) -> u64
-    requires { at + width ≤ length bytes.now }
-{
-    let mut value = 0u64;
-    let mut left = width;
-    while left > 0 {
-        left -= 1;
-        value = value % 0x100_0000_0000_0000 * 256 + wide(bytes[at + left]);
-    }
-    value
+// Two words of the state that are replaced, and a number: the place of each, and what stands there instead. A place behind the state
+// replaces nothing.
+#[derive(Clone, Copy)]
+pub struct Replaced {
+    pub words: [(usize, u64); 2],
+    pub number: (usize, f32),
 }
 
-// Number `k` of a record.
-pub fn field(record: &[u8; RECORD], k: usize) -> u64
-    requires { k < 55 }
-{
-    number_at(record, 8 * k, 8)
-}
-
-// Number `k` of the header.
-pub fn header(bytes: &[u8; HEADER], k: usize) -> u64
-    requires { k < 3 }
-{
-    number_at(bytes, 8 * k, 8)
-}
-
-pub fn low(number: u64) -> u32 {
-    (number % 0x1_0000_0000) as u32
-}
-
-// The pattern at place `k`, of four bytes each.
-pub fn pattern_at(bytes: &[u8], k: usize) -> u32
-    requires { 4 * k + 4 ≤ length bytes.now }
-{
-    low(number_at(bytes, 4 * k, 4))
-}
-
-// Two's complement.
-pub fn signed(pattern: u32) -> i32 {
-    if pattern < 0x8000_0000 {
-        return pattern as i32;
-    }
-    -1 - ((0xffff_ffff - pattern) as i32)
+// A call: how many bytes behind the record it is given, how many numbers it is lent for crumbs and as the line, what it finds replaced
+// in the state, and what the Rust answered.
+#[derive(Clone, Copy)]
+pub struct Record {
+    pub call: Call,
+    pub given: usize,
+    pub crumbs_lent: usize,
+    pub line_lent: usize,
+    pub replaced: Replaced,
+    pub stored: Answers,
 }
 
 // The f32 with this pattern.
@@ -186,37 +52,113 @@ pub fn float(pattern: u32) -> f32 {
     f32::from_bits(pattern)
 }
 
+pub fn low(number: u64) -> u32 {
+    (number & 0xffff_ffff) as u32
+}
+
+// ---- reading
+
 // Fills the buffer. False: the input ends before.
-fn read_full(input: &mut impl Read, bytes: &mut [u8]) -> io::Result<bool> {
+pub fn fill(input: &mut impl Read, bytes: &mut [u8]) -> io::Result<bool> {
     match input.read_exact(bytes) {
         Ok(()) => Ok(true),
-        Err(e) => {
-            if e.kind() == ErrorKind::UnexpectedEof {
-                return Ok(false);
-            }
-            Err(e)
+        Err(e) if e.kind() == ErrorKind::UnexpectedEof => Ok(false),
+        Err(e) => Err(e),
+    }
+}
+
+fn read<R: Read, const N: usize>(input: &mut R) -> Result<[u8; N], Fault> {
+    let mut bytes = [0u8; N];
+    if !fill(input, &mut bytes)? {
+        return Err(Fault::CutOff);
+    }
+    Ok(bytes)
+}
+
+fn read_numbers<R: Read, const N: usize>(input: &mut R) -> Result<[u64; N], Fault> {
+    let mut numbers = [0u64; N];
+    for number in numbers.iter_mut() {
+        *number = u64::from_le_bytes(read(input)?);
+    }
+    Ok(numbers)
+}
+
+impl Header {
+    pub fn read(input: &mut impl Read) -> Result<Header, Fault> {
+        let [mark, calls, own] = match read_numbers::<_, 3>(input) {
+            Err(Fault::CutOff) => return Err(Fault::NoHeader),
+            numbers => numbers?,
+        };
+        if mark != MARK {
+            return Err(Fault::NoRide);
         }
+        Ok(Header {
+            calls,
+            own: own as usize,
+        })
     }
 }
 
-// Reads so many bytes to the front of the block. False: the input ends before, or there is no room.
-pub fn read(input: &mut impl Read, block: &mut [u8], n: usize) -> io::Result<bool> {
-    if n > block.len() {
-        return Ok(false);
+impl Record {
+    pub fn read(input: &mut impl Read, at: Moment) -> Result<Record, Fault> {
+        let [
+            call,
+            first,
+            second,
+            third,
+            given,
+            crumbs,
+            line,
+            first_place,
+            first_word,
+            second_place,
+            second_word,
+            number_place,
+            number,
+        ] = read_numbers::<_, 13>(input)?;
+        let stored = Answers(read_numbers(input)?);
+        let Ok(call) = Call::try_from([call, first, second, third]) else {
+            return Err(Fault::Unreadable(at));
+        };
+        Ok(Record {
+            call,
+            given: given as usize,
+            crumbs_lent: crumbs as usize,
+            line_lent: line as usize,
+            replaced: Replaced {
+                words: [
+                    (first_place as usize, first_word),
+                    (second_place as usize, second_word),
+                ],
+                number: (number_place as usize, float(low(number))),
+            },
+            stored,
+        })
     }
-    read_full(input, &mut block[..n])
 }
 
-pub fn read_record(input: &mut impl Read, record: &mut [u8; RECORD]) -> io::Result<bool> {
-    read_full(input, record)
+// So many bytes.
+pub fn read_bytes(alloc: Global, input: &mut impl Read, count: usize) -> Result<Vec<u8>, Fault> {
+    let mut bytes = vec![in alloc; 0u8; count]?;
+    if !fill(input, &mut bytes)? {
+        return Err(Fault::CutOff);
+    }
+    Ok(bytes)
 }
 
-pub fn read_header(input: &mut impl Read, bytes: &mut [u8; HEADER]) -> io::Result<bool> {
-    read_full(input, bytes)
+// So many patterns of four bytes.
+fn read_patterns(alloc: Global, input: &mut impl Read, count: usize) -> Result<Vec<u32>, Fault> {
+    let mut patterns = Vec::new(alloc);
+    for _ in 0..count {
+        patterns.push(u32::from_le_bytes(read(input)?))?;
+    }
+    Ok(patterns)
 }
 
-// Whether the input ends here.
-pub fn ended(input: &mut impl Read) -> io::Result<bool> {
-    let mut byte = [0u8; 1];
-    Ok(!read_full(input, &mut byte)?)
+// Refuses an input that goes on.
+pub fn read_end(input: &mut impl Read) -> Result<(), Fault> {
+    if fill(input, &mut [0u8; 1])? {
+        return Err(Fault::MoreFollows);
+    }
+    Ok(())
 }
