@@ -14,7 +14,8 @@ use Rattle.crumbs.specs.declared.Crumb.{Crumb}
 use Rattle.crumbs.specs.Crumb.{capacity, crumb_at, crumbs, behind}
 use Rattle.crumbs.proofs.Crumbs.{length-crumbs, behind_more, crumb-behind}
 use Rattle.crumbs.proofs.Choices.{choice-length}
-use Rattle.thin.specs.declared.Thinned.TheVariants.{Left, Refused}
+use Rattle.std.specs.Prelude.{Ok, Err}
+use Rattle.refusal.specs.declared.Refusal.TheVariants as refusal
 use Rattle.thin.specs.Crumb.{measuring_pass, halving_pass, doubled, target, Thinning, passes_from, thinning}
 use Rattle.thin.specs.Questions.{question9}
 use Rattle.thin.specs.Promises.{Stood, left, refused, thin_answer, thinned, ThinDone}
@@ -163,7 +164,7 @@ module _ {len : ℕ} {t : Float} {most : ℕ} {buf₀ buf : List Float} {kept : 
             ∙ (rule-last most p d (crumbs kept buf) (omega (arith, g.high))
             ∙ ap (λ l. record { left = l; tolerance = d; passes = p }) (sym (was-halved {p = p} q (omega arith))))
 
-    pub thin-done : r ≤ most → ThinDone len t buf₀ exit (Left r d p)
+    pub thin-done : r ≤ most → ThinDone len t buf₀ exit (Ok (record { len = r; tolerance = d; passes = p }))
     thin-done few =
         let e = rule-done few in
         record {
@@ -177,7 +178,7 @@ module _ {len : ℕ} {t : Float} {most : ℕ} {buf₀ buf : List Float} {kept : 
           size = still-size;
         }
 
-pub thin-refused : (n : ℕ) (t : Float) (b : List Float) → question9 (length b) n t ≡ false → ThinDone n t b b (Refused 9)
+pub thin-refused : (n : ℕ) (t : Float) (b : List Float) → question9 (length b) n t ≡ false → ThinDone n t b b (Err refusal.Thinning)
 thin-refused n t b e =
     record {
       answered = sym (answer-refused (length b) t (crumbs n b) (rw length-crumbs e));

@@ -1,9 +1,10 @@
 -- What `thin` and the functions below it promise of a buffer, by the rules.
-use Rattle.std.specs.Prelude.{ℕ, ◌<◌, ◌≡◌, true, false, List, length, Float}
+use Rattle.std.specs.Prelude.{ℕ, ◌<◌, ◌≡◌, true, false, List, length, Float, Result, Ok, Err}
+use Rattle.refusal.specs.declared.Refusal.{Refusal}
+use Rattle.refusal.specs.Refusal.{number}
 use Rattle.crumbs.specs.declared.Crumb.{Crumb}
 use Rattle.crumbs.specs.Crumb.{capacity, crumb_at, crumbs, behind}
 use Rattle.thin.specs.declared.Thinned.{Thinned}
-use Rattle.thin.specs.declared.Thinned.TheVariants.{Left, Refused}
 use Rattle.thin.specs.Crumb.{Thinning, thinning}
 use Rattle.thin.specs.Questions.{question9}
 
@@ -11,15 +12,15 @@ use Rattle.thin.specs.Questions.{question9}
 pub record Stood (n : ℕ) (entry exit : List Float) : Type 0 where
   pub among : (i : ℕ) → i < n → (j : ℕ) × ((j < n) × (crumb_at exit i ≡ crumb_at entry j))
 
--- An thin_answer in document 01's terms: the number of the refusal, or how many crumbs are left, the tolerance of the last pass, and the
+-- An answer of `thin` in document 01's terms: the number of the refusal, or how many crumbs are left, the tolerance of the last pass, and the
 -- passes made.
 pub data ThinAnswer : Type 0 where
   refused : ℕ → ThinAnswer
   left : ℕ → Float → ℕ → ThinAnswer
 
-abbrev pub says : Thinned → ThinAnswer
-says (Refused number) = refused number
-says (Left len tolerance passes) = left len tolerance passes
+abbrev pub says : Result Thinned Refusal → ThinAnswer
+says (Ok w) = left w.len w.tolerance w.passes
+says (Err q) = refused (number q)
 
 -- the rule's thin_answer for a buffer of `size` numbers that holds the crumbs l
 unfoldable pub thin_answer : ℕ → Float → List Crumb → ThinAnswer
@@ -34,7 +35,7 @@ abbrev pub thinned : ℕ → Float → List Float → Thinning
 thinned n t b = thinning (capacity (length b)) t (crumbs n b)
 
 -- `thin`, given the first n crumbs of a buffer and the tolerance t
-pub record ThinDone (n : ℕ) (t : Float) (entry exit : List Float) (r : Thinned) : Type 0 where
+pub record ThinDone (n : ℕ) (t : Float) (entry exit : List Float) (r : Result Thinned Refusal) : Type 0 where
   -- count, tolerance and passes are the rule's, or the refusal is
   pub answered : says r ≡ thin_answer (length entry) t (crumbs n entry)
   -- a refusal changes nothing

@@ -17,6 +17,7 @@ ghost use Rattle.plane.specs.Plane.{off_segment};
 ghost use Rattle.thin.specs.Bounds.{Under, Over};
 
 use plane::{Point, squares};
+use refusal::Refusal;
 
 // A kept crumb replaces at most this many before the next.
 const SPAN: usize = 256;
@@ -157,45 +158,33 @@ fn pass(buf: &mut [f32], len: usize, tolerance: f32, halve: bool) -> usize
     kept + 1
 }
 
-// How many crumbs are left, the tolerance of the last pass and how many passes were made; or the
-// number of a refusal.
+// How many crumbs are left, the tolerance of the last pass and how many passes were made.
 #[derive(Clone, Copy)]
-pub enum Thinned {
-    Left {
-        len: usize,
-        tolerance: f32,
-        passes: usize,
-    },
-    Refused(u8),
+pub struct Thinned {
+    pub len: usize,
+    pub tolerance: f32,
+    pub passes: usize,
 }
 
 // Document 01's question 9.
 fn may_thin(size: usize, len: usize, tolerance: f32) -> bool
     ensures { result ≡ question9 size len tolerance }
 {
-    if !crumbs::whole(size) {
-        return false;
-    }
     let capacity = crumbs::capacity(size);
-    if capacity < 3 {
-        return false;
-    }
-    if 4096 < capacity {
-        return false;
-    }
-    if capacity < len {
-        return false;
-    }
-    0.0 <= tolerance
+    crumbs::whole(size)
+        & (3 <= capacity)
+        & (capacity <= 4096)
+        & (len <= capacity)
+        & (0.0 <= tolerance)
 }
 
 // Thin the first `len` crumbs until at most three quarters of the room are in use, at `tolerance` and
 // twice it as needed.
-pub fn thin(buf: &mut [f32], len: usize, tolerance: f32) -> Thinned
+pub fn thin(buf: &mut [f32], len: usize, tolerance: f32) -> Result<Thinned, Refusal>
     ensures { ThinDone len tolerance buf.old buf.new result }
 {
     if !may_thin(buf.len(), len, tolerance) {
-        return Thinned::Refused(9);
+        return Err(Refusal::Thinning);
     }
     let target = crumbs::capacity(buf.len()) * 3 / 4;
     let mut kept = len;
@@ -204,11 +193,11 @@ pub fn thin(buf: &mut [f32], len: usize, tolerance: f32) -> Thinned
     loop {
         kept = pass(buf, kept, doubled, ROUNDS < passes);
         if kept <= target {
-            return Thinned::Left {
+            return Ok(Thinned {
                 len: kept,
                 tolerance: doubled,
                 passes,
-            };
+            });
         }
         passes += 1;
         doubled = doubled * 2.0;

@@ -13,7 +13,8 @@ use Rattle.crumbs.specs.Inner.{put_at}
 use Rattle.crumbs.proofs.Choices.{choice-length}
 use Rattle.crumbs.proofs.Crumbs.{length-crumbs, crumbs-behind, behind-put, behind_more, length-put}
 use Rattle.thin.specs.declared.Thinned.{Thinned}
-use Rattle.thin.specs.declared.Thinned.TheVariants.{Left, Refused}
+use Rattle.std.specs.Prelude.{Result, Ok, Err}
+use Rattle.refusal.specs.declared.Refusal.{Refusal}
 use Rattle.thin.specs.Questions.{question9}
 use Rattle.thin.specs.Promises.{thinned, ThinDone}
 use Rattle.thin.proofs.Answers.{LeftIs, left_is, refused-is}
@@ -186,12 +187,15 @@ asked {t} {size} f =
     )
     f.tolerance
 
-module _ {t : Trail} {b b₁ : List Float} {r : Thinned} (f : TrailFit t (length b)) (done : ThinDone t.len t.tolerance b b₁ r) where
-  pub taken : {x : ℕ} → r ≡ Refused x → ⊥
+module _ {t : Trail} {b b₁ : List Float} {r : Result Thinned Refusal} (f : TrailFit t (length b)) (done : ThinDone t.len t.tolerance b b₁ r) where
+  pub taken : {q : Refusal} → r ≡ Err q → ⊥
   taken e = true-false (sym (asked f) ∙ (refused-is done e).0)
 
-  module _ {k : ℕ} {d : Float} {n : ℕ} (e : r ≡ Left k d n) where
-    is : LeftIs t.len t.tolerance b b₁ k d n
+  module _ {left : Thinned} (e : r ≡ Ok left) where
+    abbrev k : ℕ
+    k = left.len
+
+    is : LeftIs t.len t.tolerance b b₁ k left.tolerance left.passes
     is = left_is done e
 
     count : k ≡ length (thinned t.len t.tolerance b).left
@@ -203,13 +207,13 @@ module _ {t : Trail} {b b₁ : List Float} {r : Thinned} (f : TrailFit t (length
     pub room-left : k ≤ capacity (length b₁)
     room-left = omega (arith, fewer, f.held, done.size)
 
-    pub thins : (w : List Float) {exit : List Float} → Realongs k b₁ exit → TrailFollows thin t w b (thinned_to t k d) w exit
+    pub thins : (w : List Float) {exit : List Float} → Realongs k b₁ exit → TrailFollows thin t w b (thinned_to t k left.tolerance) w exit
     thins w {exit} g =
         let long : length exit ≡ length b = g.size ∙ done.size in
         let same = track-thin t w b exit k (g.held ∙ ap realong is.held) is.tolerance in
         record {
           same = same;
-          fit = fit_of (thinned_to t k d) w b exit f long
+          fit = fit_of (thinned_to t k left.tolerance) w b exit f long
               (rw same (thin-sound (capacity (length b)) (omega arith) (track t w b) (sound-of w b f)));
           size = long;
           beyond =

@@ -13,7 +13,6 @@ ghost use Rattle.trail.specs.Inner.{Emptied, TrailChanges, TrailFollows, Records
 
 use crumbs::{Crumb, along};
 use plane::Point;
-use thin::Thinned;
 
 // Fixes closer than this to the last one add nothing to the breadcrumb.
 pub const MIN_STEP_M: f32 = 5.0;
@@ -39,6 +38,14 @@ pub struct Trail {
     pub retrace_len: usize,
 }
 
+const EMPTY: Trail = Trail {
+    len: 0,
+    tolerance: TOLERANCE_M,
+    window_len: 0,
+    retrace: 0,
+    retrace_len: 0,
+};
+
 // A trail, and whether it was thinned on the way.
 #[derive(Clone, Copy)]
 pub struct Recorded {
@@ -50,13 +57,7 @@ pub struct Recorded {
 pub fn new() -> Trail
     ensures { Emptied result }
 {
-    Trail {
-        len: 0,
-        tolerance: TOLERANCE_M,
-        window_len: 0,
-        retrace: 0,
-        retrace_len: 0,
-    }
+    EMPTY
 }
 
 // Forget the breadcrumb.
@@ -64,11 +65,8 @@ pub fn reset(t: Trail) -> Trail
     ensures { (w : List Float) → TrailChanges reset_track t w result w }
 {
     Trail {
-        len: 0,
-        tolerance: TOLERANCE_M,
-        window_len: 0,
-        retrace: 0,
-        ..t
+        retrace_len: t.retrace_len,
+        ..EMPTY
     }
 }
 
@@ -129,20 +127,14 @@ fn thin(t: Trail, crumbs: &mut [f32]) -> Trail
     requires { TrailFit t (length crumbs.old) }
     ensures { (w : List Float) → TrailFollows thin t w crumbs.old result w crumbs.new }
 {
-    let Thinned::Left {
-        len,
-        tolerance,
-        passes: _,
-    } = thin::thin(crumbs, t.len, t.tolerance)
-    else {
+    let Ok(left) = thin::thin(crumbs, t.len, t.tolerance) else {
         return t;
     };
-    along::realong(crumbs, len);
-    let retrace = 0;
+    along::realong(crumbs, left.len);
     Trail {
-        len,
-        tolerance,
-        retrace,
+        len: left.len,
+        tolerance: left.tolerance,
+        retrace: 0,
         ..t
     }
 }

@@ -8,9 +8,9 @@ returns-in_default c = λ w.
 
 pub realong-requires : goal.realong-requires
 realong-requires c =
-    room-left c.requires c.thin.ensures c.in-Left.is
+    room-left c.requires c.thin.ensures c.in-Ok.is
 
 pub returns : goal.returns
 returns c = λ w.
-    thins c.requires c.thin.ensures c.in-Left.is w
+    thins c.requires c.thin.ensures c.in-Ok.is w
     c.realong.ensures
