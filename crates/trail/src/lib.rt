@@ -95,7 +95,7 @@ fn last(window: &[f32; 96], window_len: usize, anchor: Point) -> Point
 
 // `p` waits behind the others.
 fn wait(t: Trail, window: &mut [f32; 96], p: Point) -> Trail
-    requires { (length window.old ≡ 96) × (t.window_len < window_places) }
+    requires { t.window_len < window_places }
     ensures { TrailChanges (wait p) t window.old result window.new }
 {
     let at = 2 * t.window_len;
@@ -204,7 +204,7 @@ fn simplify(
     anchor: Point,
     p: Point,
 ) -> Recorded
-    requires { (length window.old ≡ 96) × (TrailFit t (length crumbs.old)) }
+    requires { TrailFit t (length crumbs.old) }
     ensures { Records (λ C. simplify C anchor p) t window.old crumbs.old result window.new
         crumbs.new }
 {
@@ -225,7 +225,7 @@ fn simplify(
 // The window simplification: keep the last fix before one that would make a straight line from the
 // last kept crumb stray too far.
 pub fn add(t: Trail, window: &mut [f32; 96], crumbs: &mut [f32], p: Point) -> Recorded
-    requires { (length window.old ≡ 96) × (TrailFit t (length crumbs.old)) }
+    requires { TrailFit t (length crumbs.old) }
     ensures { Records (λ C. add C p) t window.old crumbs.old result window.new crumbs.new }
 {
     if t.len == 0 {

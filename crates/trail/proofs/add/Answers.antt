@@ -14,7 +14,7 @@ returns-then-t-eq0 c =
 pub returns-then-distance : goal.returns-then-distance
 unfolding min_step_m constant round of_bits
 returns-then-distance c =
-    adds-near c.args.t _ _ c.args.p (omega (arith, c.if-t-eq0.false)) c.end-anchor.ensures c.last.ensures c.requires.1
+    adds-near c.args.t _ _ c.args.p (omega (arith, c.if-t-eq0.false)) c.end-anchor.ensures c.last.ensures c.requires
     (rw c.distance.ensures at c.if-distance.true)
 
 pub returns : goal.returns

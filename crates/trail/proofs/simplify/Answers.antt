@@ -8,7 +8,7 @@ use Rattle.trail.proofs.simplify.Goals.{then-strays-via-then-strays, then-strays
 
 pub wait-requires : goal.wait-requires
 wait-requires c =
-    (c.requires.0, room-to-wait c.flush-flushed.ensures)
+    room-to-wait c.flush-flushed.ensures
 
 pub returns-then-strays : goal.returns-then-strays
 returns-then-strays c =
@@ -24,11 +24,11 @@ returns-then-strays c =
 
 pub wait-requires-2 : goal.wait-requires-2
 wait-requires-2 c =
-    (c.requires.0, omega arith)
+    omega arith
 
 pub returns : goal.returns
 returns c =
     let a = c.args in
-    simplifies-straight a.t _ _ a.anchor a.p c.requires.1
+    simplifies-straight a.t _ _ a.anchor a.p c.requires
     (straight a.t _ _ a.anchor a.p c.strays.ensures c.if-strays.false (ne_eqb a.t.window_len window_places c.if-t-eq-WINDOW.false))
     c.wait-2.ensures

@@ -3,4 +3,4 @@ use Rattle.trail.proofs.Tracks.{waits}
 use Rattle.trail.proofs.wait.Goals as goal
 
 pub returns : goal.returns
-returns c = waits c.args.t c.args.window.now c.args.p c.requires.0 c.requires.1
+returns c = waits c.args.t c.args.window.now c.args.p c.told-window c.requires
