@@ -15,11 +15,10 @@ use Rattle.crumbs.specs.Crumb.{capacity, crumb_at, crumbs, point}
 use Rattle.crumbs.specs.Choice.{last}
 use Rattle.crumbs.proofs.Crumbs.{length-crumbs}
 use Rattle.trail.specs.declared.Trail.{Trail}
-use Rattle.trail.specs.declared.Recorded.{Recorded}
 use Rattle.trail.specs.Notes.{thinned_in}
 use Rattle.trail.specs.Trail.{window_places, min_step_m, Track, with_window, become, thin, put, keep, flush, wait, strays, simplify, add}
 use Rattle.trail.specs.View.{waiting_at, places, track, TrailFit}
-use Rattle.trail.specs.Inner.{TrailFollows, Records, TrailChanges}
+use Rattle.trail.specs.Inner.{TrailFollows, Recorded, Records, TrailChanges}
 use Rattle.trail.proofs.Window.{length-places, last-places, none-places}
 use Rattle.crumbs.proofs.along.Line.{last-crumbs, last_none}
 use Rattle.trail.proofs.Rules.{keep-full, keep-room, flush-none, flush-some, bends, simplify-bends, simplify-straight, add-first}

@@ -20,13 +20,12 @@ use Rattle.thin.specs.Promises.{thinned, ThinDone}
 use Rattle.thin.proofs.Answers.{LeftIs, left_is, refused-is}
 use Rattle.thin.proofs.Asked.{true-false}
 use Rattle.trail.specs.declared.Trail.{Trail}
-use Rattle.trail.specs.declared.Recorded.{Recorded}
 use Rattle.trail.specs.Notes.{thinned_in}
 use Rattle.crumbs.specs.Along.{crumb_of, recorded_m, realong}
 use Rattle.trail.specs.Trail.{window_places, Track, with_crumbs, with_window, Rule, ◌>>◌, still, thin, put, wait}
 use Rattle.crumbs.specs.Inner.{Realongs}
 use Rattle.trail.specs.View.{places, track, TrailFit}
-use Rattle.trail.specs.Inner.{TrailFollows, Records, TrailChanges}
+use Rattle.trail.specs.Inner.{TrailFollows, Recorded, Records, TrailChanges}
 use Rattle.trail.proofs.Window.{length-places, put_place, places-put}
 use Rattle.trail.proofs.Rules.{thinned-then}
 use Rattle.trail.proofs.Theorems.{Sound, thin-sound}

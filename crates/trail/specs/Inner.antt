@@ -1,8 +1,7 @@
 -- For the functions inside: what a function does to a trail, its window and its buffer, by a rule.
-use Rattle.std.specs.Prelude.{ℕ, ◌≤◌, max, ◌≡◌, true, List, length, Float}
+use Rattle.std.specs.Prelude.{ℕ, ◌≤◌, max, ◌≡◌, Bool, true, List, length, Float}
 use Rattle.crumbs.specs.Crumb.{whole, capacity, behind}
 use Rattle.trail.specs.declared.Trail.{Trail}
-use Rattle.trail.specs.declared.Recorded.{Recorded}
 use Rattle.trail.specs.Notes.{thinned_in}
 use Rattle.trail.specs.Trail.{Rule, fresh}
 use Rattle.trail.specs.View.{TrailFit, track}
@@ -15,6 +14,11 @@ pub record TrailFollows (rule : ℕ → Rule) (t : Trail) (w entry : List Float)
   -- The numbers behind the crumbs held before and after are unchanged. Free are those behind the crumbs held after, where a thinning left
   -- fewer, and the numbers of the window that belong to no waiting place.
   pub beyond : behind (max t.len r.len) exit ≡ behind (max t.len r.len) entry
+
+-- a trail, and whether it was thinned on the way
+pub record Recorded : Type 0 where
+  pub trail : Trail
+  pub thinned : Bool
 
 -- The same, with whether a thinning ran.
 pub record Records (rule : ℕ → Rule) (t : Trail) (w entry : List Float) (r : Recorded) (w' exit : List Float) : Type 0 where

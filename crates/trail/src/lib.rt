@@ -46,30 +46,6 @@ const EMPTY: Trail = Trail {
     retrace_len: 0,
 };
 
-// A trail, and whether it was thinned on the way.
-#[derive(Clone, Copy)]
-pub struct Recorded {
-    pub trail: Trail,
-    pub thinned: bool,
-}
-
-// A breadcrumb with nothing held and nothing waiting.
-pub fn new() -> Trail
-    ensures { Emptied result }
-{
-    EMPTY
-}
-
-// Forget the breadcrumb.
-pub fn reset(t: Trail) -> Trail
-    ensures { (w : List Float) → TrailChanges reset_track t w result w }
-{
-    Trail {
-        retrace_len: t.retrace_len,
-        ..EMPTY
-    }
-}
-
 // The place `i` of the window.
 pub fn waiting(window: &[f32; 96], i: usize) -> Point
     requires { i < window_places }
@@ -82,161 +58,156 @@ pub fn waiting(window: &[f32; 96], i: usize) -> Point
     }
 }
 
-// The last place that waits, or `anchor` where none does.
-fn last(window: &[f32; 96], window_len: usize, anchor: Point) -> Point
-    requires { window_len ≤ window_places }
-    ensures { result ≡ unwrap_or (last (places window_len window.now)) anchor }
-{
-    if window_len == 0 {
-        return anchor;
+// What may thin the line says whether it did.
+impl Trail {
+    // A breadcrumb with nothing held and nothing waiting.
+    pub fn new() -> Trail
+        ensures { Emptied result }
+    {
+        EMPTY
     }
-    waiting(window, window_len - 1)
-}
 
-// `p` waits behind the others.
-fn wait(t: Trail, window: &mut [f32; 96], p: Point) -> Trail
-    requires { t.window_len < window_places }
-    ensures { TrailChanges (wait p) t window.old result window.new }
-{
-    let at = 2 * t.window_len;
-    window[at] = p.east;
-    window[at + 1] = p.north;
-    Trail {
-        window_len: t.window_len + 1,
-        ..t
+    // Forget the breadcrumb.
+    pub fn reset(&mut self)
+        ensures { (w : List Float) → TrailChanges reset_track self.old w self.new w }
+    {
+        *self = Trail {
+            retrace_len: self.retrace_len,
+            ..EMPTY
+        };
     }
-}
 
-// Whether a straight line from `anchor` to `p` would leave a waiting place farther off than `tolerance`.
-fn strays(window: &[f32; 96], window_len: usize, anchor: Point, p: Point, tolerance: f32) -> bool
-    requires { window_len ≤ window_places }
-    ensures { result ≡ strays tolerance anchor p (places window_len window.now) }
-{
-    for i in 0..window_len {
-        let w = waiting(window, i);
-        if plane::off_segment(w, anchor, p) > tolerance {
-            return true;
+    // The last place that waits, or `anchor` where none does.
+    fn last(&self, window: &[f32; 96], anchor: Point) -> Point
+        requires { self.now.window_len ≤ window_places }
+        ensures { result ≡ unwrap_or (last (places self.now.window_len window.now)) anchor }
+    {
+        if self.window_len == 0 {
+            return anchor;
+        }
+        waiting(window, self.window_len - 1)
+    }
+
+    // `p` waits behind the others.
+    fn wait(&mut self, window: &mut [f32; 96], p: Point)
+        requires { self.old.window_len < window_places }
+        ensures { TrailChanges (wait p) self.old window.old self.new window.new }
+    {
+        let at = 2 * self.window_len;
+        window[at] = p.east;
+        window[at + 1] = p.north;
+        self.window_len += 1;
+    }
+
+    // Whether a straight line from `anchor` to `p` would leave a waiting place too far off.
+    fn strays(&self, window: &[f32; 96], anchor: Point, p: Point) -> bool
+        requires { self.now.window_len ≤ window_places }
+        ensures { result ≡ strays self.now.tolerance anchor p (places self.now.window_len window.now) }
+    {
+        for i in 0..self.window_len {
+            let w = waiting(window, i);
+            if plane::off_segment(w, anchor, p) > self.tolerance {
+                return true;
+            }
+        }
+        false
+    }
+
+    // Thin the full breadcrumb in place until a quarter of it is free. The crumbs that a turn-round would
+    // go back to may be gone, so one that is under way is forgotten.
+    fn thin(&mut self, crumbs: &mut [f32])
+        requires { TrailFit self.old (length crumbs.old) }
+        ensures { (w : List Float) → TrailFollows thin self.old w crumbs.old self.new w crumbs.new }
+    {
+        let Ok(left) = thin::thin(crumbs, self.len, self.tolerance) else {
+            return;
+        };
+        along::realong(crumbs, left.len);
+        self.len = left.len;
+        self.tolerance = left.tolerance;
+        self.retrace = 0;
+    }
+
+    // A crumb at `p` behind those held.
+    fn put(&mut self, crumbs: &mut [f32], p: Point)
+        requires { (TrailFit self.old (length crumbs.old)) × (self.old.len < capacity (length crumbs.old)) }
+        ensures { (w : List Float) → TrailFollows (λ C. put p) self.old w crumbs.old self.new w crumbs.new }
+    {
+        let c = Crumb {
+            east: p.east,
+            north: p.north,
+            along: along::recorded_m(crumbs, self.len, p),
+        };
+        crumbs::put(crumbs, self.len, c);
+        self.len += 1;
+    }
+
+    // Keep a crumb at `p`. Where there is no room left, the line is thinned first.
+    pub fn keep(&mut self, crumbs: &mut [f32], p: Point) -> bool
+        requires { TrailFit self.old (length crumbs.old) }
+        ensures { (w : List Float)
+            → Records (λ C. keep C p) self.old w crumbs.old (record { trail = self.new; thinned = result }) w crumbs.new }
+    {
+        if self.len == crumbs::capacity(crumbs.len()) {
+            self.thin(crumbs);
+            self.put(crumbs, p);
+            true
+        } else {
+            self.put(crumbs, p);
+            false
         }
     }
-    false
-}
 
-// Thin the full breadcrumb in place until a quarter of it is free. The crumbs that a turn-round would
-// go back to may be gone, so one that is under way is forgotten.
-fn thin(t: Trail, crumbs: &mut [f32]) -> Trail
-    requires { TrailFit t (length crumbs.old) }
-    ensures { (w : List Float) → TrailFollows thin t w crumbs.old result w crumbs.new }
-{
-    let Ok(left) = thin::thin(crumbs, t.len, t.tolerance) else {
-        return t;
-    };
-    along::realong(crumbs, left.len);
-    Trail {
-        len: left.len,
-        tolerance: left.tolerance,
-        retrace: 0,
-        ..t
+    // Keep the last place that waits, if one does, and empty the window.
+    pub fn flush(&mut self, window: &[f32; 96], crumbs: &mut [f32]) -> bool
+        requires { TrailFit self.old (length crumbs.old) }
+        ensures { Records flush self.old window.now crumbs.old
+            (record { trail = self.new; thinned = result }) window.now crumbs.new }
+    {
+        let n = self.window_len;
+        if n == 0 {
+            return false;
+        }
+        let thinned = self.keep(crumbs, waiting(window, n - 1));
+        self.window_len = 0;
+        thinned
     }
-}
 
-// A crumb at `p` behind those held.
-fn put(t: Trail, crumbs: &mut [f32], p: Point) -> Trail
-    requires { (TrailFit t (length crumbs.old)) × (t.len < capacity (length crumbs.old)) }
-    ensures { (w : List Float) → TrailFollows (λ C. put p) t w crumbs.old result w crumbs.new }
-{
-    let len = t.len;
-    let c = Crumb {
-        east: p.east,
-        north: p.north,
-        along: along::recorded_m(crumbs, len, p),
-    };
-    crumbs::put(crumbs, len, c);
-    Trail { len: len + 1, ..t }
-}
+    // `p` waits. Where a place before it strays, or the window is full, the last that waits is kept first.
+    fn simplify(
+        &mut self,
+        window: &mut [f32; 96],
+        crumbs: &mut [f32],
+        anchor: Point,
+        p: Point,
+    ) -> bool
+        requires { TrailFit self.old (length crumbs.old) }
+        ensures { Records (λ C. simplify C anchor p) self.old window.old crumbs.old
+            (record { trail = self.new; thinned = result }) window.new crumbs.new }
+    {
+        if self.strays(window, anchor, p) || self.window_len == WINDOW {
+            let thinned = self.flush(window, crumbs);
+            self.wait(window, p);
+            return thinned;
+        }
+        self.wait(window, p);
+        false
+    }
 
-// Keep a crumb at `p`. Where there is no room left, the line is thinned first.
-pub fn keep(t: Trail, crumbs: &mut [f32], p: Point) -> Recorded
-    requires { TrailFit t (length crumbs.old) }
-    ensures { (w : List Float) → Records (λ C. keep C p) t w crumbs.old result w crumbs.new }
-{
-    if t.len == crumbs::capacity(crumbs.len()) {
-        let left = thin(t, crumbs);
-        return Recorded {
-            trail: put(left, crumbs, p),
-            thinned: true,
-        };
+    // The window simplification: keep the last fix before one that would make a straight line from the
+    // last kept crumb stray too far.
+    pub fn add(&mut self, window: &mut [f32; 96], crumbs: &mut [f32], p: Point) -> bool
+        requires { TrailFit self.old (length crumbs.old) }
+        ensures { Records (λ C. add C p) self.old window.old crumbs.old
+            (record { trail = self.new; thinned = result }) window.new crumbs.new }
+    {
+        if self.len == 0 {
+            return self.keep(crumbs, p);
+        }
+        let anchor = along::end(crumbs, self.len);
+        if plane::distance(self.last(window, anchor), p) < MIN_STEP_M {
+            return false;
+        }
+        self.simplify(window, crumbs, anchor, p)
     }
-    Recorded {
-        trail: put(t, crumbs, p),
-        thinned: false,
-    }
-}
-
-// Keep the last place that waits, if one does, and empty the window.
-pub fn flush(t: Trail, window: &[f32; 96], crumbs: &mut [f32]) -> Recorded
-    requires { TrailFit t (length crumbs.old) }
-    ensures { Records flush t window.now crumbs.old result window.now crumbs.new }
-{
-    let n = t.window_len;
-    if n == 0 {
-        return Recorded {
-            trail: t,
-            thinned: false,
-        };
-    }
-    let p = waiting(window, n - 1);
-    let kept = keep(t, crumbs, p);
-    let trail = kept.trail;
-    Recorded {
-        trail: Trail {
-            window_len: 0,
-            ..trail
-        },
-        thinned: kept.thinned,
-    }
-}
-
-// `p` waits. Where a place before it strays, or the window is full, the last that waits is kept first.
-fn simplify(
-    t: Trail,
-    window: &mut [f32; 96],
-    crumbs: &mut [f32],
-    anchor: Point,
-    p: Point,
-) -> Recorded
-    requires { TrailFit t (length crumbs.old) }
-    ensures { Records (λ C. simplify C anchor p) t window.old crumbs.old result window.new
-        crumbs.new }
-{
-    if strays(window, t.window_len, anchor, p, t.tolerance) || t.window_len == WINDOW {
-        let flushed = flush(t, window, crumbs);
-        let trail = flushed.trail;
-        return Recorded {
-            trail: wait(trail, window, p),
-            thinned: flushed.thinned,
-        };
-    }
-    Recorded {
-        trail: wait(t, window, p),
-        thinned: false,
-    }
-}
-
-// The window simplification: keep the last fix before one that would make a straight line from the
-// last kept crumb stray too far.
-pub fn add(t: Trail, window: &mut [f32; 96], crumbs: &mut [f32], p: Point) -> Recorded
-    requires { TrailFit t (length crumbs.old) }
-    ensures { Records (λ C. add C p) t window.old crumbs.old result window.new crumbs.new }
-{
-    if t.len == 0 {
-        return keep(t, crumbs, p);
-    }
-    let anchor = along::end(crumbs, t.len);
-    if plane::distance(last(window, t.window_len, anchor), p) < MIN_STEP_M {
-        return Recorded {
-            trail: t,
-            thinned: false,
-        };
-    }
-    simplify(t, window, crumbs, anchor, p)
 }

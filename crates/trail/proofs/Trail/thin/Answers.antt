@@ -1,6 +1,6 @@
--- `trail::thin` thins, and recomputes along: the call of `thin::thin` is never refused.
+-- `trail::Trail::thin` thins, and recomputes along: the call of `thin::thin` is never refused.
 use Rattle.trail.proofs.Tracks.{taken, room-left, thins}
-use Rattle.trail.proofs.thin.Goals as goal
+use Rattle.trail.proofs.Trail.thin.Goals as goal
 
 pub returns-in_default : goal.returns-in_default
 returns-in_default c = λ w.

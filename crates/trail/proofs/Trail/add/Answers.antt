@@ -1,24 +1,24 @@
--- `trail::add` keeps the first place, ignores one that is too near, and has any other wait.
+-- `trail::Trail::add` keeps the first place, ignores one that is too near, and has any other wait.
 use native.Mathlib.Omega.{arith}
 use lib.Ieee.{of_bits, round}
 use Rattle.binary32.specs.Arithmetic.{constant}
 use Rattle.trail.specs.Trail.{min_step_m}
 use Rattle.trail.proofs.Recording.{adds-first, adds-near, adds-far}
-use Rattle.trail.proofs.add.Goals as goal
+use Rattle.trail.proofs.Trail.add.Goals as goal
 
-pub returns-then-t-eq0 : goal.returns-then-t-eq0
-returns-then-t-eq0 c =
+pub returns-then-self-eq0 : goal.returns-then-self-eq0
+returns-then-self-eq0 c =
     let a = c.args in
-    adds-first a.t _ _ a.p c.if-t-eq0.true (c.keep.ensures a.window.now)
+    adds-first a.self.now _ _ a.p c.if-self-eq0.true (c.keep.ensures a.window.now)
 
 pub returns-then-distance : goal.returns-then-distance
 unfolding min_step_m constant round of_bits
 returns-then-distance c =
-    adds-near c.args.t _ _ c.args.p (omega (arith, c.if-t-eq0.false)) c.end-anchor.ensures c.last.ensures c.requires
+    adds-near c.args.self.now _ _ c.args.p (omega (arith, c.if-self-eq0.false)) c.end-anchor.ensures c.last.ensures c.requires
     (rw c.distance.ensures at c.if-distance.true)
 
 pub returns : goal.returns
 unfolding min_step_m constant round of_bits
 returns c =
-    adds-far c.args.t _ _ c.args.p (omega (arith, c.if-t-eq0.false)) c.end-anchor.ensures c.last.ensures
+    adds-far c.args.self.now _ _ c.args.p (omega (arith, c.if-self-eq0.false)) c.end-anchor.ensures c.last.ensures
     (rw c.distance.ensures at c.if-distance.false) c.simplify.ensures

@@ -1,4 +1,4 @@
--- `trail::reset` leaves nothing of the breadcrumb.
+-- `trail::Trail::reset` leaves nothing of the breadcrumb.
 use mathlib.Core.Path.{refl}
 use native.Mathlib.Omega.{arith}
 use lib.Ieee.{round, of_bits, le, lt}
@@ -6,7 +6,7 @@ use Rattle.binary32.specs.Arithmetic.{constant}
 use Rattle.crumbs.specs.Crumb.{crumbs}
 use Rattle.trail.specs.Trail.{tolerance_m, reset_track}
 use Rattle.trail.specs.View.{places, track}
-use Rattle.trail.proofs.reset.Goals as goal
+use Rattle.trail.proofs.Trail.reset.Goals as goal
 
 pub returns : goal.returns
 unfolding tolerance_m reset_track constant round of_bits le lt crumbs places track

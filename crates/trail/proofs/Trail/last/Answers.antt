@@ -1,0 +1,12 @@
+-- `trail::Trail::last` is the last place that waits, or the anchor.
+use native.Mathlib.Omega.{arith}
+use Rattle.trail.proofs.Window.{last-places, none-places}
+use Rattle.trail.proofs.Trail.last.Goals as goal
+
+pub returns-then-self-eq0 : goal.returns-then-self-eq0
+returns-then-self-eq0 c = rw (c.if-self-eq0.true, none-places)
+
+pub returns : goal.returns
+returns c =
+    let a = c.args in
+    rw (last-places a.self.now.window_len a.window.now (omega arith)) c.waiting.ensures

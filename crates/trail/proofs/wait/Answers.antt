@@ -1,6 +1,0 @@
--- `trail::wait` puts the place behind the others.
-use Rattle.trail.proofs.Tracks.{waits}
-use Rattle.trail.proofs.wait.Goals as goal
-
-pub returns : goal.returns
-returns c = waits c.args.t c.args.window.now c.args.p c.told-window c.requires
