@@ -10,7 +10,7 @@ use Rattle.plane.specs.declared.Point.{Point}
 use Rattle.crumbs.specs.Crumb.{capacity, behind}
 use Rattle.trail.specs.declared.Trail.{Trail}
 use Rattle.trail.specs.View as trail
-use Rattle.trail.specs.Inner.{Records}
+use Rattle.trail.specs.Inner.{Recorded, Records}
 use Rattle.motion.specs.Heading.{elapsed}
 use Rattle.state.specs.declared.Frame.{Frame}
 use Rattle.state.specs.declared.Homing.{Homing}
@@ -20,7 +20,6 @@ use Rattle.plane.specs.declared.Fix.{Fix}
 use Rattle.motion.specs.declared.Motion.{Motion}
 use Rattle.motion.specs.Heading.{track_heading}
 use Rattle.lap.specs.declared.Lap.{Lap}
-use Rattle.trail.specs.declared.Recorded.{Recorded}
 use Rattle.trail.specs.Trail as trails
 use Rattle.state.specs.declared.Follow.{Follow}
 use Rattle.state.specs.State.{with_motion, with_lap}

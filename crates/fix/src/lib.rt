@@ -31,7 +31,10 @@ const FIX_LOST_MS: u64 = 5_000;
 fn cleared(h: Homing) -> Homing
     ensures { Changes cleared h result }
 {
-    let course = Course { fix: None, ..h.course };
+    let course = Course {
+        fix: None,
+        ..h.course
+    };
     Homing {
         here: None,
         fed: None,
@@ -123,14 +126,15 @@ pub fn replay_parts(
     let frame = course::located(g.frame, fix);
     let p = course::framed(frame, fix);
     let motion = motion::track_heading(g.motion, p, now_ms);
-    let added = trail::add(g.trail, window, crumbs, p);
+    let mut trail = g.trail;
+    let thinned = trail.add(window, crumbs, p);
     has_its_length(*window);
-    let follow = follow_parts::after_thinning(added.thinned, g.follow);
+    let follow = follow_parts::after_thinning(thinned, g.follow);
     let lap = passing(g.lap, p, motion.heading);
     Ridden {
         frame,
         motion,
-        trail: added.trail,
+        trail,
         follow,
         lap,
     }

@@ -12,11 +12,10 @@ use Rattle.crumbs.specs.declared.Crumb.{Crumb}
 use Rattle.crumbs.specs.Crumb.{capacity, crumbs, behind}
 use Rattle.crumbs.proofs.Crumbs.{take-crumbs, behind_more}
 use Rattle.trail.specs.declared.Trail.{Trail}
-use Rattle.trail.specs.declared.Recorded.{Recorded}
 use Rattle.trail.specs.Notes.{thinned_in}
 use Rattle.trail.specs.Trail.{Track, Rule, with_crumbs}
 use Rattle.trail.specs.View.{track}
-use Rattle.trail.specs.Inner.{Records}
+use Rattle.trail.specs.Inner.{Recorded, Records}
 use Rattle.trail.specs.View as trail
 use Rattle.state.specs.declared.Homing.{Homing}
 use Rattle.state.specs.declared.Follow.{Follow}

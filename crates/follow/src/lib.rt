@@ -35,10 +35,9 @@ pub fn keep(h: Guided, crumbs: &mut [f32], p: Point) -> Guided
     requires { trail.TrailFit h.trail (length crumbs.old) }
     ensures { (w : List Float) → Follows (λ C. keep_in C p) (whole h w) crumbs.old (whole result w) crumbs.new }
 {
-    let kept = trail::keep(h.trail, crumbs, p);
     let mut next = h;
-    next.trail = kept.trail;
-    next.follow = follow_parts::after_thinning(kept.thinned, h.follow);
+    let thinned = next.trail.keep(crumbs, p);
+    next.follow = follow_parts::after_thinning(thinned, h.follow);
     next
 }
 
@@ -48,9 +47,8 @@ pub fn add(h: Guided, window: &mut [f32; 96], crumbs: &mut [f32], p: Point) -> G
         crumbs.new }
 {
     let mut next = h;
-    let added = trail::add(h.trail, window, crumbs, p);
-    next.trail = added.trail;
-    next.follow = follow_parts::after_thinning(added.thinned, h.follow);
+    let thinned = next.trail.add(window, crumbs, p);
+    next.follow = follow_parts::after_thinning(thinned, h.follow);
     next
 }
 
@@ -59,10 +57,9 @@ pub fn flush(h: Guided, window: &[f32; 96], crumbs: &mut [f32]) -> Guided
     ensures { Follows flush_in (whole h window.now) crumbs.old (whole result window.now)
         crumbs.new }
 {
-    let flushed = trail::flush(h.trail, window, crumbs);
     let mut next = h;
-    next.trail = flushed.trail;
-    next.follow = follow_parts::after_thinning(flushed.thinned, h.follow);
+    let thinned = next.trail.flush(window, crumbs);
+    next.follow = follow_parts::after_thinning(thinned, h.follow);
     next
 }
 

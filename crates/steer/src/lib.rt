@@ -16,6 +16,7 @@ use lap::{Lap, Stage, StartPass};
 use motion::Motion;
 use plane::{Fix, Point};
 use state::{Course, Follow, Frame, Guide, Homing, Line};
+use trail::Trail;
 
 // ---- made anew
 
@@ -37,7 +38,7 @@ fn no_lap() -> Lap
 pub fn new() -> Homing
     ensures { MadeNew result }
 {
-    let trail = trail::new();
+    let trail = Trail::new();
     let frame = Frame {
         origin: None,
         east_per_e7: plane::M_PER_E7,
@@ -110,7 +111,8 @@ fn awaiting(c: Course) -> Course
 pub fn reset(h: Homing) -> Homing
     ensures { Resets h result }
 {
-    let forgotten = trail::reset(h.trail);
+    let mut forgotten = h.trail;
+    forgotten.reset();
     let frame = Frame {
         origin: None,
         ..h.frame

@@ -8,9 +8,9 @@ returns c =
     let a = c.args in
     let f = c.located-frame.result in record {
       follows = (λ h. replays-parts (ridden a.g a.window.now h) a.fix a.now_ms f c.framed-p.result c.track_heading-motion.result
-          c.add-added.result _
+          (record { trail = c.add-thinned.new.self; thinned = c.add-thinned.result }) _
           c.after_thinning-follow.result c.passing-lap.result a.crumbs.now _
-          c.located-frame.ensures c.framed-p.ensures c.track_heading-motion.ensures c.add-added.ensures
+          c.located-frame.ensures c.framed-p.ensures c.track_heading-motion.ensures c.add-thinned.ensures
           c.after_thinning-follow.ensures c.passing-lap.ensures);
       window_len = c.has_its_length.ensures;
     }

@@ -9,4 +9,4 @@ pub returns : goal.returns
 unfolding add_in
 returns c =
     let a = c.args in
-    taken-over (λ C. trail.add C a.p) (whole a.h a.window.now) c.add-added.ensures c.after_thinning-next.ensures
+    taken-over (λ C. trail.add C a.p) (whole a.h a.window.now) c.add-thinned.ensures c.after_thinning-next.ensures

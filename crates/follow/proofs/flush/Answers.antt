@@ -9,4 +9,4 @@ pub returns : goal.returns
 unfolding flush_in
 returns c =
     let a = c.args in
-    taken-over trail.flush (whole a.h a.window.now) c.flush-flushed.ensures c.after_thinning-next.ensures
+    taken-over trail.flush (whole a.h a.window.now) c.flush-thinned.ensures c.after_thinning-next.ensures

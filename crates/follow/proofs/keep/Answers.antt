@@ -9,4 +9,4 @@ pub returns : goal.returns
 unfolding keep_in
 returns c = λ w.
     let a = c.args in
-    taken-over (λ C. trail.keep C a.p) (whole a.h w) (c.keep-kept.ensures w) c.after_thinning-next.ensures
+    taken-over (λ C. trail.keep C a.p) (whole a.h w) (c.keep-thinned.ensures w) c.after_thinning-next.ensures

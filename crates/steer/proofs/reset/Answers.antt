@@ -8,9 +8,9 @@ unfolding reset unheaded
 returns c =
     record {
       same = λ b. simp (
-        (c.reset-forgotten.ensures c.args.h.window).same b,
+        (c.reset.ensures c.args.h.window).same b,
         c.awaiting-course.ensures,
         c.no_lap-lap.ensures,
       );
-      trail = c.reset-forgotten.ensures;
+      trail = c.reset.ensures;
     }
