@@ -6,67 +6,54 @@ pub mod counts;
 pub mod globe;
 pub mod limits;
 
-ghost use Rattle.std.specs.Prelude.{◌≡◌, ◌&&◌, List, Float, length};
+ghost use Rattle.std.specs.Prelude.{◌≡◌, List, Float, length};
 ghost use Rattle.refusal.specs.Refusal.{asked};
 ghost use Rattle.state.specs.State.{state_of};
-ghost use Rattle.calls.specs.Questions.{spot_fits, state_fits, asks_state, asks_crumbs, asks_line, asks_both};
-ghost use Rattle.questions.specs.Counted.{counted};
+ghost use Rattle.calls.specs.Questions.{counts_fit, spots_fit, state_fits, asks_state, asks_crumbs, asks_line, asks_both};
 
-use lap::Lap;
-use motion::Motion;
-use plane::Point;
 use refusal::Refusal;
-use state::{Course, Follow, Homing};
-use trail::Trail;
+use state::Homing;
 
 // ---- 10: the state
 
-fn counts_fit(t: Trail, f: Follow, line_len: usize) -> bool
-    ensures { result ≡ counted t f line_len }
+fn counts_fit(h: &Homing) -> bool
+    ensures { (b : List Float) → result ≡ counts_fit (state_of h.now b) }
 {
-    let on = f.line;
-    (t.window_len <= trail::WINDOW)
-        & counts::follow_fits(on, f.segment, t.len, line_len)
-        & counts::retrace_fits(t)
+    (h.trail.window_len <= trail::WINDOW)
+        & counts::follow_fits(
+            h.follow.line,
+            h.follow.segment,
+            h.trail.len,
+            h.course.line_len,
+        )
+        & counts::retrace_fits(h.trail)
 }
 
-fn spots_fit(here: Option<Point>, m: Motion, f: Follow, c: Course, l: Lap) -> bool
-    ensures { result ≡ (spot_fits here && spot_fits m.from && spot_fits f.matched && spot_fits c.fix && spot_fits l.start) }
+fn spots_fit(h: &Homing) -> bool
+    ensures { (b : List Float) → result ≡ spots_fit (state_of h.now b) }
 {
-    let from = m.from;
-    let matched = f.matched;
-    let fix = c.fix;
-    let start = l.start;
-    limits::spot_fits(here)
-        & limits::spot_fits(from)
-        & limits::spot_fits(matched)
-        & limits::spot_fits(fix)
-        & limits::spot_fits(start)
+    limits::spot_fits(h.here)
+        & limits::spot_fits(h.motion.from)
+        & limits::spot_fits(h.follow.matched)
+        & limits::spot_fits(h.course.fix)
+        & limits::spot_fits(h.lap.start)
 }
 
 // The counts, then the numbers.
 fn state_fits(h: &Homing) -> bool
     ensures { (b : List Float) → result ≡ state_fits (state_of h.now b) }
 {
-    let t = h.trail;
-    let m = h.motion;
-    let f = h.follow;
-    let c = h.course;
-    if !counts_fit(t, f, c.line_len) {
+    if !counts_fit(h) {
         return false;
     }
-    let here = h.here;
-    let l = h.lap;
-    let heading = m.heading;
-    let shown = h.guide;
-    counts::window_fits(&h.window, t.window_len)
-        & spots_fit(here, m, f, c, l)
-        & limits::along_fits(c.along)
-        & limits::along_fits(c.reached)
-        & limits::heading_fits(heading)
-        & limits::shown_fits(shown)
+    counts::window_fits(&h.window, h.trail.window_len)
+        & spots_fit(h)
+        & limits::along_fits(h.course.along)
+        & limits::along_fits(h.course.reached)
+        & limits::heading_fits(h.motion.heading)
+        & limits::shown_fits(h.guide)
         & limits::factor_fits(h.frame.east_per_e7)
-        & limits::tolerance_fits(t.tolerance)
+        & limits::tolerance_fits(h.trail.tolerance)
 }
 
 // ---- the questions a call is asked, by what it is given

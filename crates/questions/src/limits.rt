@@ -31,7 +31,7 @@ const FACTOR_MOST: f32 = 0.02;
 fn sized(x: f32) -> bool
     ensures { result ≡ sized x }
 {
-    (-PLACE_MOST_M <= x) & (x <= PLACE_MOST_M)
+    x.abs() <= PLACE_MOST_M
 }
 
 pub fn along_fits(x: f32) -> bool
@@ -43,7 +43,7 @@ pub fn along_fits(x: f32) -> bool
 pub fn factor_fits(x: f32) -> bool
     ensures { result ≡ factor_fits x }
 {
-    (-FACTOR_MOST <= x) & (x <= FACTOR_MOST)
+    x.abs() <= FACTOR_MOST
 }
 
 // Whether the tolerance is 0 or more.
@@ -106,8 +106,7 @@ pub fn most() -> Crumb
 fn guide_fits(g: Guide) -> bool
     ensures { result ≡ guide_fits g }
 {
-    let heading = g.heading;
-    (g.bearing < plane::TURN) & heading_fits(heading)
+    (g.bearing < plane::TURN) & heading_fits(g.heading)
 }
 
 pub fn shown_fits(shown: Option<Guide>) -> bool

@@ -1,8 +1,10 @@
 -- `questions::spots_fit` meets its contract: the tests are the rule's.
+use Rattle.calls.specs.Questions.{spots_fit}
 use Rattle.questions.proofs.spots_fit.Goals as goal
 
 pub returns : goal.returns
-returns c = simp (
+unfolding spots_fit
+returns c = λ b. simp (
   ← c.spot_fits.ensures,
   ← c.spot_fits-2.ensures,
   ← c.spot_fits-3.ensures,
