@@ -4,7 +4,8 @@ use borrow.Author.Tests.{eq-eqb}
 use lib.Dec.{T}
 use Rattle.refusal.specs.declared.Refusal.{Refusal}
 use Rattle.refusal.specs.declared.Refusal.TheVariants as refusal
-use Rattle.refusal.specs.Refusal.{number}
+use Rattle.std.specs.Result.{result_and}
+use Rattle.refusal.specs.Refusal.{number, asked}
 use Rattle.binary32.specs.Casts.{as_u32}
 use Rattle.plane.specs.declared.Point.{Point}
 use Rattle.plane.specs.Plane.{distance}
@@ -47,6 +48,10 @@ module _ {A : Type 0} {n : ℕ} where
   pub yes : {x a : A} → 0 ≡ n → x ≡ a → gives x ≡ answer n a
   unfolding answer
   yes passed e = rw (← passed) (ap gives e)
+
+pub told : {A : Type 0} (r : Result (Unit {0}) Refusal) {n : ℕ} {x a : A} → asked r ≡ n → x ≡ a → says (result_and r (Ok x)) ≡ answer n a
+told (Ok y) e same = yes e same
+told (Err q) {a = a} e same = no refl e a
 
 -- ---- the crumbs held
 pub len-held : (h : Homing) (b : List Float) → h.trail.len ≡ len (state_of h b)

@@ -20,23 +20,20 @@ use state::{Ahead, Back, Follow, Guide, Homing, Line};
 pub fn len(h: &Homing) -> Result<usize, Refusal>
     ensures { AnswersLen h.now result }
 {
-    questions::asks_state(h)?;
-    Ok(h.trail.len)
+    questions::asks_state(h).and(Ok(h.trail.len))
 }
 
 // Whether the breadcrumb is followed back, or the course.
 pub fn following(h: &Homing) -> Result<bool, Refusal>
     ensures { AnswersFollowing h.now result }
 {
-    questions::asks_state(h)?;
-    Ok(h.follow.line != Line::Nothing)
+    questions::asks_state(h).and(Ok(h.follow.line != Line::Nothing))
 }
 
 pub fn following_course(h: &Homing) -> Result<bool, Refusal>
     ensures { AnswersFollowingCourse h.now result }
 {
-    questions::asks_state(h)?;
-    Ok(h.follow.line == Line::Course)
+    questions::asks_state(h).and(Ok(h.follow.line == Line::Course))
 }
 
 // While that line is followed: the way on.
@@ -57,32 +54,28 @@ fn ahead_on(line: Line, f: Follow) -> Option<Ahead>
 pub fn course_ahead(h: &Homing) -> Result<Option<Ahead>, Refusal>
     ensures { AnswersCourseAhead h.now result }
 {
-    questions::asks_state(h)?;
-    Ok(ahead_on(Line::Course, h.follow))
+    questions::asks_state(h).and(Ok(ahead_on(Line::Course, h.follow)))
 }
 
 // While the breadcrumb is followed: the way home.
 pub fn route_home(h: &Homing) -> Result<Option<Ahead>, Refusal>
     ensures { AnswersRouteHome h.now result }
 {
-    questions::asks_state(h)?;
-    Ok(ahead_on(Line::Breadcrumb, h.follow))
+    questions::asks_state(h).and(Ok(ahead_on(Line::Breadcrumb, h.follow)))
 }
 
 // The way the rider is riding, while moving.
 pub fn heading(h: &Homing) -> Result<Option<u16>, Refusal>
     ensures { AnswersHeading h.now result }
 {
-    questions::asks_state(h)?;
-    Ok(h.motion.heading)
+    questions::asks_state(h).and(Ok(h.motion.heading))
 }
 
 // The guide, while the fix is fresh.
 pub fn guide(h: &Homing) -> Result<Option<Guide>, Refusal>
     ensures { AnswersGuide h.now result }
 {
-    questions::asks_state(h)?;
-    Ok(h.guide)
+    questions::asks_state(h).and(Ok(h.guide))
 }
 
 // ---- of the state and a lent buffer
@@ -114,11 +107,11 @@ pub fn way_back(h: &Homing, crumbs: &[f32]) -> Result<Option<Back>, Refusal>
 }
 
 // The kept crumbs, oldest first: the front part of the buffer.
-pub fn crumbs<'a>(h: &Homing, crumbs: &'a [f32]) -> Result<&'a [f32], Refusal>
-    ensures { ReturnsCrumbs h.now crumbs.now result }
+pub fn crumbs<'a>(h: &Homing, lent: &'a [f32]) -> Result<&'a [f32], Refusal>
+    ensures { ReturnsCrumbs h.now lent.now result }
 {
-    questions::asks_crumbs(h, crumbs)?;
-    Ok(crumbs::front(crumbs, h.trail.len))
+    questions::asks_crumbs(h, lent)?;
+    Ok(crumbs::front(lent, h.trail.len))
 }
 
 // The course, end first: the front part of the line; empty until placed.

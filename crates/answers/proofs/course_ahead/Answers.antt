@@ -1,16 +1,11 @@
 -- `answers::course_ahead` meets its contract.
-use Rattle.std.proofs.Common.{rules, ◌≡◌, refl, Err}
+use Rattle.std.proofs.Common.{refl, ap, ◌∙◌}
 use Rattle.calls.specs.Ask as rule
 use Rattle.calls.specs.Calls.{asks_lent, asks}
-use Rattle.answers.proofs.Answering.{no, yes}
+use Rattle.calls.specs.Promises.{says}
+use Rattle.answers.proofs.Answering.{told}
 use Rattle.answers.proofs.course_ahead.Goals as goal
-
-pub returns-in_err-asks_state : goal.returns-in_err-asks_state
-unfolding asks asks_lent
-returns-in_err-asks_state c =
-    let e : c.from_residual.result ≡ Err c.in_err-asks_state.field-0.0 = search rules in
-    record { said = λ b. no e (c.in_err-asks_state.ensures b) _ }
 
 pub returns : goal.returns
 unfolding asks asks_lent rule.course_ahead
-returns c = record { said = λ b. yes (c.in_ok-asks_state.ensures b) (c.ahead_on.ensures.course refl) }
+returns c = record { said = λ b. ap says c.and.ensures ∙ told c.asks_state.result (c.asks_state.ensures b) (c.ahead_on.ensures.course refl) }

@@ -6,7 +6,7 @@ use Rattle.answers.proofs.crumbs.Goals as goal
 pub returns-in_err-asks_crumbs : goal.returns-in_err-asks_crumbs
 returns-in_err-asks_crumbs c =
     let e : c.from_residual.result ≡ Err c.in_err-asks_crumbs.field-0.0 = search rules in
-    crumbs-refused c.args.h.now c.args.crumbs.now e c.in_err-asks_crumbs.ensures
+    crumbs-refused c.args.h.now c.args.lent.now e c.in_err-asks_crumbs.ensures
 
 pub returns : goal.returns
-returns c = crumbs-returned c.args.h.now c.args.crumbs.now c.in_ok-asks_crumbs.ensures c.front.ensures
+returns c = crumbs-returned c.args.h.now c.args.lent.now c.in_ok-asks_crumbs.ensures c.front.ensures
