@@ -4,7 +4,6 @@ use native.Mathlib.Nat.{zero-mul}
 use native.Mathlib.Omega.{arith}
 use mathlib.Core.Path.{◌≡◌, refl, ap, ◌∙◌}
 use mathlib.Core.Bool.{Bool, true, false}
-use lib.IntN.{pos, negsuc}
 use lib.Ieee.{Float, nan, inf, fin, down, level, of_bits, eq, le, lt, add, sub, mul, div, to_unsigned}
 use Rattle.binary32.specs.Arithmetic.{constant}
 use Rattle.binary32.specs.Root.{root}
@@ -22,7 +21,7 @@ use Rattle.state.specs.Guide.{arrow, arrow_from}
 use Rattle.matching.specs.Distances.{off_m, on_m}
 use Rattle.matching.specs.Match.{off_now}
 use Rattle.rebuild.proofs.Starred as rebuild
-use Rattle.starred.specs.Table.{Table}
+use Rattle.starred.specs.Table.{westernmost, easternmost, Table}
 
 zeros-level : (s : Bool) (a b : ℕ) → a ≤ b → b ≡ 0 → level s a false b ≡ true
 zeros-level true zero zero h z = refl
@@ -58,8 +57,7 @@ table =
       half-metre = refl;
       under-half = refl;
       under-half-bits = refl;
-      half-round = λ lat0 lat h. zero-within (frame (record { lat = lat0; lon = negsuc 1799999999 }) (east_per_e7 lat0) (record { lat = lat; lon = pos 1800000000 })).east
-          (plane.half-round lat0 lat h);
+      half-round = λ lat0 lat h. zero-within (frame (westernmost lat0) (east_per_e7 lat0) (easternmost lat)).east (plane.half-round lat0 lat h);
       one-pass = refl;
       not-armed = λ moving. refl;
       stays_on = refl;

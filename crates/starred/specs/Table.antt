@@ -4,6 +4,7 @@ use Rattle.std.specs.Float.{binary32}
 use Rattle.std.specs.Float.Ieee.{of_bits, neg, eq}
 use Rattle.binary32.specs.Arithmetic.{constant}
 use Rattle.binary32.specs.Limits.{plus_zero, one}
+use Rattle.plane.specs.declared.Fix.{Fix}
 use Rattle.plane.specs.Plane.{bearing, metres}
 use Rattle.plane.specs.Fix.{east_per_e7, frame}
 use Rattle.crumbs.specs.declared.Crumb.{Crumb}
@@ -40,6 +41,13 @@ eight = 0 ∷ 1 ∷ 2 ∷ 3 ∷ 4 ∷ 5 ∷ 6 ∷ 7 ∷ []
 abbrev pub towards : Float → Float → ℕ
 towards east north = bearing (record { east = plus_zero; north = plus_zero }) (record { east = east; north = north })
 
+-- the places at a latitude where the longitudes begin and end
+abbrev pub westernmost : ℤ → Fix
+westernmost lat = record { lat = lat; lon = negsuc 1799999999 }
+
+abbrev pub easternmost : ℤ → Fix
+easternmost lat = record { lat = lat; lon = pos 1800000000 }
+
 -- a `StartPass` as a ride begins with it
 abbrev pub spent : StartPass
 spent = record { stage = Spent }
@@ -73,7 +81,7 @@ pub record Table : Type 0 where
   -- "Longitude −1,800,000,000 to 1,800,000,000: east 0.", a zero of either sign, from every latitude on the globe to every latitude
   pub half-round :
       (lat0 lat : ℤ) → nat_abs lat0 ≤ 900000000
-      → eq (frame (record { lat = lat0; lon = negsuc 1799999999 }) (east_per_e7 lat0) (record { lat = lat; lon = pos 1800000000 })).east plus_zero ≡ true
+      → eq (frame (westernmost lat0) (east_per_e7 lat0) (easternmost lat)).east plus_zero ≡ true
   -- "`StartPass` at 101, 39, 51 m moving: no, no, yes; 100 m doesn't arm.", moving or not
   pub one-pass : passes spent (number 101 ∷ number 39 ∷ number 51 ∷ []) ≡ false ∷ false ∷ true ∷ []
   pub not-armed : (moving : Bool) → (step_of spent (number 100) moving).pass ≡ spent

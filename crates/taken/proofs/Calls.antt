@@ -112,8 +112,8 @@ module _ (C : ℕ) (least : 3 ≤ C) (room : C ≤ most) (course : List Crumb) (
       let some : 1 ≤ length course = omega (arith, m.from, m.to) in
       met-on course p _ near lined h (omega arith) (omega arith) m
 
-  follow-kept : (found : Option Nearest) (now : ℕ) (s : State) → K s → ((near : Nearest) → found ≡ Some near → OnSegment (length course) near)
-      → K (follow found C course now s).state
+  follow-kept : (found : Option Nearest) (now : ℕ) (s : State) → K s
+      → ((near : Nearest) → found ≡ Some near → OnSegment (length course) near) → K (follow found C course now s).state
   unfolding follow
   follow-kept (Some near) now s k h =
       let n = h near refl in

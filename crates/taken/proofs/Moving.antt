@@ -52,7 +52,8 @@ pub located-framed : (x : Fix) (f : Frame) → FixOnGlobe x → Framed f → Fra
 unfolding located
 located-framed x f g h = located-from f.origin x f g h
 
-framed-from : (o : Option Fix) (factor : Float) (x : Fix) → Origin o → Within (frac 5) factor → FixOnGlobe x → Place (framed_from o factor x)
+framed-from : (o : Option Fix) (factor : Float) (x : Fix) → Origin o → Within (frac 5) factor → FixOnGlobe x
+    → Place (framed_from o factor x)
 unfolding framed_from
 framed-from (Some y) factor x o w g = frame-place y x factor o g w
 framed-from None factor x o w g = frame-place x x factor g g w

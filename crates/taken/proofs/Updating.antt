@@ -111,8 +111,8 @@ module _ (C : ℕ) (least : 3 ≤ C) (room : C ≤ most) (course : List Crumb) (
       met-on s.track.crumbs p ends near (followed-lined line.Breadcrumb s k) P first last
       (breadcrumb-met s.track.crumbs p ends near e)
 
-  nearer-on : (n : ℕ) (near : Nearest) (best : Option Nearest) → OnSegment n near → ((other : Nearest) → best ≡ Some other → OnSegment n other)
-      → OnSegment n (nearer near best)
+  nearer-on : (n : ℕ) (near : Nearest) (best : Option Nearest) → OnSegment n near
+      → ((other : Nearest) → best ≡ Some other → OnSegment n other) → OnSegment n (nearer near best)
   unfolding nearer
   nearer-on n near None h o = h
   nearer-on n near (Some other) h o = either (OnSegment n) (lt other.off near.off) (λ t. o other refl) (λ t. h)

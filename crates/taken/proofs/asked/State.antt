@@ -283,14 +283,16 @@ heading-moves m p now h P =
     one_of Moves (le heading_step_m (distance from p)) (λ t. renewed-moves from p now P)
     (λ t. aged-moves m from now h.heading (spot-or m.from p h.from P))
 
-lap-start : (moving : Bool) (x : Option Point) (p : Point) → spot_fits x ≡ true → place_fits p ≡ true → spot_fits (lap_start moving x p) ≡ true
+lap-start : (moving : Bool) (x : Option Point) (p : Point) → spot_fits x ≡ true → place_fits p ≡ true
+    → spot_fits (lap_start moving x p) ≡ true
 unfolding lap_start
 lap-start true (Some q) p h P = h
 lap-start false (Some q) p h P = h
 lap-start true None p h P = at-fits p P
 lap-start false None p h P = h
 
-step_from_lem : (x : Option Point) (l : Lap) (p : Point) (moving : Bool) → spot_fits x ≡ true → spot_fits (step_from x l p moving).start ≡ true
+step_from_lem : (x : Option Point) (l : Lap) (p : Point) (moving : Bool) → spot_fits x ≡ true
+    → spot_fits (step_from x l p moving).start ≡ true
 unfolding step_from
 step_from_lem (Some q) l p moving h = h
 step_from_lem None l p moving h = h
