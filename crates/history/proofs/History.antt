@@ -5,7 +5,8 @@ use mathlib.Core.List.{List, [], ◌∷◌, ◌++◌, map}
 use native.Mathlib.Omega.{arith}
 use lib.Ieee.{Float}
 use lib.ListN.{length}
-use Rattle.crumbs.specs.Crumb.{stride, capacity, crumbs, point}
+use Rattle.std.specs.Prelude.{Ok}
+use Rattle.crumbs.specs.Crumb.{stride, capacity, point}
 use Rattle.crumbs.proofs.Crumbs.{length-crumbs, front-whole}
 use Rattle.trail.specs.View.{track}
 use Rattle.state.specs.declared.Homing.{Homing}
@@ -15,7 +16,6 @@ use Rattle.calls.specs.Calls.{Call, after_call}
 use Rattle.journal.specs.Journal.{run, journal}
 use Rattle.journal.proofs.History.{holds}
 use Rattle.journal.proofs.Programs.{history-of, run-last}
-use Rattle.homing.specs.declared.Changed.{Changed}
 use Rattle.homing.specs.Promises.{MakesNew}
 use Rattle.history.specs.History.{front, held, Holds, Ran, new, called, EveryHistory}
 
@@ -46,7 +46,7 @@ module _ (C : ℕ) (least : 8 ≤ C) (most : C ≤ 4096) (cs : List Call) (h : H
       }
 
 -- the guide that `new` makes begins one
-pub made : {C : ℕ} {b : List Float} {r : Changed} → length b ≡ stride * C → MakesNew b r → Ran C [] r.homing b
+pub made : {C : ℕ} {b : List Float} {h : Homing} → length b ≡ stride * C → MakesNew b (Ok h) → Ran C [] h b
 made {b = b} size m = new size (m.fresh b)
 
 long : {C : ℕ} {cs : List Call} {h : Homing} {b : List Float} → Ran C cs h b → length b ≡ stride * C

@@ -1,134 +1,114 @@
--- Every list of calls of machine size can be written: it is what its writing is decoded to. Assumes nothing.
-use Prim.Native.Nat.{ℕ, ◌+◌, ◌*◌, ◌^◌, ◌≤◌, ◌<◌}
-use mathlib.Core.Path.{◌≡◌, refl, ap, ap₂, ◌∙◌}
-use mathlib.Core.Bool.{Bool, true, false}
-use mathlib.Core.List.{List, [], ◌∷◌, ◌++◌, map}
+-- Every list of calls of machine size can be written: it is what its writing says. Assumes nothing.
+use Prim.Native.Nat.{ℕ, ◌*◌, ◌^◌, ◌≤◌, ◌<◌, max}
+use mathlib.Core.Path.{◌≡◌, refl, ap}
+use mathlib.Core.Bool.{true}
+use mathlib.Core.List.{List, [], ◌∷◌, map}
 use native.Mathlib.Omega.{arith}
 use borrow.Author.Tests.{le-leb}
-use mir.Syntax.{w8, w64}
-use mir.Val.{Fits}
-use lib.Dec.{lit<}
-use lib.Ieee.{Float}
-use lib.ListN.{length, length-append, length-map}
-use lib.Seq.{take-append_seam, drop-append_seam}
+use denote.Bor.{Bor}
+use lib.IntN.{ℤ}
+use lib.ListN.{length, length-map}
 use Rattle.std.specs.Prelude.{Some, None}
 use Rattle.plane.specs.declared.Fix.{Fix}
 use Rattle.course.specs.Course.{fixes}
-use Rattle.calls.specs.Calls as call
-use Rattle.calls.specs.Calls.{Loan, Query, Call, Ask, Reset, EndReplay, SetCourse, SetAutoFollow, Observe, Replay, SetFollowing, arguments}
-use Rattle.ride.specs.Script.{CallEntry, call_entries, place_in, fix_in, numbered, call_of, readable, decode}
-use Rattle.ride.specs.Theorems.{lent_line, lines_of, points_of, Each, SliceOf, EveryListWritten}
+use Rattle.calls.specs.Calls as rule
+use Rattle.calls.specs.Calls.{Loan, arguments}
+use Rattle.ride.specs.declared.Query.{Query}
+use Rattle.ride.specs.declared.Query.TheVariants as query
+use Rattle.ride.specs.declared.Call.{Call}
+use Rattle.ride.specs.declared.Call.TheVariants as call
+use Rattle.ride.specs.declared.TheConstants.{CALL_BYTES}
+use Rattle.ride.specs.Script.{call_of, has_room, written}
+use Rattle.ride.specs.Theorems.{Each, SliceOf, lent_line, CallOfMachineSize, IsCall, EveryListWritten}
 
--- ---- how a call is written
-abbrev on_off : ℕ → Bool → ℕ
-on_off off false = off
-on_off off true = off + 1
+-- ---- how a call is written, wherever what it is lent lies
+abbrev lent : {A : Type 0} → A → Bor A
+lent x = record { ref_ptr = (0, 0); now = x }
 
-abbrev query_op : {loan : Loan} → Query loan → ℕ
-query_op call.Len = 9
-query_op call.Following = 10
-query_op call.FollowingCourse = 11
-query_op (call.Course line) = 12
-query_op call.CourseAhead = 13
-query_op call.Crumbs = 14
-query_op call.WayBack = 15
-query_op call.Heading = 16
-query_op call.RouteHome = 17
-query_op call.Guide = 18
+abbrev write_query : {loan : Loan} → rule.Query loan → Query
+write_query rule.Len = query.Len
+write_query rule.Following = query.Following
+write_query rule.FollowingCourse = query.FollowingCourse
+write_query (rule.Course line) = query.Course (lent line)
+write_query rule.CourseAhead = query.CourseAhead
+write_query rule.Crumbs = query.Crumbs
+write_query rule.WayBack = query.WayBack
+write_query rule.Heading = query.Heading
+write_query rule.RouteHome = query.RouteHome
+write_query rule.Guide = query.Guide
 
-abbrev op_of : Call → ℕ
-op_of (Ask q) = query_op q
-op_of Reset = 0
-op_of EndReplay = 1
-op_of (SetCourse line points) = 2
-op_of (SetAutoFollow on) = on_off 3 on
-op_of (Observe line place clock) = 5
-op_of (Replay point clock) = 6
-op_of (SetFollowing line on clock) = on_off 7 on
+abbrev lats_of : List Fix → List ℤ
+lats_of points = map (λ x. x.lat) points
 
-abbrev lent_to : Call → List Float
-lent_to c = lent_line (arguments c).loan
+abbrev lons_of : List Fix → List ℤ
+lons_of points = map (λ x. x.lon) points
 
-abbrev size_of : Call → ℕ
-size_of c = length (lent_to c)
-
-abbrev count_of : Call → ℕ
-count_of c = length (arguments c).points
-
-abbrev clock_of : Call → ℕ
-clock_of c = (arguments c).clock
-
-again : (c : Call) → call_of (op_of c) (clock_of c) (lent_to c) (arguments c).points ≡ c
-unfolding call_of numbered place_in fix_in
-again Reset = refl
-again EndReplay = refl
-again (SetCourse line points) = refl
-again (SetAutoFollow false) = refl
-again (SetAutoFollow true) = refl
-again (Observe line (Some x) clock) = refl
-again (Observe line None clock) = refl
-again (Replay point clock) = refl
-again (SetFollowing line false clock) = refl
-again (SetFollowing line true clock) = refl
-again (Ask call.Len) = refl
-again (Ask call.Following) = refl
-again (Ask call.FollowingCourse) = refl
-again (Ask (call.Course line)) = refl
-again (Ask call.CourseAhead) = refl
-again (Ask call.Crumbs) = refl
-again (Ask call.WayBack) = refl
-again (Ask call.Heading) = refl
-again (Ask call.RouteHome) = refl
-again (Ask call.Guide) = refl
-
-abbrev written : Call → CallEntry
-written c = record { op = op_of c; clock = clock_of c; size = size_of c; count = count_of c }
-
--- one number a call
-side_by_side : (cs : List Call) → call_entries (map op_of cs) (map clock_of cs) (map size_of cs) (map count_of cs) ≡ map written cs
-unfolding call_entries
-side_by_side [] = refl
-side_by_side (c ∷ cs) = ap (λ es. written c ∷ es) (side_by_side cs)
+abbrev write : rule.Call → Call
+write (rule.Ask q) = call.Ask (write_query q)
+write rule.Reset = call.Reset
+write rule.EndReplay = call.EndReplay
+write (rule.SetCourse line points) = call.SetCourse (lent line) (lent (lats_of points)) (lent (lons_of points))
+write (rule.SetAutoFollow on) = call.SetAutoFollow on
+write (rule.Observe line place clock) = call.Observe (lent line) place clock
+write (rule.Replay point clock) = call.Replay point clock
+write (rule.SetFollowing line on clock) = call.SetFollowing (lent line) on clock
 
 -- the points in two lists
-pairs : (points : List Fix) → fixes (map (λ x. x.lat) points) (map (λ x. x.lon) points) ≡ points
+pairs : (points : List Fix) → fixes (lats_of points) (lons_of points) ≡ points
 unfolding fixes
 pairs [] = refl
 pairs (x ∷ points) = ap (λ l. x ∷ l) (pairs points)
 
-fits : (room : ℕ) (c : Call) (lines : List Float) (points : List Fix) → size_of c ≤ room
-    → readable (size_of c) (count_of c) room (length (lent_to c ++ lines)) (length ((arguments c).points ++ points)) ≡ true
-unfolding readable
-fits room c lines points h =
-    let a : size_of c ≤ length (lent_to c ++ lines) = omega (arith, length-append (lent_to c) lines) in
-    let b : count_of c ≤ length ((arguments c).points ++ points) = omega (arith, length-append (arguments c).points points) in
-    rw (le-leb (size_of c) room h, le-leb (size_of c) _ a, le-leb (count_of c) _ b)
+again : (c : rule.Call) → call_of (write c) ≡ c
+again (rule.Ask rule.Len) = refl
+again (rule.Ask rule.Following) = refl
+again (rule.Ask rule.FollowingCourse) = refl
+again (rule.Ask (rule.Course line)) = refl
+again (rule.Ask rule.CourseAhead) = refl
+again (rule.Ask rule.Crumbs) = refl
+again (rule.Ask rule.WayBack) = refl
+again (rule.Ask rule.Heading) = refl
+again (rule.Ask rule.RouteHome) = refl
+again (rule.Ask rule.Guide) = refl
+again rule.Reset = refl
+again rule.EndReplay = refl
+again (rule.SetCourse line points) = ap (rule.SetCourse line) (pairs points)
+again (rule.SetAutoFollow on) = refl
+again (rule.Observe line place clock) = refl
+again (rule.Replay point clock) = refl
+again (rule.SetFollowing line on clock) = refl
 
--- no line is longer than the working line
-abbrev LinesWithin : ℕ → List Call → Type 0
-LinesWithin room cs = Each (λ c. size_of c ≤ room) cs
+-- ---- the working line is as long as the longest that is lent
+abbrev size_of : rule.Call → ℕ
+size_of c = length (lent_line (arguments c).loan)
 
-lines-within : (room : ℕ) (cs : List Call) → length (lines_of cs) ≤ room → LinesWithin room cs
-lines-within room [] h = tt
-lines-within room (c ∷ cs) h =
-    let e = length-append (lent_to c) (lines_of cs) in
-    (omega (arith, e), lines-within room cs (omega (arith, e)))
+abbrev room_for : List rule.Call → ℕ
+room_for [] = 0
+room_for (c ∷ cs) = max (size_of c) (room_for cs)
 
-decoded : (room : ℕ) (cs : List Call) → LinesWithin room cs → decode room (map written cs) (lines_of cs) (points_of cs) ≡ cs
-unfolding decode
-decoded room [] w = refl
-decoded room (c ∷ cs) w =
-    rw (
-      fits room c (lines_of cs) (points_of cs) w.0,
-      take-append_seam (lent_to c) (lines_of cs),
-      drop-append_seam (lent_to c) (lines_of cs),
-      take-append_seam (arguments c).points (points_of cs),
-      drop-append_seam (arguments c).points (points_of cs),
-      again c,
-      decoded room cs w.1,
-    )
+roomy : (cs : List rule.Call) → Each CallOfMachineSize cs → room_for cs * 4 < 2 ^ 63
+roomy [] h = omega arith
+roomy (c ∷ cs) h = omega (arith, h.0.line.1, roomy cs h.1)
 
--- ---- each is of its slice's type
+fits : (room : ℕ) (c : rule.Call) → size_of c ≤ room → has_room room (write c) ≡ true
+fits room (rule.Ask q) h = refl
+fits room rule.Reset h = refl
+fits room rule.EndReplay h = refl
+fits room (rule.SetCourse line points) h = le-leb (length line) room h
+fits room (rule.SetAutoFollow on) h = refl
+fits room (rule.Observe line place clock) h = refl
+fits room (rule.Replay point clock) h = refl
+fits room (rule.SetFollowing line on clock) h = refl
+
+says : (room : ℕ) (cs : List rule.Call) → room_for cs ≤ room → written room (map write cs) ≡ cs
+unfolding written
+says room [] h = refl
+says room (c ∷ cs) h =
+    let this : size_of c ≤ room = omega arith in
+    let rest : room_for cs ≤ room = omega arith in
+    rw (fits room c this, again c, says room cs rest)
+
+-- ---- each value is of its type
 each_map : {A B : Type 0} (P : B → Type 0) (f : A → B) (xs : List A) → Each (λ x. P (f x)) xs → Each P (map f xs)
 each_map P f [] h = tt
 each_map P f (x ∷ xs) h = (h.0, each_map P f xs h.1)
@@ -137,60 +117,38 @@ slice-map : {A B : Type 0} (P : B → Type 0) (f : A → B) (bytes : ℕ) (xs : 
     → SliceOf P bytes (map f xs)
 slice-map P f bytes xs h = (each_map P f xs h.0, rw (length-map xs f) h.1)
 
-every : {A : Type 0} (P : A → Type 0) (xs : List A) → ((x : A) → P x) → Each P xs
-every P [] h = tt
-every P (x ∷ xs) h = (h x, every P xs h)
+each-is : {A : Type 0} (P Q : A → Type 0) → ((x : A) → P x → Q x) → (xs : List A) → Each P xs → Each Q xs
+each-is P Q f [] h = tt
+each-is P Q f (x ∷ xs) h = (f x h.0, each-is P Q f xs h.1)
 
-few_on : (off : ℕ) (on : Bool) → off < 9 → Fits w8 (on_off off on)
-few_on off false h = record { fits = omega arith }
-few_on off true h = record { fits = omega arith }
-
-query-fits : {loan : Loan} (q : Query loan) → Fits w8 (query_op q)
-query-fits call.Len = record { fits = lit< tt }
-query-fits call.Following = record { fits = lit< tt }
-query-fits call.FollowingCourse = record { fits = lit< tt }
-query-fits (call.Course line) = record { fits = lit< tt }
-query-fits call.CourseAhead = record { fits = lit< tt }
-query-fits call.Crumbs = record { fits = lit< tt }
-query-fits call.WayBack = record { fits = lit< tt }
-query-fits call.Heading = record { fits = lit< tt }
-query-fits call.RouteHome = record { fits = lit< tt }
-query-fits call.Guide = record { fits = lit< tt }
-
-op_fits : (c : Call) → Fits w8 (op_of c)
-op_fits (Ask q) = query-fits q
-op_fits Reset = record { fits = lit< tt }
-op_fits EndReplay = record { fits = lit< tt }
-op_fits (SetCourse line points) = record { fits = lit< tt }
-op_fits (SetAutoFollow on) = few_on 3 on (lit< tt)
-op_fits (Observe line place clock) = record { fits = lit< tt }
-op_fits (Replay point clock) = record { fits = lit< tt }
-op_fits (SetFollowing line on clock) = few_on 7 on (lit< tt)
-
--- what each call is given is no longer than what they are given together
-each_part : {A : Type 0} (f : Call → List A) (all : List Call → List A) → ((c : Call) (cs : List Call) → all (c ∷ cs) ≡ f c ++ all cs)
-    → (cs : List Call) → length (all cs) * 4 < 2 ^ 63 → Each (λ c. Fits w64 (length (f c))) cs
-each_part f all is [] h = tt
-each_part f all is (c ∷ cs) h =
-    let e : length (all (c ∷ cs)) ≡ length (f c) + length (all cs) = ap length (is c cs) ∙ length-append (f c) (all cs) in
-    (record { fits = omega (arith, e, h) }, each_part f all is cs (omega (arith, e, h)))
+is-call : (c : rule.Call) → CallOfMachineSize c → IsCall (write c)
+is-call (rule.Ask rule.Len) m = tt
+is-call (rule.Ask rule.Following) m = tt
+is-call (rule.Ask rule.FollowingCourse) m = tt
+is-call (rule.Ask (rule.Course line)) m = m.line
+is-call (rule.Ask rule.CourseAhead) m = tt
+is-call (rule.Ask rule.Crumbs) m = tt
+is-call (rule.Ask rule.WayBack) m = tt
+is-call (rule.Ask rule.Heading) m = tt
+is-call (rule.Ask rule.RouteHome) m = tt
+is-call (rule.Ask rule.Guide) m = tt
+is-call rule.Reset m = tt
+is-call rule.EndReplay m = tt
+is-call (rule.SetCourse line points) m =
+    (m.line, slice-map _ (λ x. x.lat) 4 points m.lats, slice-map _ (λ x. x.lon) 4 points m.lons)
+is-call (rule.SetAutoFollow on) m = tt
+is-call (rule.Observe line (Some x) clock) m = (m.line, (m.lats.0.0, m.lons.0.0), m.clock)
+is-call (rule.Observe line None clock) m = (m.line, tt, m.clock)
+is-call (rule.Replay point clock) m = ((m.lats.0.0, m.lons.0.0), m.clock)
+is-call (rule.SetFollowing line on clock) m = (m.line, m.clock)
 
 pub covers : EveryListWritten
 covers cs m =
-    let room = length (lines_of cs) in
-    let few = m.clocks.1 in
+    let room = room_for cs in
     record {
       room = room;
-      roomy = m.lines.1;
-      ops = (map op_of cs, slice-map _ op_of 1 cs (every _ cs op_fits, omega (arith, few)));
-      clocks = (map clock_of cs, slice-map _ clock_of 8 cs m.clocks);
-      sizes = (map size_of cs, slice-map _ size_of 8 cs (each_part (λ c. lent_to c) lines_of (λ c cs. refl) cs m.lines.1, few));
-      counts =
-          (map count_of cs, slice-map _ count_of 8 cs (each_part (λ c. (arguments c).points) points_of (λ c cs. refl) cs m.lats.1, few));
-      lines = (lines_of cs, m.lines);
-      lats = (map (λ x. x.lat) (points_of cs), slice-map _ (λ x. x.lat) 4 (points_of cs) m.lats);
-      lons = (map (λ x. x.lon) (points_of cs), slice-map _ (λ x. x.lon) 4 (points_of cs) m.lons);
-      says =
-          ap₂ (λ es points. decode room es (lines_of cs) points) (side_by_side cs) (pairs (points_of cs))
-          ∙ decoded room cs (lines-within room cs (omega arith));
+      roomy = roomy cs m.0;
+      calls = map write cs;
+      sized = slice-map IsCall write CALL_BYTES cs (each-is _ _ is-call cs m.0, m.1);
+      says = says room cs (omega arith);
     }
