@@ -7,6 +7,8 @@ pub mod comparing;
 pub mod faults;
 pub mod telling;
 
+ghost use Rattle.std.specs.Prelude.{◌≡◌, ◌%◌, ◌^◌, IfOk, vec_len};
+
 use calls::Call;
 use faults::{Fault, Moment};
 use std::alloc::Global;
@@ -52,8 +54,10 @@ pub fn float(pattern: u32) -> f32 {
     f32::from_bits(pattern)
 }
 
-pub fn low(number: u64) -> u32 {
-    (number & 0xffff_ffff) as u32
+pub fn low(number: u64) -> u32
+    ensures { result ≡ number % 2 ^ 32 }
+{
+    (number % 0x1_0000_0000) as u32
 }
 
 // ---- reading
@@ -138,7 +142,9 @@ impl Record {
 }
 
 // So many bytes.
-pub fn read_bytes(alloc: Global, input: &mut impl Read, count: usize) -> Result<Vec<u8>, Fault> {
+pub fn read_bytes(alloc: Global, input: &mut impl Read, count: usize) -> Result<Vec<u8>, Fault>
+    ensures { IfOk result (λ bytes. vec_len bytes ≡ count) }
+{
     let mut bytes = vec![in alloc; 0u8; count]?;
     if !fill(input, &mut bytes)? {
         return Err(Fault::CutOff);
