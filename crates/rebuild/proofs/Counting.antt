@@ -1,6 +1,6 @@
 -- None of the calls that a rebuild makes of a guide's own state is refused, where the places it reads are in range: it counts as those
 -- calls. Assumes nothing.
-use mathlib.Core.Path.{◌≡◌, refl}
+use mathlib.Core.Path.{◌≡◌}
 use Prim.Native.Nat.{ℕ, zero, suc}
 use mathlib.Core.Bool.{Bool, true, false, cond}
 use mathlib.Core.List.{List, [], ◌∷◌, ◌++◌}

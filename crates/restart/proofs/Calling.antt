@@ -3,16 +3,16 @@ use Prim.Native.Nat.{ℕ}
 use mathlib.Core.Path.{◌≡◌, refl, sym, ap, ◌∙◌}
 use mathlib.Core.Logic.{◌≢◌}
 use mathlib.Core.Bool.{Bool}
-use mathlib.Core.List.{List, []}
+use mathlib.Core.List.{List}
 use lib.ListN.{length}
 use lib.Ieee.{Float}
 use Rattle.state.specs.declared.Homing.{Homing}
 use Rattle.state.specs.State.{state_of}
 use Rattle.calls.specs.Questions.{asks_state, asks_crumbs}
-use Rattle.std.specs.Prelude.{Option, Result, Ok, Err, ℕ}
+use Rattle.std.specs.Prelude.{Option, Ok, Err, ℕ}
 use Rattle.refusal.specs.declared.Refusal.{Refusal}
 use Rattle.refusal.specs.Refusal.{number}
-use Rattle.calls.specs.Promises.{Answer, gives, answer, says}
+use Rattle.calls.specs.Promises.{answer, says}
 use borrow.Author.Tests.{ne_eqb, eq-eqb}
 use Rattle.ride_log.specs.Entry.{slot}
 use Rattle.ride_log.specs.Questions.{asks_file}

@@ -23,7 +23,6 @@ use Rattle.journal.specs.Journal.{run}
 use Rattle.std.specs.Prelude.{Ok}
 use Rattle.homing.specs.Promises.{MakesNew}
 use Rattle.ride_log.specs.Entry.{slot}
-use Rattle.ride_log.specs.Questions.{asks_file}
 use Rattle.ride_log.proofs.file_questions.Chain.{by}
 use Rattle.rebuild.specs.Made.{perform}
 use Rattle.rebuild.specs.Rebuild.{step}

@@ -1,39 +1,39 @@
 -- What a step of the whole chain from a new guide gives is what the rules tell of the file. Assumes nothing.
-use Prim.Native.Nat.{ℕ, ◌≤◌, ◌<◌, ◌^◌}
+use Prim.Native.Nat.{ℕ, ◌≤◌}
 use mathlib.Core.Path.{◌≡◌, refl, sym, ap, ◌∙◌}
 use mathlib.Core.Bool.{Bool, true, false}
 use mathlib.Core.Logic.{◌≢◌}
-use mathlib.Core.List.{List, []}
+use mathlib.Core.List.{List}
 use native.Mathlib.Omega.{arith}
 use borrow.Author.Tests.{eq-eqb, eqb-true, eqb-false}
 use lib.Dec.{eqb}
-use lib.ListN.{length, take}
+use lib.ListN.{length}
 use lib.Seq.{take_all}
 use lib.Ieee.{Float}
 use Rattle.crumbs.specs.declared.Crumb.{Crumb}
 use Rattle.crumbs.specs.Crumb.{capacity, crumbs}
-use Rattle.crumbs.proofs.Crumbs.{length-crumbs}
-use Rattle.trail.specs.Trail.{fresh as fresh_track}
 use Rattle.trail.specs.View.{track}
 use Rattle.state.specs.declared.Homing.{Homing}
 use Rattle.state.specs.State.{State, state_of}
 use Rattle.calls.specs.Line as guide
-use Rattle.calls.specs.Questions.{question1, question4, asks_crumbs}
+use Rattle.calls.specs.Questions.{question1, question4, asks_crumbs, unless}
 use Rattle.calls.specs.Calls.{Ask, Crumbs, asks_lent, asks}
-use Rattle.calls.specs.Promises.{Answer, refused, gives, answer}
-use Rattle.answers.specs.declared.Verdict.{Verdict}
-use Rattle.answers.specs.declared.Verdict.TheVariants as verdict
-use Rattle.answers.specs.Answers.{says_verdict}
+use Rattle.calls.specs.Promises.{Answer, refused, gives, answer, says}
+use Rattle.std.specs.Prelude.{Result, Ok, Err, IsOk}
+use Rattle.std.proofs.Common.{rules}
+use Rattle.std.proofs.lemmas.Result.{IfOk-at_ok}
+use Rattle.refusal.specs.declared.Refusal.{Refusal}
+use Rattle.refusal.specs.Refusal.{number, asked}
 use Rattle.taken.specs.Taken.{start}
 use Rattle.taken.proofs.Taken.{taken}
 use Rattle.ride_log.specs.Entry.{recovered, slot}
 use Rattle.ride_log.specs.Questions.{asks_file}
 use Rattle.rebuild.specs.declared.Rebuild.{Rebuild}
-use Rattle.rebuild.specs.declared.Visited.{Visited}
 use Rattle.rebuild.specs.Made.{effect}
 use Rattle.rebuild.specs.Rebuild.{new_rebuild, step, is_decided}
 use Rattle.rebuild.specs.View.{Makes}
-use Rattle.restart.specs.declared.Stepped.{Stepped}
+use Rattle.homing.specs.Promises.{MakesNew}
+use Rattle.retelling.specs.declared.Rebuilt.{Rebuilt}
 use Rattle.restart.specs.Promises.{asks_step, Steps}
 use Rattle.retelling.specs.Text.{rebuilt_text, refused_text}
 use Rattle.retelling.specs.Writing.{WritesWhole}
@@ -47,15 +47,23 @@ new-taken : asks_crumbs 1536 guide.new ≡ 0
 unfolding asks asks_lent question1 question4
 new-taken = taken 1536 refl _ _ start (Ask Crumbs) tt tt
 
--- it holds no crumb
-new-len : (h : Homing) (b : List Float) → state_of h b ≡ guide.new → h.trail.len ≡ 0
-unfolding track fresh_track guide.new
-new-len h b e = sym (length-crumbs h.trail.len b) ∙ ap (λ (s : State). length s.track.crumbs) e
+-- no question refuses to make it
+made_so : {A : Type 0} (r : Result A Refusal) → asked r ≡ 0 → IsOk r
+made_so (Ok x) e = search rules
+made_so (Err q) e = let ne : number q ≢ 0 = search rules in absurd (ne e)
+
+pub is-made : {b : List Float} {r : Result Homing Refusal} → length b ≡ 1536 → MakesNew b r → IsOk r
+unfolding question1
+is-made {b = b} {r = r} size m = made_so r (m.answered ∙ ap (λ (n : ℕ). unless (question1 n) 1) size)
+
+pub fresh-guide : {b : List Float} {r : Result Homing Refusal} {h : Homing} → MakesNew b r → r ≡ Ok h → (c : List Float)
+    → state_of h c ≡ guide.new
+fresh-guide m e = IfOk-at_ok _ e m.fresh
 
 -- ---- "rebuilds the whole chain"
-module _ (file : List ℕ) {h : Homing} {b exit : List Float} {v : Visited} (size : length b ≡ 1536) (fresh : state_of h b ≡ guide.new)
-    (asked : asks_file file ≡ 0) (made : Makes (step slots slots (slot file) (new_rebuild (recovered file))).made h b v exit) where
-  held : crumbs v.homing.trail.len exit ≡ held_after file
+module _ (file : List ℕ) {h n : Homing} {b exit : List Float} {r : Rebuild} (size : length b ≡ 1536) (fresh : state_of h b ≡ guide.new)
+    (asked : asks_file file ≡ 0) (made : Makes (step slots slots (slot file) (new_rebuild (recovered file))).made h b r n exit) where
+  held : crumbs n.trail.len exit ≡ held_after file
   unfolding held_after rebuilt track
   held =
       ap (λ (s : State). s.track.crumbs) made.same
@@ -63,11 +71,10 @@ module _ (file : List ℕ) {h : Homing} {b exit : List Float} {v : Visited} (siz
       (state_of h b)).state.track.crumbs) size
       ∙ ap (λ (s : State). (effect (step slots slots (slot file) (new_rebuild (recovered file))).made 512 s).state.track.crumbs) fresh
 
-  pub retold-rebuilt : rebuilt_text (crumbs v.homing.trail.len exit) v.rebuild.clock_ms (is_decided v.rebuild.stage)
-      ≡ retold file
+  pub retold-rebuilt : rebuilt_text (crumbs n.trail.len exit) r.clock_ms (is_decided r.stage) ≡ retold file
   unfolding retold rebuilt
   retold-rebuilt =
-      ap (λ (l : List Crumb). rebuilt_text l v.rebuild.clock_ms (is_decided v.rebuild.stage)) held
+      ap (λ (l : List Crumb). rebuilt_text l r.clock_ms (is_decided r.stage)) held
       ∙ ap (λ r. rebuilt_text (held_after file) r.clock_ms (is_decided r.stage)) made.rebuilt
       ∙ sym (picked _ _ (eqb (asks_file file) 0) (eq-eqb (asks_file file) 0 asked))
 
@@ -90,60 +97,49 @@ module _ {A : Type 0} (n : ℕ) (x : A) where
       by false t = let f : ◌≡◌ {A = Answer A} (refused k) (refused n) = rw t at e in (eqb-false n 0 t, cc)
 
 -- ---- the step of a new guide
-module _ (file : List ℕ) {h : Homing} {r : Rebuild} {b exit : List Float} {v : Stepped} (size : length b ≡ 1536)
-    (fresh : state_of h b ≡ guide.new)
-    (begun : r ≡ new_rebuild (recovered file)) (done : Steps slots slots file r h b v exit) where
-  asked : asks_step (length b) file (state_of h b) ≡ asks_file file
-  unfolding asks_step
-  asked = rw (size, fresh, new-taken)
+step-asked : (file : List ℕ) (h : Homing) (b : List Float) → length b ≡ 1536 → state_of h b ≡ guide.new
+    → asks_step (length b) file (state_of h b) ≡ asks_file file
+unfolding asks_step
+step-asked file h b size fresh = rw (size, fresh, new-taken)
 
-  answered : says_verdict v.answer ≡ answer (asks_file file) (step slots slots (slot file) r).answer
-  answered = done.answered ∙ ap (λ (n : ℕ). answer n (step slots slots (slot file) r).answer) asked
+module _ (file : List ℕ) {h n : Homing} {r x : Rebuild} {b exit : List Float} (size : length b ≡ 1536)
+    (fresh : state_of h b ≡ guide.new) (begun : r ≡ new_rebuild (recovered file)) where
+  same-answer : {a : Result Bool Refusal} → Steps slots slots file r h b x n a exit
+      → says a ≡ answer (asks_file file) (step slots slots (slot file) r).answer
+  same-answer done = done.answered ∙ ap (λ (n : ℕ). answer n (step slots slots (slot file) r).answer) (step-asked file h b size fresh)
 
-  made : asks_file file ≡ 0 → Makes (step slots slots (slot file) (new_rebuild (recovered file))).made h b
-      (record { rebuild = v.rebuild; homing = v.homing }) exit
-  made e = rw begun at (done.taken (asked ∙ e))
+  pub rebuilds-chain : {d : Bool} → Steps slots slots file r h b x n (Ok d) exit
+      → Rebuilds file (Ok (record { rebuild = x; len = n.trail.len })) exit
+  unfolding told
+  rebuilds-chain {d = d} done =
+      let z : asks_file file ≡ 0 = not-refused _ _ d (same-answer done) in
+      let m : Makes (step slots slots (slot file) (new_rebuild (recovered file))).made h b x n exit =
+      rw begun at (done.taken (step-asked file h b size fresh ∙ z)) in
+      let long : length exit ≡ 1536 = m.size ∙ size in
+      let held : n.trail.len ≤ capacity (length exit) = m.fit.held in
+      record { tells = retold-rebuilt file size fresh z m; held = omega arith; size = long }
 
-  tells : told v.answer v.rebuild (crumbs v.homing.trail.len exit) ≡ retold file
-  unfolding told says_verdict
-  tells = by v.answer answered
-    where
-      by : (a : Verdict) → says_verdict a ≡ answer (asks_file file) (step slots slots (slot file) r).answer
-          → told a v.rebuild (crumbs v.homing.trail.len exit) ≡ retold file
-      by (verdict.Is d) e = let z : asks_file file ≡ 0 = not-refused _ _ d e in retold-rebuilt file size fresh z (made z)
-      by (verdict.Refused k) e =
-          let z : (asks_file file ≢ 0) × (k ≡ asks_file file) = refused-by _ _ k e in ap refused_text z.1 ∙ sym (retold-refused file z.0)
-
-  held-room : v.homing.trail.len ≤ 512
-  held-room = by (eqb (asks_file file) 0) refl
-    where
-      by : (t : Bool) → eqb (asks_file file) 0 ≡ t → v.homing.trail.len ≤ 512
-      by true t =
-          let m = made (eqb-true (asks_file file) 0 t) in
-          let n : length exit ≡ 1536 = m.size ∙ size in
-          let held : v.homing.trail.len ≤ capacity (length exit) = m.fit.held in omega arith
-      by false t =
-          let same : v.homing ≡ h = (done.refused (λ z. eqb-false (asks_file file) 0 t (sym asked ∙ z))).1 in
-          let none : v.homing.trail.len ≡ 0 = ap (λ (g : Homing). g.trail.len) same ∙ new-len h b fresh in omega arith
-
-  pub rebuilds : Rebuilds file v exit
-  rebuilds = record { tells = tells; held = held-room; size = done.size ∙ size }
+  pub rebuilds-no-chain : {q : Refusal} → Steps slots slots file r h b x n (Err q) exit → Rebuilds file (Err q) exit
+  unfolding told
+  rebuilds-no-chain {q = q} done =
+      let z : (asks_file file ≢ 0) × (number q ≡ asks_file file) = refused-by _ _ (number q) (same-answer done) in
+      record { tells = ap refused_text z.1 ∙ sym (retold-refused file z.0); held = tt; size = done.size ∙ size }
 
 -- ---- what is told
-pub tells-rebuilt : {a : Verdict} {d is : Bool} (r : Rebuild) (l : List Crumb) {e f : List ℕ} {k : ℕ} → a ≡ verdict.Is d
-    → is ≡ is_decided r.stage
-    → WritesWhole (rebuilt_text l r.clock_ms is) e f k → WritesWhole (told a r l) e f k
-unfolding told
-tells-rebuilt r l h decided t = rw (h, ← decided) t
+module _ {chain : Result Rebuilt Refusal} (b : List Float) {e f : List ℕ} {k : ℕ} where
+  pub tells-rebuilt : {x : Rebuilt} {is : Bool} → chain ≡ Ok x → is ≡ is_decided x.rebuild.stage
+      → WritesWhole (rebuilt_text (crumbs x.len b) x.rebuild.clock_ms is) e f k → WritesWhole (told chain b) e f k
+  unfolding told
+  tells-rebuilt h decided t = rw (h, ← decided) t
 
-pub tells-refused : {a : Verdict} {number : ℕ} (r : Rebuild) (l : List Crumb) {e f : List ℕ} {k : ℕ} → a ≡ verdict.Refused number
-    → WritesWhole (refused_text number) e f k → WritesWhole (told a r l) e f k
-unfolding told
-tells-refused r l h t = rw h t
+  pub tells-refused : {q : Refusal} {n : ℕ} → chain ≡ Err q → n ≡ number q → WritesWhole (refused_text n) e f k
+      → WritesWhole (told chain b) e f k
+  unfolding told
+  tells-refused h same t = rw h (rw same at t)
 
-pub retells : {file : List ℕ} {v : Stepped} {b : List Float} {e f : List ℕ} {k : ℕ} → Rebuilds file v b
-    → WritesWhole (told v.answer v.rebuild (crumbs v.homing.trail.len b)) e f k → Retells file e f k
-retells {file} {v} {b} {e} {f} {k} m t = from (rw m.tells at t)
+pub retells : {file : List ℕ} {chain : Result Rebuilt Refusal} {b : List Float} {e f : List ℕ} {k : ℕ} → Rebuilds file chain b
+    → WritesWhole (told chain b) e f k → Retells file e f k
+retells {file} {chain} {b} {e} {f} {k} m t = from (rw m.tells at t)
   where
     from : WritesWhole (retold file) e f k → Retells file e f k
     from t =

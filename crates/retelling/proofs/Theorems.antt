@@ -1,25 +1,25 @@
 -- Every slot of a chain is looked at, and a file that is too long is refused however it is cut. Assumes nothing.
 use Prim.Native.Nat.{ℕ, zero, suc, ◌/◌, ◌%◌, ◌≤◌, ◌<◌}
 use mathlib.Core.Path.{◌≡◌, refl, sym, ap, ◌∙◌}
-use mathlib.Core.Bool.{Bool, true, false, ◌&&◌, true≢false, false≢true, and-false}
+use mathlib.Core.Bool.{Bool, true, false, ◌&&◌, and-false}
 use mathlib.Core.Logic.{◌≢◌}
 use Rattle.std.specs.Prelude.{None}
 use mathlib.Core.List.{List, [], ◌∷◌, map}
 use native.Mathlib.Omega.{arith}
 use native.Mathlib.Nat.{le_refl}
-use borrow.Author.Tests.{eq-eqb, ne_eqb, lt-leb, leb-true, leb-false}
+use borrow.Author.Tests.{ne_eqb, leb-true, leb-false}
 use lib.Dec.{eqb, leb}
-use lib.ListN.{length, take, get_elem?, length-take}
+use lib.ListN.{length, take, length-take}
+use Rattle.std.specs.List.{slice_get}
 use lib.Seq.{take_all}
 use Rattle.ride_log.specs.Entry.{next_of, record_count, records_from, chain, entry_at, entries, slot}
-use Rattle.ride_log.specs.Questions.{question6, asks_chain, asks_records, asks_file}
-use Rattle.ride_log.specs.Theorems.{Accepted}
+use Rattle.ride_log.specs.Questions.{question6, asks_chain, asks_file}
 use Rattle.ride_log.proofs.file_questions.Theorems.{accepted}
 use Rattle.rebuild.specs.Rebuild.{step}
 use Rattle.rebuild.proofs.Theorems.{caught-up}
 use Rattle.retelling.specs.Text.{refused_text}
-use Rattle.retelling.proofs.lines.Numbers.{picked, passed-by}
-use Rattle.retelling.specs.Retold.{slots, rebuilt, retold, Whole, EveryWhole, read_most, EveryCut}
+use Rattle.retelling.proofs.lines.Numbers.{passed-by}
+use Rattle.retelling.specs.Retold.{slots, rebuilt, retold, EveryWhole, read_most, EveryCut}
 
 -- ---- "On refusal it prints only `refused N`."
 pub retold-refused : (file : List ℕ) → asks_file file ≢ 0 → retold file ≡ refused_text (asks_file file)
@@ -63,7 +63,7 @@ walk-within (suc n) f zero = omega arith
 walk-within (suc n) f (suc r) = let again : length (records_from n f (next_of f (suc r))) ≤ n = walk-within n f (next_of f (suc r)) in
     omega arith
 
-past : {A : Type 0} (g : ℕ → A) (l : List ℕ) (k : ℕ) → length l ≤ k → get_elem? (map g l) k ≡ None
+past : {A : Type 0} (g : ℕ → A) (l : List ℕ) (k : ℕ) → length l ≤ k → slice_get (map g l) k ≡ None
 past g [] k h = refl
 past g (x ∷ l) zero h = absurd (omega arith)
 past g (x ∷ l) (suc k) h = past g l k (omega arith)

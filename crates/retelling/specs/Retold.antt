@@ -1,6 +1,6 @@
 -- What `retell` prints of a chain file. Document 01, "Entry": "reads it on standard input, checks all, rebuilds the whole chain with 512
 -- crumbs without a settle".
-use Rattle.std.specs.Prelude.{ℕ, ◌≤◌, ◌≡◌, Bool, true, false, List, eqb, length, take, drop, None}
+use Rattle.std.specs.Prelude.{ℕ, ◌≤◌, ◌≡◌, true, false, List, eqb, length, take, drop, None}
 use Rattle.crumbs.specs.declared.Crumb.{Crumb}
 use Rattle.calls.specs.Line as guide
 use Rattle.ride_log.specs.Entry.{recovered, slot}

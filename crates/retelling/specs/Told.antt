@@ -1,22 +1,20 @@
--- For the functions inside: what is told of a rebuild that was answered, in the functions' own values.
-use Rattle.std.specs.Prelude.{ℕ, ◌≤◌, ◌≡◌, List, length, Float}
-use Rattle.crumbs.specs.declared.Crumb.{Crumb}
+-- For the functions inside: what is told of a chain, in the functions' own values.
+use Rattle.std.specs.Prelude.{ℕ, ◌≤◌, ◌≡◌, List, length, Float, Result, Ok, Err, IfOk}
+use Rattle.refusal.specs.declared.Refusal.{Refusal}
+use Rattle.refusal.specs.Refusal.{number}
 use Rattle.crumbs.specs.Crumb.{crumbs}
-use Rattle.answers.specs.declared.Verdict.{Verdict}
-use Rattle.answers.specs.declared.Verdict.TheVariants as verdict
-use Rattle.rebuild.specs.declared.Rebuild.{Rebuild}
 use Rattle.rebuild.specs.Rebuild.{is_decided}
-use Rattle.restart.specs.declared.Stepped.{Stepped}
+use Rattle.retelling.specs.declared.Rebuilt.{Rebuilt}
 use Rattle.retelling.specs.Text.{rebuilt_text, refused_text}
 use Rattle.retelling.specs.Retold.{retold}
 
--- the rebuild and the crumbs held after it, or "only `refused N`"
-unfoldable pub told : Verdict → Rebuild → List Crumb → List ℕ
-told (verdict.Is done) r held = rebuilt_text held r.clock_ms (is_decided r.stage)
-told (verdict.Refused number) r held = refused_text number
+-- the rebuild and the crumbs held after it in the crumb buffer b, or "only `refused N`"
+unfoldable pub told : Result Rebuilt Refusal → List Float → List ℕ
+told (Ok x) b = rebuilt_text (crumbs x.len b) x.rebuild.clock_ms (is_decided x.rebuild.stage)
+told (Err q) b = refused_text (number q)
 
--- A new guide's step of the whole chain of the file gave v, and left the crumb buffer b.
-pub record Rebuilds (file : List ℕ) (v : Stepped) (b : List Float) : Type 0 where
-  pub tells : told v.answer v.rebuild (crumbs v.homing.trail.len b) ≡ retold file
-  pub held : v.homing.trail.len ≤ 512
+-- A new guide's step of the whole chain of the file gave `chain`, and left the crumb buffer b.
+pub record Rebuilds (file : List ℕ) (chain : Result Rebuilt Refusal) (b : List Float) : Type 0 where
+  pub tells : told chain b ≡ retold file
+  pub held : IfOk chain (λ x. x.len ≤ 512)
   pub size : length b ≡ 1536

@@ -3,15 +3,13 @@
 
 mod lines;
 
-ghost use Rattle.std.specs.Prelude.{◌≡◌, ◌≤◌, length};
-ghost use Rattle.crumbs.specs.Crumb.{crumbs};
+ghost use Rattle.std.specs.Prelude.{◌≡◌, ◌≤◌, length, IfOk};
 ghost use Rattle.retelling.specs.Writing.{WritesWhole};
 ghost use Rattle.retelling.specs.Retold.{Retells};
 ghost use Rattle.retelling.specs.Told.{told, Rebuilds};
 
-use answers::Verdict;
 use rebuild::Rebuild;
-use restart::Stepped;
+use refusal::Refusal;
 
 // The numbers of 512 crumbs.
 const NUMBERS: usize = crumbs::STRIDE * 512;
@@ -19,30 +17,40 @@ const NUMBERS: usize = crumbs::STRIDE * 512;
 // As many slots as a file can have records.
 const SLOTS: usize = 682;
 
-// What is told of a rebuild: where it was not refused, how it stands and the first `len` crumbs of the
-// buffer.
-fn put_told(text: &mut [u8], answer: Verdict, r: Rebuild, len: usize, buf: &[f32]) -> usize
-    requires { (length buf.now ≡ 1536) × (len ≤ 512) }
-    ensures { WritesWhole (told answer r (crumbs len buf.now)) text.old text.new result }
+// A chain that was not refused: the rebuild at its end, and how many crumbs are held.
+#[derive(Clone, Copy)]
+struct Rebuilt {
+    rebuild: Rebuild,
+    len: usize,
+}
+
+// What is told of a chain, whose crumbs stand in front of the buffer.
+fn put_told(text: &mut [u8], chain: Result<Rebuilt, Refusal>, buf: &[f32]) -> usize
+    requires { (length buf.now ≡ 1536) × IfOk chain (λ x. x.len ≤ 512) }
+    ensures { WritesWhole (told chain buf.now) text.old text.new result }
 {
-    match answer {
-        Verdict::Is(_) => {
-            let stage = r.stage;
-            lines::put_rebuilt(text, len, r.clock_ms, rebuild::is_decided(stage), buf)
+    match chain {
+        Ok(x) => {
+            let decided = rebuild::is_decided(x.rebuild.stage);
+            lines::put_rebuilt(text, x.len, x.rebuild.clock_ms, decided, buf)
         }
-        Verdict::Refused(number) => lines::put_refused(text, number),
+        Err(refusal) => lines::put_refused(text, refusal.number()),
     }
 }
 
 // The whole chain of the file, rebuilt into the crumbs of a new guide.
-fn rebuild_chain(file: &[u8], crumbs: &mut [f32]) -> Stepped
+fn rebuild_chain(file: &[u8], crumbs: &mut [f32]) -> Result<Rebuilt, Refusal>
     requires { length crumbs.old ≡ 1536 }
     ensures { Rebuilds file.now result crumbs.new }
 {
-    let fresh = homing::new(crumbs);
-    let h = fresh.homing;
-    let r = restart::new(ride_log::recovered(file), SLOTS);
-    restart::step(r, h, crumbs, file, SLOTS, SLOTS)
+    // No question refuses a buffer for 512 crumbs.
+    let mut h = homing::new(crumbs).unwrap();
+    let mut rebuild = restart::new(ride_log::recovered(file), SLOTS);
+    restart::step(&mut rebuild, &mut h, crumbs, file, SLOTS, SLOTS)?;
+    Ok(Rebuilt {
+        rebuild,
+        len: h.trail.len,
+    })
 }
 
 // Write what the program prints of a chain file to the front of the text, and answer how many bytes
@@ -51,9 +59,6 @@ pub fn retell(file: &[u8], text: &mut [u8]) -> usize
     ensures { Retells file.now text.old text.new result }
 {
     let mut crumbs = [0.0; NUMBERS];
-    let done = rebuild_chain(file, &mut crumbs);
-    let answer = done.answer;
-    let rebuild = done.rebuild;
-    let len = done.homing.trail.len;
-    put_told(text, answer, rebuild, len, &crumbs)
+    let chain = rebuild_chain(file, &mut crumbs);
+    put_told(text, chain, &crumbs)
 }

@@ -11,6 +11,7 @@ use crumbs::Crumb;
 
 // ---- bytes and words
 
+#[tactic(auto, using(crate::proofs::lines::Writing::writes_byte, crate::proofs::lines::Writing::writes_full))]
 fn put_byte(text: &mut [u8], at: usize, b: u8) -> usize
     ensures { Writes (b ∷ []) text.old at text.new result }
 {
@@ -25,10 +26,8 @@ fn put_word(text: &mut [u8], at: usize, word: &[u8]) -> usize
     ensures { Writes word.now text.old at text.new result }
 {
     let mut next = at;
-    let mut i = 0;
-    while i < word.len() {
-        next = put_byte(text, next, word[i]);
-        i += 1;
+    for b in word {
+        next = put_byte(text, next, *b);
     }
     next
 }
@@ -43,6 +42,7 @@ fn put_decimal(text: &mut [u8], at: usize, n: u64) -> usize
     put_word(text, at, &digits[..count])
 }
 
+#[tactic(auto, unfolding(crate::specs::Text::capital))]
 fn capital(d: u32) -> u8
     requires { d < 16 }
     ensures { result ≡ capital_of d }
@@ -64,6 +64,7 @@ fn put_capitals(text: &mut [u8], at: usize, count: u32, n: u32) -> usize
     put_byte(text, next, capital(n % 16))
 }
 
+#[tactic(auto, unfolding(crate::specs::Text::pattern))]
 fn put_pattern(text: &mut [u8], at: usize, x: f32) -> usize
     ensures { Writes (pattern x) text.old at text.new result }
 {
@@ -89,14 +90,13 @@ fn put_crumbs(text: &mut [u8], at: usize, buf: &[f32], len: usize) -> usize
     ensures { Writes (crumb_lines (crumbs len buf.now)) text.old at text.new result }
 {
     let mut next = at;
-    let mut i = 0;
-    while i < len {
+    for i in 0..len {
         next = put_crumb(text, next, crumbs::crumb_at(buf, i));
-        i += 1;
     }
     next
 }
 
+#[tactic(auto, unfolding(crate::specs::Text::stage_text))]
 fn put_stage(text: &mut [u8], at: usize, decided: bool) -> usize
     ensures { Writes (stage_text decided) text.old at text.new result }
 {
@@ -122,7 +122,7 @@ pub fn put_refused(text: &mut [u8], number: u8) -> usize
     ensures { WritesWhole (refused_text number) text.old text.new result }
 {
     let at = put_word(text, 0, b"refused ");
-    let at = put_decimal(text, at, number as u64);
+    let at = put_decimal(text, at, u64::from(number));
     put_byte(text, at, b'\n')
 }
 

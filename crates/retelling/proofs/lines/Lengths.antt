@@ -1,8 +1,8 @@
 -- How long a text is. Assumes nothing.
-use Prim.Native.Nat.{ℕ, zero, suc, ◌+◌, ◌*◌, ◌/◌, ◌%◌, ◌^◌, ◌≤◌, ◌<◌}
-use mathlib.Core.Path.{◌≡◌, refl, sym, ap, ◌∙◌}
+use Prim.Native.Nat.{ℕ, zero, suc, ◌*◌, ◌/◌, ◌^◌, ◌≤◌, ◌<◌}
+use mathlib.Core.Path.{◌≡◌, refl}
 use mathlib.Core.Bool.{Bool, true, false}
-use mathlib.Core.List.{List, [], ◌∷◌, ◌++◌}
+use mathlib.Core.List.{List, [], ◌∷◌}
 use native.Mathlib.Omega.{arith}
 use native.Mathlib.Nat.{pow-suc}
 use borrow.Author.Tests.{ltb-true, ltb-false}
@@ -12,8 +12,8 @@ use lib.Ieee.{Float}
 use Rattle.crumbs.specs.declared.Crumb.{Crumb}
 use Rattle.crumbs.specs.Crumb.{crumbs}
 use Rattle.crumbs.proofs.Crumbs.{length-crumbs}
-use Rattle.retelling.specs.Text.{numeral, capital, decimal, capitals, pattern, space, end, crumb_line, crumb_lines, crumbs_word}
-use Rattle.retelling.specs.Text.{clock_word, stage_word, stage_text, first_line, rebuilt_text, refused_text}
+use Rattle.retelling.specs.Text.{decimal, capitals, pattern, crumb_line, crumb_lines}
+use Rattle.retelling.specs.Text.{stage_text, first_line, rebuilt_text, refused_text}
 use Rattle.retelling.specs.Writing.{Writes, text_most, WritesWhole}
 use Rattle.retelling.proofs.lines.Numbers.{decimal-one, decimal-more, writes-rebuilt}
 

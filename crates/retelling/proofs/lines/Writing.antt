@@ -6,7 +6,7 @@ use native.Mathlib.Omega.{arith}
 use native.Mathlib.Nat.{le_refl, le_trans}
 use native.Mathlib.Numerals.{add-one}
 use lib.ListN.{length, take, drop, set, get_or, length-set, length-take, length-append}
-use lib.Seq.{take_all, take-append_seam, take-suc, take-suc-set, drop-set-lt, drop-drop, length-take-le}
+use lib.Seq.{take_all, take-append_seam, take-suc, take-suc-set, drop-set-lt, drop-drop}
 use Rattle.retelling.specs.Writing.{Writes}
 
 -- what is cut off is not missed where it would be cut off again
@@ -47,8 +47,8 @@ writes_byte e at b h =
     }
 
 -- no room is left
-pub writes-full : (l e : List ℕ) (at : ℕ) → length e ≤ at → Writes l e at e at
-writes-full l e at h =
+pub writes_full : (l e : List ℕ) (at : ℕ) → length e ≤ at → Writes l e at e at
+writes_full l e at h =
     record {
       text = take_all at e h ∙ sym (ap (λ (s : List ℕ). take (length e) (s ++ l)) (take_all at e h) ∙ take-append_seam e l);
       size = refl;

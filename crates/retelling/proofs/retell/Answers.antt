@@ -4,4 +4,4 @@ use Rattle.retelling.proofs.retell.Goals as goal
 
 pub returns : goal.returns
 returns c =
-    retells c.rebuild_chain-done.ensures c.put_told.ensures
+    retells c.rebuild_chain-chain.ensures c.put_told.ensures

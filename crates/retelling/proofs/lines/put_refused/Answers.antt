@@ -8,6 +8,6 @@ use Rattle.retelling.proofs.lines.put_refused.Goals as goal
 pub returns : goal.returns
 unfolding refused_text
 returns c =
-    tells-number _ (omega arith)
+    rw (← c.from.ensures) (tells-number _ (omega arith)
     (writes_then (writes_then c.put_word-at.ensures
-    c.put_decimal-at.ensures) c.put_byte.ensures)
+    c.put_decimal-at.ensures) c.put_byte.ensures))
