@@ -14,7 +14,6 @@ use crumbs::Crumb;
 use std::alloc::Global;
 use std::io;
 use std::io::{BufReader, Read};
-use thin::Thinned;
 
 // The most crumbs that a buffer has room for.
 const MOST: usize = 4096;
@@ -77,22 +76,19 @@ fn agrees(input: &mut impl Read, buf: &mut [f32], len: usize, tolerance: f32) ->
     if !fill(input, buf, len)? {
         return Ok(false);
     }
-    let Thinned::Left {
-        len: left,
-        tolerance: last,
-        passes: made,
-    } = thin::thin(buf, len, tolerance)
-    else {
+    let Ok(left) = thin::thin(buf, len, tolerance) else {
         return Ok(false);
     };
     let Some(words) = words::<_, 3>(input)? else {
         return Ok(false);
     };
     let [len, tolerance, passes] = words;
-    if (len as usize, tolerance, passes as usize) != (left, binary32::pattern(last), made) {
+    if (len as usize, tolerance, passes as usize)
+        != (left.len, binary32::pattern(left.tolerance), left.passes)
+    {
         return Ok(false);
     }
-    holds(input, buf, left)
+    holds(input, buf, left.len)
 }
 
 // Whether the next case agrees. None: there is none.

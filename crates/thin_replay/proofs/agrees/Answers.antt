@@ -5,5 +5,5 @@ use Rattle.thin_replay.proofs.agrees.Goals as goal
 
 pub holds-requires : goal.holds-requires
 holds-requires g c =
-    let l = left_is c.thin.ensures c.in-Left.is in
+    let l = left_is c.thin.ensures c.in-Ok.is in
     omega (arith, l.fewer, c.requires, c.thin.ensures.size)
