@@ -52,7 +52,8 @@ pub fn cosf(r: f32) -> f32
 fn quotient(a: f32, b: f32) -> f32
     ensures { result ≡ quotient a b }
 {
-    if a > b { b / a } else { a / b }
+    let (smaller, larger) = if a > b { (b, a) } else { (a, b) };
+    smaller / larger
 }
 
 // The angle whose tangent is q, for a q from 0 to 1. Past π/8 it is π/4 plus the angle whose
