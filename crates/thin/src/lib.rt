@@ -4,6 +4,7 @@
 // other crumb.
 #![tactic(auto)]
 
+mod bounds;
 mod rows;
 
 ghost use Rattle.std.specs.Prelude.{◌≡◌, suc, ◌+◌, ◌<◌, ◌≤◌, length, drop, not, Float};
@@ -12,11 +13,8 @@ ghost use Rattle.thin.specs.Crumb.{reach};
 ghost use Rattle.thin.specs.Questions.{question9};
 ghost use Rattle.thin.specs.Promises.{ThinDone};
 ghost use Rattle.thin.specs.Inner.{step_by, OneByOne, Passed};
-ghost use Rattle.std.specs.Float.Ieee.{le};
-ghost use Rattle.plane.specs.Plane.{off_segment};
-ghost use Rattle.thin.specs.Bounds.{Under, Over};
 
-use plane::{Point, squares};
+use bounds::Bounds;
 use refusal::Refusal;
 
 // A kept crumb replaces at most this many before the next.
@@ -24,72 +22,21 @@ const SPAN: usize = 256;
 // Passes that measure, before every other crumb goes.
 const ROUNDS: usize = 17;
 
-// Bounds on squares, found once a pass: the root of `lo` is at most the tolerance, that of `hi` is above it. One that is
-// missing is a NaN, to which no comparison says yes.
-#[derive(Clone, Copy)]
-struct Bounds {
-    lo: f32,
-    hi: f32,
-}
-
-fn under(x: f32, tolerance: f32) -> f32
-    ensures { Under tolerance result }
-{
-    if binary32::sqrtf(x) <= tolerance {
-        return x;
-    }
-    f32::NAN
-}
-
-fn over(x: f32, tolerance: f32) -> f32
-    ensures { Over tolerance result }
-{
-    if binary32::sqrtf(x) > tolerance {
-        return x;
-    }
-    f32::NAN
-}
-
-fn found(tolerance: f32) -> Bounds
-    ensures { (Under tolerance result.lo) × (Over tolerance result.hi) }
-{
-    let middle = tolerance * tolerance;
-    let lo = under(middle * 0.999999, tolerance);
-    let hi = over(middle * 1.000001, tolerance);
-    Bounds { lo, hi }
-}
-
-// Whether `p` strays from the segment a-b; a NaN does. A root is taken only where the bounds do not say.
-fn strays(p: Point, a: Point, b: Point, tolerance: f32, lo: f32, hi: f32) -> bool
-    requires { (Under tolerance lo) × (Over tolerance hi) }
-    ensures { result ≡ not (le (off_segment p a b) tolerance) }
-{
-    let s = squares::off_square(p, a, b);
-    if s <= lo {
-        return false;
-    }
-    if hi <= s {
-        return true;
-    }
-    !(binary32::sqrtf(s) <= tolerance)
-}
-
 // The farthest crumb after `anchor`, at most `SPAN` on, whose chord from `anchor` passes within
-// `tolerance` of every crumb between. Those that are surely within it are passed over by fours.
-fn reach(buf: &[f32], len: usize, anchor: usize, tolerance: f32, lo: f32, hi: f32) -> usize
-    requires anchor_lt_len { (anchor < len) × (len ≤ capacity (length buf.now)) }
-    requires under { (Under tolerance lo) × (Over tolerance hi) }
-    ensures { result ≡ anchor + reach tolerance (crumb_at buf.now anchor)
+// the tolerance of every crumb between. Those that are surely within it are passed over by fours.
+fn reach(buf: &[f32], len: usize, anchor: usize, bounds: Bounds) -> usize
+    requires { (anchor < len) × (len ≤ capacity (length buf.now)) }
+    ensures { result ≡ anchor + reach bounds.tolerance (crumb_at buf.now anchor)
         (drop (suc anchor) (crumbs len buf.now)) }
 {
     let a = crumbs::point_at(buf, anchor);
     let mut end = anchor + 2;
     'ends: while end < len && end - anchor <= SPAN {
         let b = crumbs::point_at(buf, end);
-        let first = rows::near_from(buf, anchor + 1, end, a, b, lo);
+        let first = rows::near_from(buf, anchor + 1, end, a, b, bounds.lo);
         for j in first..end {
             let p = crumbs::point_at(buf, j);
-            if strays(p, a, b, tolerance, lo, hi) {
+            if bounds.strays(p, a, b) {
                 break 'ends;
             }
         }
@@ -99,35 +46,26 @@ fn reach(buf: &[f32], len: usize, anchor: usize, tolerance: f32, lo: f32, hi: f3
 }
 
 // Where a pass goes on from `anchor`.
-fn next(
-    buf: &[f32],
-    len: usize,
-    anchor: usize,
-    tolerance: f32,
-    lo: f32,
-    hi: f32,
-    halve: bool,
-) -> usize
-    requires anchor_bound { (anchor + 2 < len) × (len ≤ capacity (length buf.now)) }
-    requires under { (Under tolerance lo) × (Over tolerance hi) }
-    ensures { result ≡ anchor + step_by halve tolerance (crumb_at buf.now anchor)
+fn next(buf: &[f32], len: usize, anchor: usize, bounds: Bounds, halve: bool) -> usize
+    requires { (anchor + 2 < len) × (len ≤ capacity (length buf.now)) }
+    ensures { result ≡ anchor + step_by halve bounds.tolerance (crumb_at buf.now anchor)
         (drop (suc anchor) (crumbs len buf.now)) }
 {
     if halve {
         return anchor + 2;
     }
-    reach(buf, len, anchor, tolerance, lo, hi)
+    reach(buf, len, anchor, bounds)
 }
 
 // Where a pass begins to look for crumbs to drop: it goes on by one from each crumb before.
-fn start(buf: &[f32], len: usize, hi: f32, halve: bool) -> usize
+fn start(buf: &[f32], len: usize, bounds: Bounds, halve: bool) -> usize
     requires { (2 ≤ len) × (len ≤ capacity (length buf.now)) }
-    ensures { (t : Float) → Over t hi → OneByOne halve t len buf.now result }
+    ensures { OneByOne halve bounds.tolerance len buf.now result }
 {
     if halve {
         return 0;
     }
-    rows::far_from_start(buf, len, hi)
+    rows::far_from_start(buf, len, bounds.hi)
 }
 
 // One pass over the first `len` crumbs, compacted in place; returns how many are kept. Each kept
@@ -139,13 +77,11 @@ fn pass(buf: &mut [f32], len: usize, tolerance: f32, halve: bool) -> usize
     if len <= 2 {
         return len;
     }
-    let bound = found(tolerance);
-    let lo = bound.lo;
-    let hi = bound.hi;
-    let mut anchor = start(buf, len, hi, halve);
+    let bounds = Bounds::new(tolerance);
+    let mut anchor = start(buf, len, bounds, halve);
     let mut kept = anchor + 1;
     while anchor + 1 < len - 1 {
-        anchor = next(buf, len, anchor, tolerance, lo, hi, halve);
+        anchor = next(buf, len, anchor, bounds, halve);
         let c = crumbs::crumb_at(buf, anchor);
         crumbs::put(buf, kept, c);
         kept += 1;

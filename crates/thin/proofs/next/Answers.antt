@@ -9,7 +9,7 @@ use Rattle.thin.proofs.next.Goals as goal
 pub returns-then-halve : goal.returns-then-halve
 returns-then-halve c =
     let a = c.args in
-    rw c.if-halve.true (ap (λ n. a.anchor + n) (sym (step-halving a.tolerance a.buf.now a.len a.anchor (omega arith))))
+    rw c.if-halve.true (ap (λ n. a.anchor + n) (sym (step-halving a.bounds.tolerance a.buf.now a.len a.anchor (omega arith))))
 
 pub returns : goal.returns
 unfolding step_by

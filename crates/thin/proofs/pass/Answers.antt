@@ -8,18 +8,15 @@ use Rattle.thin.proofs.pass.Goals as goal
 pub returns-then-len-le2 : goal.returns-then-len-le2
 returns-then-len-le2 c = passed-few _ (omega arith)
 
-pub found-bound-requires : goal.found-bound-requires
-found-bound-requires c = tt
-
 pub start-anchor-requires : goal.start-anchor-requires
 start-anchor-requires c = omega arith
 
 pub overflow_add-kept : goal.overflow_add-kept
-overflow_add-kept c = let s = c.start-anchor.ensures _ c.found-bound.ensures.1 in omega (arith, s.within)
+overflow_add-kept c = let s = c.start-anchor.ensures in omega (arith, s.within)
 
 pub loop-anchor-init : goal.loop-anchor-init
 loop-anchor-init c =
-    kept-along c.requires (c.start-anchor.ensures _ c.found-bound.ensures.1) _ (omega arith)
+    kept-along c.requires (c.start-anchor.ensures) _ (omega arith)
 
 pub overflow_add-anchor : goal.overflow_add-anchor
 overflow_add-anchor c = omega arith
@@ -28,7 +25,7 @@ pub overflow_sub-len : goal.overflow_sub-len
 overflow_sub-len c = omega arith
 
 pub next-anchor-requires : goal.next-anchor-requires
-next-anchor-requires c = record { anchor_bound = omega arith; under = c.found-bound.ensures }
+next-anchor-requires c = omega arith
 
 pub crumb_at-c-requires : goal.crumb_at-c-requires
 crumb_at-c-requires c =
@@ -58,7 +55,7 @@ pub shape_of-buf-then-anchor-len : goal.shape_of-buf-then-anchor-len
 shape_of-buf-then-anchor-len c = c.loop-anchor.invariant.size
 
 pub returns-then-anchor-len : goal.returns-then-anchor-len
-returns-then-anchor-len c = kept-end c.loop-anchor.invariant (omega arith)
+returns-then-anchor-len c = rw (← c.new-bounds.ensures) (kept-end c.loop-anchor.invariant (omega arith))
 
 pub overflow_sub-len-3 : goal.overflow_sub-len-3
 overflow_sub-len-3 c = omega arith
@@ -79,7 +76,8 @@ pub returns : goal.returns
 returns c =
     let no : c.loop-anchor.anchor ≡ c.args.len - 1 → ⊥ =
     c.if-anchor-len.false in
-    kept-end
+    rw (← c.new-bounds.ensures)
+    (kept-end
     (kept_put c.loop-anchor.invariant (omega arith) (next_last c.loop-anchor.invariant (omega arith)) c.put-2.ensures
     c.crumb_at-last.ensures)
-    (omega arith)
+    (omega arith))

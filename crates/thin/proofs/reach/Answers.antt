@@ -16,7 +16,7 @@ pub overflow_add-end : goal.overflow_add-end
 overflow_add-end c = omega arith
 
 pub ends-init : goal.ends-init
-ends-init c = ends-start c.requires.anchor_lt_len.0
+ends-init c = ends-start c.requires.0
 
 pub overflow_sub-end : goal.overflow_sub-end
 overflow_sub-end c = omega arith
@@ -30,13 +30,10 @@ near_from-first-requires c = omega arith
 pub loop-j-init : goal.loop-j-init
 loop-j-init c =
     between-near c.ends.invariant c.ends-test.true c.if-end-anchor-le-SPAN.true
-    c.requires.under.0
+    c.args.bounds.under
     c.point_at-a.ensures
     c.point_at-b.ensures
     c.near_from-first.ensures
-
-pub strays-requires : goal.strays-requires
-strays-requires c = c.requires.under
 
 pub overflow_step-j : goal.overflow_step-j
 overflow_step-j c = omega arith

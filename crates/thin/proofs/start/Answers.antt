@@ -4,7 +4,7 @@ use Rattle.thin.proofs.Rowing.{one_by_one}
 use Rattle.thin.proofs.start.Goals as goal
 
 pub returns-then-halve : goal.returns-then-halve
-returns-then-halve c = λ t o. record { within = omega (arith, c.requires); each = λ i h. absurd (omega arith) }
+returns-then-halve c = record { within = omega (arith, c.requires); each = λ i h. absurd (omega arith) }
 
 pub returns : goal.returns
-returns c = λ t o. one_by_one o c.if-halve.false c.far_from_start.ensures
+returns c = one_by_one c.args.bounds.over c.if-halve.false c.far_from_start.ensures
