@@ -1,18 +1,16 @@
 -- What each export of a rebuild promises: what the call of its name does, on the rebuild and the state that the slices hold.
-use Rattle.std.specs.Prelude.{ℕ, ◌≡◌, ◌≢◌, List, leb, length, Float, Option, Some, None}
+use Rattle.std.specs.Prelude.{ℕ, ◌≡◌, ◌≢◌, List, leb, length, Float, Option, Some, None, Result}
 use Rattle.state.specs.declared.Homing.{Homing}
 use Rattle.calls.specs.Questions.{unless}
-use Rattle.answers.specs.Answers.{says_verdict}
-use Rattle.homing.specs.Answers.{says_reply}
+use Rattle.refusal.specs.declared.Refusal.{Refusal}
+use Rattle.refusal.specs.Refusal.{asked}
 use Rattle.rebuild.specs.declared.Rebuild.{Rebuild}
 use Rattle.rebuild.specs.Rebuild.{new_rebuild, caught_up}
-use Rattle.restart.specs.declared.Stepped.{Stepped}
-use Rattle.restart.specs.declared.Settled.{Settled}
 use Rattle.restart.specs.Promises.{Steps, SettlesBreadcrumb}
 use Rattle.stored.specs.Stored.{stored}
 use Rattle.stored.specs.Rebuilt.{rebuild_count, stored_rebuild, StoresRebuild}
 use Rattle.stored.specs.Fields.{flag_of}
-use Rattle.door.specs.Through.{number_of, no_state, no_state_with, Leaves}
+use Rattle.door.specs.Through.{no_state, no_state_with, Leaves}
 use Rattle.door.specs.Answers.{AnsweredBy, flagged}
 
 -- ---- a rebuild's words
@@ -52,9 +50,11 @@ pub record OnBoth (unread : ℕ) (untouched : Type 0) (does : Rebuild → Homing
 -- `step` on the crumb buffer b, whose flag becomes `is`
 pub record StepDone (budget upper : ℕ) (file : List ℕ) (b : List Float) (was : ℕ) (s : Slices) (r : Rebuild) (h : Homing) (number : ℕ)
     (b' : List Float) (is : ℕ) (s' : Slices) : Type 0 where
-  pub made : AnsweredBy (λ c. Steps budget upper file r h b c b') (λ (c : Stepped). says_verdict c.answer) flagged number was is
-  pub rebuilt : LeavesRebuild number made.answer.rebuild s.rebuild s'.rebuild
-  pub state : Leaves number made.answer.homing s.words s.numbers s'.words s'.numbers
+  pub rebuild : Rebuild
+  pub homing : Homing
+  pub made : AnsweredBy (λ a. Steps budget upper file r h b rebuild homing a b') flagged number was is
+  pub rebuilt : LeavesRebuild number rebuild s.rebuild s'.rebuild
+  pub state : Leaves number homing s.words s.numbers s'.words s'.numbers
 
 -- `cittumay_rebuild_step`: question 1 comes before 10
 abbrev pub RebuildStep : ℕ → ℕ → List ℕ → List Float → ℕ → Slices → ℕ → List Float → ℕ → Slices → Type 0
@@ -64,11 +64,13 @@ RebuildStep budget upper file b was s number b' is s' =
 
 -- `settle` at the time t
 pub record SettleDone (t : Option ℕ) (s : Slices) (r : Rebuild) (h : Homing) (number : ℕ) (s' : Slices) : Type 0 where
-  pub call : Settled
-  pub promised : SettlesBreadcrumb t r h call
-  pub refusal : number ≡ number_of (says_reply call.answer)
-  pub rebuilt : LeavesRebuild number call.rebuild s.rebuild s'.rebuild
-  pub state : Leaves number call.homing s.words s.numbers s'.words s'.numbers
+  pub rebuild : Rebuild
+  pub homing : Homing
+  pub answer : Result (Unit {0}) Refusal
+  pub promised : SettlesBreadcrumb t r h rebuild homing answer
+  pub refusal : number ≡ asked answer
+  pub rebuilt : LeavesRebuild number rebuild s.rebuild s'.rebuild
+  pub state : Leaves number homing s.words s.numbers s'.words s'.numbers
 
 -- `cittumay_rebuild_settle`
 abbrev pub RebuildSettle : Option ℕ → Slices → ℕ → Slices → Type 0

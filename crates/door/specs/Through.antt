@@ -1,21 +1,16 @@
 -- What an export does with what it is lent: it does what the call does on the state it reads.
-use Rattle.std.specs.Prelude.{ℕ, ◌≡◌, ◌≢◌, Bool, not, List, eqb, Float, Some, None}
+use Rattle.std.specs.Prelude.{ℕ, ◌≡◌, ◌≢◌, Bool, not, List, eqb, Float, Some, None, Result, Ok, Err}
+use Rattle.refusal.specs.declared.Refusal.{Refusal}
 use Rattle.state.specs.declared.Homing.{Homing}
 use Rattle.calls.specs.Questions.{question1, unless, ◌or_else◌}
-use Rattle.calls.specs.Promises.{Answer, refused, gives}
 use Rattle.stored.specs.Stored.{stored, Stores}
 
 -- ---- answers as numbers
--- the question that refused a call, 0 where none did
-unfoldable pub number_of : {A : Type 0} → Answer A → ℕ
-number_of (gives a) = 0
-number_of (refused number) = number
-
 -- The values behind an export's `&mut` parameters: `write a` makes those of the answer a from those that came in, and a refusal leaves
 -- these.
-abbrev pub values_of : {A W : Type 0} → (A → W → W) → Answer A → W → W
-values_of write (refused number) was = was
-values_of write (gives a) was = write a was
+abbrev pub values_of : {A W : Type 0} → (A → W → W) → Result A Refusal → W → W
+values_of write (Err q) was = was
+values_of write (Ok a) was = write a was
 
 -- a flag that comes in: anything but 0 means yes
 unfoldable pub is_set : ℕ → Bool

@@ -2,50 +2,19 @@
 
 ghost use Rattle.std.specs.Prelude.{◌≡◌, ◌≤◌, length};
 ghost use Rattle.course.specs.Course.{fixes};
-ghost use Rattle.homing.specs.Answers.{says_reply, says_sight};
 ghost use Rattle.stored.specs.Stored.{word_count, number_count};
-ghost use Rattle.door.specs.Through.{number_of, values_of, Leaves};
+ghost use Rattle.door.specs.Through.{Leaves};
 ghost use Rattle.door.specs.Calls.{number_of_event, New, Reset, EndReplay, SetCourse, SetAutoFollow, Observe, Replay, SetFollowing};
 
 use crate::numbering;
 use crate::numbering::NO_STATE;
-use homing::{Changed, Sight};
 use plane::Fix;
 use state::{Event, Homing};
-
-// ---- answers as numbers
-
-fn number_of_sight(answer: Sight) -> u8
-    ensures { result ≡ number_of (says_sight answer) }
-{
-    match answer {
-        Sight::Event(_) => 0,
-        Sight::Refused(number) => number,
-    }
-}
 
 fn number_of_event(event: Event) -> u8
     ensures { result ≡ number_of_event event }
 {
-    match event {
-        Event::Nothing => 0,
-        Event::Following => 1,
-        Event::OffTrack => 2,
-        Event::OnTrack => 3,
-        Event::Dropped => 4,
-        Event::Arrived => 5,
-        Event::CourseEnd => 6,
-    }
-}
-
-// The event's number, or what was there where the call was refused.
-fn event_written(answer: Sight, was: u8) -> u8
-    ensures { result ≡ values_of (λ e _. number_of_event e) (says_sight answer) was }
-{
-    match answer {
-        Sight::Event(event) => number_of_event(event),
-        Sight::Refused(_) => was,
-    }
+    event as u8
 }
 
 // ---- the state kept
@@ -63,50 +32,44 @@ fn keep(number: u8, h: Homing, words: &mut [u64], numbers: &mut [f32]) -> u8
     0
 }
 
-fn keep_changed(c: Changed, words: &mut [u64], numbers: &mut [f32]) -> u8
-    requires { (word_count ≤ length words.old) × (number_count ≤ length numbers.old) }
-    ensures value { result ≡ number_of (says_reply c.answer) }
-    ensures leaves { Leaves result c.homing words.old numbers.old words.new numbers.new }
-{
-    let answer = c.answer;
-    keep(numbering::number_of_reply(answer), c.homing, words, numbers)
-}
-
 // ---- the guide made anew
 
 // A new guide, with a breadcrumb in `crumbs`.
 pub fn cittumay_new(words: &mut [u64], numbers: &mut [f32], crumbs: &[f32]) -> u8
     ensures { New crumbs.now words.old numbers.old result words.new numbers.new }
 {
-    let made = homing::new(crumbs);
-    if !stored::has_room(words, numbers) {
-        return numbering::no_state_with(crumbs.len());
+    match homing::new(crumbs) {
+        Ok(h) => {
+            if !stored::has_room(words, numbers) {
+                return NO_STATE;
+            }
+            stored::store(h, words, numbers);
+            0
+        }
+        Err(refusal) => refusal.number(),
     }
-    keep_changed(made, words, numbers)
 }
 
 // Forget the breadcrumb: a new ride starts where its first fix is.
 pub fn cittumay_reset(words: &mut [u64], numbers: &mut [f32]) -> u8
     ensures { Reset words.old numbers.old result words.new numbers.new }
 {
-    let read = stored::load(words, numbers);
-    if !read.held {
+    let Some(mut h) = stored::load(words, numbers) else {
         return NO_STATE;
-    }
-    let c = homing::reset(read.homing);
-    keep_changed(c, words, numbers)
+    };
+    let answer = homing::reset(&mut h);
+    keep(numbering::number_of(answer), h, words, numbers)
 }
 
 // Live fixes follow the replayed ones.
 pub fn cittumay_end_replay(words: &mut [u64], numbers: &mut [f32]) -> u8
     ensures { EndReplay words.old numbers.old result words.new numbers.new }
 {
-    let read = stored::load(words, numbers);
-    if !read.held {
+    let Some(mut h) = stored::load(words, numbers) else {
         return NO_STATE;
-    }
-    let c = homing::end_replay(read.homing);
-    keep_changed(c, words, numbers)
+    };
+    let answer = homing::end_replay(&mut h);
+    keep(numbering::number_of(answer), h, words, numbers)
 }
 
 // ---- the course
@@ -122,12 +85,11 @@ pub fn cittumay_set_course(
     ensures { SetCourse (fixes lats.now lons.now) line.old line.new words.old
         numbers.old result words.new numbers.new }
 {
-    let read = stored::load(words, numbers);
-    if !read.held {
+    let Some(mut h) = stored::load(words, numbers) else {
         return NO_STATE;
-    }
-    let c = homing::set_course(read.homing, line, lats, lons);
-    keep_changed(c, words, numbers)
+    };
+    let answer = homing::set_course(&mut h, line, lats, lons);
+    keep(numbering::number_of(answer), h, words, numbers)
 }
 
 // ---- a fix
@@ -144,14 +106,12 @@ fn observe_place(
     ensures { Observe line.now place now_ms crumbs.old event.old crumbs.new
         event.new words.old numbers.old result words.new numbers.new }
 {
-    let read = stored::load(words, numbers);
-    if !read.held {
+    let Some(mut h) = stored::load(words, numbers) else {
         return numbering::no_state_with(crumbs.len());
-    }
-    let o = homing::observe(read.homing, crumbs, line, place, now_ms);
-    let answer = o.answer;
-    *event = event_written(answer, *event);
-    keep(number_of_sight(answer), o.homing, words, numbers)
+    };
+    let answer = homing::observe(&mut h, crumbs, line, place, now_ms);
+    let number = numbering::put(answer.map(number_of_event), event);
+    keep(number, h, words, numbers)
 }
 
 // The ride's position. What it changed is written to `event`.
@@ -206,12 +166,11 @@ pub fn cittumay_replay(
     ensures { Replay (record { lat = lat; lon = lon }) at_ms crumbs.old crumbs.new words.old
         numbers.old result words.new numbers.new }
 {
-    let read = stored::load(words, numbers);
-    if !read.held {
+    let Some(mut h) = stored::load(words, numbers) else {
         return numbering::no_state_with(crumbs.len());
-    }
-    let c = homing::replay(read.homing, crumbs, Fix { lat, lon }, at_ms);
-    keep_changed(c, words, numbers)
+    };
+    let answer = homing::replay(&mut h, crumbs, Fix { lat, lon }, at_ms);
+    keep(numbering::number_of(answer), h, words, numbers)
 }
 
 // ---- what the rider chooses
@@ -226,12 +185,11 @@ pub fn cittumay_set_auto_follow(
     ensures { SetAutoFollow on crumbs.old crumbs.new words.old numbers.old result
         words.new numbers.new }
 {
-    let read = stored::load(words, numbers);
-    if !read.held {
+    let Some(mut h) = stored::load(words, numbers) else {
         return numbering::no_state_with(crumbs.len());
-    }
-    let c = homing::set_auto_follow(read.homing, crumbs, on != 0);
-    keep_changed(c, words, numbers)
+    };
+    let answer = homing::set_auto_follow(&mut h, crumbs, on != 0);
+    keep(numbering::number_of(answer), h, words, numbers)
 }
 
 // Follow the course while it is near, else the breadcrumb back; or stop following. `done` becomes 0 where no
@@ -248,16 +206,9 @@ pub fn cittumay_set_following(
     ensures { SetFollowing line.now on now_ms crumbs.old done.old crumbs.new
         done.new words.old numbers.old result words.new numbers.new }
 {
-    let read = stored::load(words, numbers);
-    if !read.held {
+    let Some(mut h) = stored::load(words, numbers) else {
         return numbering::no_state_with(crumbs.len());
-    }
-    let f = homing::set_following(read.homing, crumbs, line, on != 0, now_ms);
-    let answer = f.answer;
-    keep(
-        numbering::put_verdict(answer, done),
-        f.homing,
-        words,
-        numbers,
-    )
+    };
+    let answer = homing::set_following(&mut h, crumbs, line, on != 0, now_ms);
+    keep(numbering::put_flag(answer, done), h, words, numbers)
 }

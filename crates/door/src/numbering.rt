@@ -1,18 +1,12 @@
 // Answers as numbers.
 
 ghost use Rattle.std.specs.Prelude.{◌≡◌};
-ghost use Rattle.answers.specs.Answers.{says_verdict};
-ghost use Rattle.homing.specs.Answers.{says_reply};
-ghost use Rattle.stored.specs.Fields.{flag_of};
-ghost use Rattle.door.specs.Through.{number_of, no_state_with, values_of};
-ghost use Rattle.door.specs.Answers.{flagged};
+ghost use Rattle.refusal.specs.Refusal.{asked};
+ghost use Rattle.door.specs.Through.{no_state_with, values_of};
+ghost use Rattle.door.specs.Answers.{flagged, itself};
 
-use answers::Verdict;
-use homing::Reply;
 use questions::counts;
-
-// Question 1.
-const NO_BUFFER: u8 = 1;
+use refusal::Refusal;
 
 // Question 10: slices that hold no state.
 pub const NO_STATE: u8 = 10;
@@ -22,39 +16,40 @@ pub fn no_state_with(size: usize) -> u8
     ensures { result ≡ no_state_with size }
 {
     if !counts::question1(size) {
-        return NO_BUFFER;
+        return Refusal::CrumbBuffer.number();
     }
     NO_STATE
 }
 
-pub fn number_of_reply(answer: Reply) -> u8
-    ensures { result ≡ number_of (says_reply answer) }
+// The number of the question that refused a call, 0 where none did.
+pub fn number_of(answer: Result<(), Refusal>) -> u8
+    ensures { result ≡ asked answer }
 {
     match answer {
-        Reply::Taken => 0,
-        Reply::Refused(number) => number,
+        Ok(()) => 0,
+        Err(refusal) => refusal.number(),
     }
 }
 
-pub fn flag_of(yes: bool) -> u8
-    ensures { result ≡ flag_of yes }
-{
-    if yes {
-        return 1;
-    }
-    0
-}
-
-// A verdict, if it was given, written as a flag; and its number.
-pub fn put_verdict(answer: Verdict, yes: &mut u8) -> u8
-    ensures value { result ≡ number_of (says_verdict answer) }
-    ensures yes_after { yes.new ≡ values_of flagged (says_verdict answer) yes.old }
+// Writes what a call answers where no question refused it, and gives its number. Answers of several values are written where they are
+// matched: of a closure that is passed in, no contract says what it writes to what it borrows.
+pub fn put<T: Copy>(answer: Result<T, Refusal>, to: &mut T) -> u8
+    ensures value { result ≡ asked answer }
+    ensures written { to.new ≡ values_of itself answer to.old }
 {
     match answer {
-        Verdict::Is(b) => {
-            *yes = flag_of(b);
+        Ok(value) => {
+            *to = value;
             0
         }
-        Verdict::Refused(number) => number,
+        Err(refusal) => refusal.number(),
     }
+}
+
+// The same of a yes or no, as a flag.
+pub fn put_flag(answer: Result<bool, Refusal>, yes: &mut u8) -> u8
+    ensures value { result ≡ asked answer }
+    ensures written { yes.new ≡ values_of flagged answer yes.old }
+{
+    put(answer.map(u8::from), yes)
 }

@@ -3,7 +3,8 @@
 
 ghost use Rattle.std.specs.Prelude.{◌≡◌, ◌≤◌, length};
 ghost use Rattle.stored.specs.Stored.{word_count, number_count};
-ghost use Rattle.stored.specs.Rebuilt.{rebuild_count, utc_of};
+ghost use Rattle.std.specs.Bool.{then_some};
+ghost use Rattle.stored.specs.Rebuilt.{rebuild_count};
 ghost use Rattle.door.specs.Through.{is_set, Leaves};
 ghost use Rattle.door.specs.Rebuild.{LeavesRebuild, RebuildNew, RebuildCaughtUp, slices, RebuildStep, RebuildSettle};
 
@@ -30,11 +31,10 @@ pub fn cittumay_rebuild_new(rebuild: &mut [u64], recovered: u32, upper: usize) -
 pub fn cittumay_rebuild_caught_up(rebuild: &[u64], upper: usize, yes: &mut u8) -> u8
     ensures { RebuildCaughtUp upper rebuild.now result yes.old yes.new }
 {
-    let begun = stored::load_rebuild(rebuild);
-    if !begun.held {
+    let Some(r) = stored::load_rebuild(rebuild) else {
         return NO_STATE;
-    }
-    *yes = numbering::flag_of(restart::caught_up(begun.rebuild, upper));
+    };
+    *yes = u8::from(restart::caught_up(r, upper));
     0
 }
 
@@ -79,31 +79,15 @@ pub fn cittumay_rebuild_step(
         (slices rebuild.old words.old numbers.old) result crumbs.new done.new
         (slices rebuild.new words.new numbers.new) }
 {
-    let begun = stored::load_rebuild(rebuild);
-    let there = stored::load(words, numbers);
-    if !(begun.held & there.held) {
+    let Some(mut r) = stored::load_rebuild(rebuild) else {
         return numbering::no_state_with(crumbs.len());
-    }
-    let stepped = restart::step(begun.rebuild, there.homing, crumbs, file, upper, budget);
-    let answer = stepped.answer;
-    keep_both(
-        numbering::put_verdict(answer, done),
-        stepped.rebuild,
-        stepped.homing,
-        rebuild,
-        words,
-        numbers,
-    )
-}
-
-// A time that is known where the flag is set.
-fn utc_of(known: u8, utc: u64) -> Option<u64>
-    ensures { result ≡ utc_of (is_set known) utc }
-{
-    if known != 0 {
-        return Some(utc);
-    }
-    None
+    };
+    let Some(mut h) = stored::load(words, numbers) else {
+        return numbering::no_state_with(crumbs.len());
+    };
+    let answer = restart::step(&mut r, &mut h, crumbs, file, upper, budget);
+    let number = numbering::put_flag(answer, done);
+    keep_both(number, r, h, rebuild, words, numbers)
 }
 
 // Settle the breadcrumb on a live fix at `utc`, if that is known, instead of the later ride's first one in
@@ -115,22 +99,16 @@ pub fn cittumay_rebuild_settle(
     known: u8,
     utc: u64,
 ) -> u8
-    ensures { RebuildSettle (utc_of (is_set known) utc) (slices rebuild.old words.old numbers.old) result
+    ensures { RebuildSettle (then_some (is_set known) utc) (slices rebuild.old words.old numbers.old) result
         (slices rebuild.new words.new numbers.new) }
 {
-    let begun = stored::load_rebuild(rebuild);
-    let there = stored::load(words, numbers);
-    if !(begun.held & there.held) {
+    let Some(mut r) = stored::load_rebuild(rebuild) else {
         return NO_STATE;
-    }
-    let settled = restart::settle(begun.rebuild, there.homing, utc_of(known, utc));
-    let answer = settled.answer;
-    keep_both(
-        numbering::number_of_reply(answer),
-        settled.rebuild,
-        settled.homing,
-        rebuild,
-        words,
-        numbers,
-    )
+    };
+    let Some(mut h) = stored::load(words, numbers) else {
+        return NO_STATE;
+    };
+    let answer = restart::settle(&mut r, &mut h, (known != 0).then_some(utc));
+    let number = numbering::number_of(answer);
+    keep_both(number, r, h, rebuild, words, numbers)
 }

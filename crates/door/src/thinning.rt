@@ -2,8 +2,6 @@
 
 ghost use Rattle.door.specs.Thin.{ThinsLent};
 
-use thin::Thinned;
-
 // Thins the first `len` crumbs in place, and answers how many are left: `tolerance` becomes that of the
 // last pass, and `passes` how many were made. A refusal answers 0, writes its number to `refused`, and
 // changes nothing else.
@@ -17,21 +15,16 @@ pub fn cittumay_thin(
     ensures { ThinsLent len crumbs.old tolerance.old passes.old crumbs.new
         tolerance.new passes.new refused.new result }
 {
-    let answer = thin::thin(crumbs, len, *tolerance);
-    match answer {
-        Thinned::Refused(number) => {
-            *refused = number;
-            0
-        }
-        Thinned::Left {
-            len: left,
-            tolerance: last,
-            passes: made,
-        } => {
+    match thin::thin(crumbs, len, *tolerance) {
+        Ok(thinned) => {
             *refused = 0;
-            *tolerance = last;
-            *passes = made;
-            left
+            *tolerance = thinned.tolerance;
+            *passes = thinned.passes;
+            thinned.len
+        }
+        Err(refusal) => {
+            *refused = refusal.number();
+            0
         }
     }
 }

@@ -3,7 +3,6 @@
 // refused with 10.
 
 ghost use Rattle.std.specs.Prelude.{length};
-ghost use Rattle.answers.specs.Answers.{says_count, says_verdict, says_ahead, says_riding, says_showing, says_back, says_angle};
 ghost use Rattle.answers.specs.Promises.{AnswersLen, AnswersFollowing, AnswersFollowingCourse, AnswersCourseAhead, AnswersRouteHome};
 ghost use Rattle.answers.specs.Promises.{AnswersHeading, AnswersGuide, AnswersWayBack, ReturnsCrumbs, ReturnsCourse, AnswersArrow};
 ghost use Rattle.stored.specs.Stored.{stored};
@@ -16,7 +15,7 @@ use door::answering;
 
 #[unsafe(no_mangle)]
 pub extern "C" fn cittumay_len(words: &[u64], numbers: &[f32], len: &mut usize) -> u8
-    ensures { Answers (stored words.now numbers.now) no_state AnswersLen says_count itself result len.old
+    ensures { Answers (stored words.now numbers.now) no_state AnswersLen itself result len.old
         len.new }
 {
     answering::cittumay_len(words, numbers, len)
@@ -24,7 +23,7 @@ pub extern "C" fn cittumay_len(words: &[u64], numbers: &[f32], len: &mut usize) 
 
 #[unsafe(no_mangle)]
 pub extern "C" fn cittumay_following(words: &[u64], numbers: &[f32], yes: &mut u8) -> u8
-    ensures { Answers (stored words.now numbers.now) no_state AnswersFollowing says_verdict flagged result
+    ensures { Answers (stored words.now numbers.now) no_state AnswersFollowing flagged result
         yes.old yes.new }
 {
     answering::cittumay_following(words, numbers, yes)
@@ -32,7 +31,7 @@ pub extern "C" fn cittumay_following(words: &[u64], numbers: &[f32], yes: &mut u
 
 #[unsafe(no_mangle)]
 pub extern "C" fn cittumay_following_course(words: &[u64], numbers: &[f32], yes: &mut u8) -> u8
-    ensures { Answers (stored words.now numbers.now) no_state AnswersFollowingCourse says_verdict flagged result
+    ensures { Answers (stored words.now numbers.now) no_state AnswersFollowingCourse flagged result
         yes.old yes.new }
 {
     answering::cittumay_following_course(words, numbers, yes)
@@ -51,7 +50,7 @@ pub extern "C" fn cittumay_course_ahead(
     east: &mut f32,
     north: &mut f32,
 ) -> u8
-    ensures { Answers (stored words.now numbers.now) no_state AnswersCourseAhead says_ahead leading result
+    ensures { Answers (stored words.now numbers.now) no_state AnswersCourseAhead leading result
         (ahead_values known.old count.old (spot_values matched.old east.old north.old))
         (ahead_values known.new count.new (spot_values matched.new east.new north.new)) }
 {
@@ -69,7 +68,7 @@ pub extern "C" fn cittumay_route_home(
     east: &mut f32,
     north: &mut f32,
 ) -> u8
-    ensures { Answers (stored words.now numbers.now) no_state AnswersRouteHome says_ahead leading result
+    ensures { Answers (stored words.now numbers.now) no_state AnswersRouteHome leading result
         (ahead_values known.old count.old (spot_values matched.old east.old north.old))
         (ahead_values known.new count.new (spot_values matched.new east.new north.new)) }
 {
@@ -84,7 +83,7 @@ pub extern "C" fn cittumay_heading(
     known: &mut u8,
     heading: &mut u16,
 ) -> u8
-    ensures { Answers (stored words.now numbers.now) no_state AnswersHeading says_riding riding result
+    ensures { Answers (stored words.now numbers.now) no_state AnswersHeading riding result
         (heading_values known.old heading.old) (heading_values known.new heading.new) }
 {
     answering::cittumay_heading(words, numbers, known, heading)
@@ -101,7 +100,7 @@ pub extern "C" fn cittumay_guide(
     guide: &mut [u32],
 ) -> u8
     ensures { Answers
-        (with_room guide.old (stored words.now numbers.now)) no_state AnswersGuide says_showing showing result
+        (with_room guide.old (stored words.now numbers.now)) no_state AnswersGuide showing result
         (guide_values shown.old guide.old) (guide_values shown.new guide.new) }
 {
     answering::cittumay_guide(words, numbers, shown, guide)
@@ -119,7 +118,7 @@ pub extern "C" fn cittumay_way_back(
     track: &mut u32,
 ) -> u8
     ensures { Answers (stored words.now numbers.now) (no_state_with (length crumbs.now))
-        (λ h. AnswersWayBack h crumbs.now) says_back returning result (back_values known.old direct.old
+        (λ h. AnswersWayBack h crumbs.now) returning result (back_values known.old direct.old
         track.old) (back_values known.new direct.new track.new) }
 {
     answering::cittumay_way_back(words, numbers, crumbs, known, direct, track)
@@ -156,7 +155,7 @@ pub extern "C" fn cittumay_course(
 // `guide` is a guide's words as `guide` writes them; words that are no guide are refused with 10.
 #[unsafe(no_mangle)]
 pub extern "C" fn cittumay_arrow(guide: &[u32], arrow: &mut u16) -> u8
-    ensures { Answers (guide_of guide.now) no_state AnswersArrow says_angle itself result arrow.old
+    ensures { Answers (guide_of guide.now) no_state AnswersArrow itself result arrow.old
         arrow.new }
 {
     answering::cittumay_arrow(guide, arrow)

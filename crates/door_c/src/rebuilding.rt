@@ -1,7 +1,7 @@
 // The calls of a rebuild, whose state lives in words of its own. Words that hold no rebuild, and slices
 // that hold no state, are refused with 10.
 
-ghost use Rattle.stored.specs.Rebuilt.{utc_of};
+ghost use Rattle.std.specs.Bool.{then_some};
 ghost use Rattle.door.specs.Through.{is_set};
 ghost use Rattle.door.specs.Rebuild.{RebuildNew, RebuildCaughtUp, slices, RebuildStep, RebuildSettle};
 
@@ -53,7 +53,7 @@ pub extern "C" fn cittumay_rebuild_settle(
     known: u8,
     utc: u64,
 ) -> u8
-    ensures { RebuildSettle (utc_of (is_set known) utc) (slices rebuild.old words.old numbers.old) result
+    ensures { RebuildSettle (then_some (is_set known) utc) (slices rebuild.old words.old numbers.old) result
         (slices rebuild.new words.new numbers.new) }
 {
     rebuilding::cittumay_rebuild_settle(rebuild, words, numbers, known, utc)

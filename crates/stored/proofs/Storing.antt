@@ -10,6 +10,7 @@ use Rattle.state.specs.declared.Homing.{Homing}
 use Rattle.stored.specs.Parts.{word_count, number_count}
 use Rattle.stored.specs.Stored.{stored, words_of, head_of, numbers_of, HoldsStored}
 use Rattle.stored.proofs.ReadBack.{read_back}
+pub use Rattle.stored.proofs.stored_rebuild.Storing.{rebuild-holds-stored}
 
 -- the words before the course's, then the others
 pub words-front : (h : Homing) (w : List ℕ) {f b : List ℕ} → f ≡ take 22 (words_of h) → b ≡ drop 22 (words_of h)

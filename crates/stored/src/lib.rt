@@ -13,7 +13,7 @@ ghost use Rattle.std.specs.Prelude.{◌≡◌, ◌++◌, ◌<◌, ◌≤◌, len
 ghost use Rattle.stored.specs.Parts.{word_count, number_count};
 ghost use Rattle.stored.specs.Stored.{homing_at, room_for, holds as holds_state, stored, StateFits, words_of, head_of, numbers_of, Stores};
 
-pub use parts::{guide_at, guide_words};
+pub use fields::mode_of;
 use state::Homing;
 pub use stored_rebuild::{REBUILD_WORDS, load_rebuild, store_rebuild};
 

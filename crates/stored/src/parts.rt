@@ -105,7 +105,7 @@ pub fn lap_at(words: &[u64], numbers: &[f32]) -> Lap
 }
 
 // A guide whose words begin at word `i`.
-pub fn guide_at(words: &[u64], i: usize) -> Guide
+fn guide_at(words: &[u64], i: usize) -> Guide
     requires { i + guide_size ≤ length words.now }
     ensures { result ≡ guide_read words.now i }
 {

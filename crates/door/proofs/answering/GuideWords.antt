@@ -1,48 +1,24 @@
 -- A guide's words, written and read. Assumes nothing.
-use Prim.Native.Nat.{ℕ, zero, suc, ◌+◌, ◌≤◌, ◌<◌}
+use Prim.Native.Nat.{ℕ, suc, ◌≤◌, ◌<◌}
 use native.Mathlib.Omega.{arith}
 use mathlib.Core.Path.{◌≡◌, refl, sym, ap, ◌∙◌}
-use mathlib.Core.Logic.{◌≢◌}
-use mathlib.Core.Bool.{Bool, true, false, ◌&&◌, cond, not, and-eq-true_iff}
-use mathlib.Core.List.{List, [], ◌∷◌, ◌++◌}
+use mathlib.Core.Bool.{Bool, true, false, ◌&&◌, not, and-eq-true_iff}
+use mathlib.Core.List.{List, ◌++◌}
 use borrow.Author.Tests.{leb-true, le-leb, lt-leb, not-true, not-false}
 use lib.Dec.{leb}
-use lib.ListN.{length, drop, set}
-use Rattle.std.specs.Prelude.{Option, Some, None, ℕ}
+use lib.ListN.{length}
+use Rattle.std.specs.Prelude.{Some, None}
 use Rattle.state.specs.declared.Mode.{Mode}
 use Rattle.state.specs.declared.Mode.TheVariants as mode
 use Rattle.state.specs.declared.Guide.{Guide}
-use Rattle.stored.specs.Fields.{most32, most16, word_at, flag_at, mode_of_tag, heading_of, heading_at, mode_tag, heading_flag, heading_in}
-use Rattle.stored.specs.Fields.{flag_of}
+use Rattle.stored.specs.Fields.{most32, most16, word_at, flag_at, mode_of_tag, heading_at, mode_tag, flag_of}
+use Rattle.std.specs.Bool.{then_some}
+use Rattle.std.specs.Option.{unwrap_or}
 use Rattle.stored.specs.Parts.{guide_mosts, guide_read, guide_words}
 use Rattle.stored.proofs.ReadBack.{within-at, guide-same}
 use Rattle.door.specs.GuideWords.{guide_size, are_guide, guide_of, GuideReadBack}
 
--- ---- written
--- ten words written one by one to a list that has room for them
-pub ten-written : (w : List ℕ) (a b c d e f g h i j : ℕ) → guide_size ≤ length w
-    → set (set (set (set (set (set (set (set (set (set w 0 a) 1 b) 2 c) 3 d) 4 e) 5 f) 6 g) 7 h) 8 i) 9 j
-    ≡ a ∷ b ∷ c ∷ d ∷ e ∷ f ∷ g ∷ h ∷ i ∷ j ∷ drop guide_size w
-ten-written [] a b c d e f g h i j long = absurd (omega arith)
-ten-written (_ ∷ []) a b c d e f g h i j long = absurd (omega arith)
-ten-written (_ ∷ _ ∷ []) a b c d e f g h i j long = absurd (omega arith)
-ten-written (_ ∷ _ ∷ _ ∷ []) a b c d e f g h i j long = absurd (omega arith)
-ten-written (_ ∷ _ ∷ _ ∷ _ ∷ []) a b c d e f g h i j long = absurd (omega arith)
-ten-written (_ ∷ _ ∷ _ ∷ _ ∷ _ ∷ []) a b c d e f g h i j long = absurd (omega arith)
-ten-written (_ ∷ _ ∷ _ ∷ _ ∷ _ ∷ _ ∷ []) a b c d e f g h i j long = absurd (omega arith)
-ten-written (_ ∷ _ ∷ _ ∷ _ ∷ _ ∷ _ ∷ _ ∷ []) a b c d e f g h i j long = absurd (omega arith)
-ten-written (_ ∷ _ ∷ _ ∷ _ ∷ _ ∷ _ ∷ _ ∷ _ ∷ []) a b c d e f g h i j long = absurd (omega arith)
-ten-written (_ ∷ _ ∷ _ ∷ _ ∷ _ ∷ _ ∷ _ ∷ _ ∷ _ ∷ []) a b c d e f g h i j long = absurd (omega arith)
-ten-written (_ ∷ _ ∷ _ ∷ _ ∷ _ ∷ _ ∷ _ ∷ _ ∷ _ ∷ _ ∷ w) a b c d e f g h i j long = refl
-
 -- ---- read
-pub mode-rest : (n : ℕ) → n ≢ 1 → n ≢ 2 → n ≢ 3 → mode.Direct ≡ mode_of_tag n
-mode-rest zero a b c = refl
-mode-rest (suc zero) a b c = absurd (a refl)
-mode-rest (suc (suc zero)) a b c = absurd (b refl)
-mode-rest (suc (suc (suc zero))) a b c = absurd (c refl)
-mode-rest (suc (suc (suc (suc n)))) a b c = refl
-
 module _ (w : List ℕ) where
   pub too_short : length w < guide_size → false ≡ are_guide w
   unfolding are_guide
@@ -83,7 +59,7 @@ pub read_plain : (w : List ℕ) → Read w → word_at w 4 ≤ most32 → word_a
       track_m = word_at w 5;
       off_m = word_at w 6;
       bearing = word_at w 7;
-      heading = heading_of (flag_at w 8) (word_at w 9);
+      heading = then_some (flag_at w 8) (word_at w 9);
     } ≡ guide_read w 0
 unfolding guide_read heading_at
 read_plain w r a b c =
@@ -108,20 +84,16 @@ flag-most : (b : Bool) → leb (flag_of b) 1 ≡ true
 flag-most true = refl
 flag-most false = refl
 
-known-most : (h : Option ℕ) → leb (heading_flag h) 1 ≡ true
-known-most (Some a) = refl
-known-most None = refl
-
 long-enough : (n : ℕ) → guide_size ≤ suc (suc (suc (suc (suc (suc (suc (suc (suc (suc n)))))))))
 long-enough n = omega arith
 
-are_words : (g : Guide) → leb g.bearing most16 ≡ true → leb (heading_in g.heading) most16 ≡ true → (ws : List ℕ)
+are_words : (g : Guide) → leb g.bearing most16 ≡ true → leb (unwrap_or g.heading 0) most16 ≡ true → (ws : List ℕ)
     → are_guide (guide_words g ++ ws) ≡ true
 unfolding are_guide
 are_words g bearing way ws =
     let long : leb guide_size (length (guide_words g ++ ws)) ≡ true =
     le-leb guide_size (length (guide_words g ++ ws)) (long-enough (length ws)) in
-    simp (long, mode-most, flag-most, known-most, bearing, way)
+    simp (long, mode-most, flag-most, bearing, way)
 
 pub guide-read-back : GuideReadBack
 unfolding guide_of
@@ -129,7 +101,7 @@ guide-read-back g fits ws =
     let at : (i : ℕ) → i < guide_size → leb (word_at (guide_words g) i) (word_at guide_mosts i) ≡ true =
     within-at guide_mosts (guide_words g) fits in
     let bearing : leb g.bearing most16 ≡ true = at 7 (omega arith) in
-    let way : leb (heading_in g.heading) most16 ≡ true = at 9 (omega arith) in
+    let way : leb (unwrap_or g.heading 0) most16 ≡ true = at 9 (omega arith) in
     let yes = are_words g bearing way ws in
-    ap (λ b. cond b (Some (guide_read (guide_words g ++ ws) 0)) None) yes
+    ap (λ b. then_some b (guide_read (guide_words g ++ ws) 0)) yes
     ∙ ap Some (guide-same g ws (at 4 (omega arith)) (at 5 (omega arith)) (at 6 (omega arith)) bearing way)

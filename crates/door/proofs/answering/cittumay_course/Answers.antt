@@ -1,13 +1,9 @@
 -- `door::answering::cittumay_course` meets its contract.
-use mathlib.Core.Path.{refl}
-use Rattle.door.proofs.answering.Answers.{loaded, unloaded, no_part, part-returned}
+use mathlib.Core.Path.{sym, ◌∙◌}
+use Rattle.door.proofs.answering.Answers.{part-returned}
 use Rattle.door.proofs.answering.cittumay_course.Goals as goal
-
-pub returns-then-not-there : goal.returns-then-not-there
-returns-then-not-there c = no_part (unloaded c.load-there.ensures c.if-not-there.true) refl c.no_part.ensures
 
 pub returns : goal.returns
 returns c =
-    let returned = c.course-placed.ensures in
-    part-returned (loaded c.load-there.ensures c.if-not-there.false)
-    _ returned _ returned.numbers returned.held returned.empty c.capacity.ensures
+    let part = c.course.ensures in
+    part-returned (sym c.load.ensures ∙ c.in-Some.is) _ part _ part.numbers part.held c.put_part.ensures.value c.put_part.ensures.counted

@@ -1,26 +1,10 @@
 -- `door::rebuilding::cittumay_rebuild_settle` meets its contract.
-use Rattle.std.proofs.lemmas.Bool.{not_from_false, not_from_true}
-use mathlib.Core.Path.{refl, ◌∙◌}
-use Rattle.door.proofs.rebuilding.Rebuild.{without-one, with-both, both-held, room-for-both, settled_at}
+use mathlib.Core.Path.{sym, ◌∙◌}
+use Rattle.stored.proofs.Holding.{has_room, rebuild-has-room}
 use Rattle.door.proofs.rebuilding.cittumay_rebuild_settle.Goals as goal
 
-pub returns-then-not-begun-there : goal.returns-then-not-begun-there
-returns-then-not-begun-there c =
-    without-one _ _ c.load_rebuild-begun.ensures c.load-there.ensures (not_from_false _ c.if-not-begun-there.true) refl refl
-
 pub keep_both-requires : goal.keep_both-requires
-keep_both-requires c =
-    let room = room-for-both c.load_rebuild-begun.ensures c.load-there.ensures (not_from_true _ c.if-not-begun-there.false) in
-    record { rebuild_count_in_bounds = room.0; word_count_in_bounds = room.1 }
-
-pub returns : goal.returns
-returns c =
-    let kept = c.keep_both.ensures in
-    with-both _ _ (both-held c.load_rebuild-begun.ensures c.load-there.ensures (not_from_true _ c.if-not-begun-there.false))
-    (record {
-      call = c.settle-settled.result;
-      promised = settled_at c.utc_of.ensures c.settle-settled.ensures;
-      refusal = kept.value ∙ c.number_of_reply.ensures;
-      rebuilt = kept.leaves_rebuild;
-      state = kept.leaves;
-    })
+keep_both-requires c = record {
+  rebuild_count_in_bounds = rebuild-has-room _ _ (sym c.load_rebuild.ensures ∙ c.in-Some.is);
+  word_count_in_bounds = has_room _ _ _ (sym c.load.ensures ∙ c.in-Some-load.is);
+}
