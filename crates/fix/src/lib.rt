@@ -117,7 +117,7 @@ pub fn replay_parts(
     fix: Fix,
     now_ms: u64,
 ) -> Ridden
-    requires { (length window.old ≡ 96) × (trail.TrailFit g.trail (length crumbs.old)) }
+    requires { trail.TrailFit g.trail (length crumbs.old) }
     ensures follows { (h : Homing)
         → Follows (λ C. replay C fix now_ms) (ridden g window.old h) crumbs.old
         (ridden result window.new h) crumbs.new }

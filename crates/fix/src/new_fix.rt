@@ -22,7 +22,7 @@ fn may_retrace(
     p: Point,
     now_ms: u64,
 ) -> Updated
-    requires window_len { (length window.old ≡ 96) × (Ready (whole h window.old) (length crumbs.old) (length line.now)) }
+    requires ready { Ready (whole h window.old) (length crumbs.old) (length line.now) }
     requires line_value { h.follow.line ≡ lines.Nothing }
     ensures { Updates
         (λ C. may_retrace h.auto_follow C (course_of (whole h window.old) line.now) p now_ms)
@@ -49,7 +49,7 @@ fn unfollowed(
     p: Point,
     now_ms: u64,
 ) -> Updated
-    requires window_len { (length window.old ≡ 96) × (Ready (whole h window.old) (length crumbs.old) (length line.now)) }
+    requires ready { Ready (whole h window.old) (length crumbs.old) (length line.now) }
     requires line_value { h.follow.line ≡ lines.Nothing }
     ensures { Updates (λ C. fix_on lines.Nothing C (course_of (whole h window.old) line.now) p now_ms)
         (whole h window.old) crumbs.old (told_in result window.new) crumbs.new }
@@ -72,7 +72,7 @@ pub fn fix_on(
     p: Point,
     now_ms: u64,
 ) -> Updated
-    requires { (length window.old ≡ 96) × (Ready (whole h window.old) (length crumbs.old) (length line.now)) }
+    requires { Ready (whole h window.old) (length crumbs.old) (length line.now) }
     ensures { Updates (λ C. fix_on h.follow.line C (course_of (whole h window.old) line.now) p now_ms)
         (whole h window.old) crumbs.old (told_in result window.new) crumbs.new }
 {

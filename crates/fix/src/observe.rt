@@ -62,7 +62,7 @@ fn new_fix(
     fix: Fix,
     now_ms: u64,
 ) -> Updated
-    requires { (length window.old ≡ 96) × (Ready (whole h window.old) (length crumbs.old) (length line.now)) }
+    requires { Ready (whole h window.old) (length crumbs.old) (length line.now) }
     ensures { Updates
         (λ C s. new_fix C (course_of (whole h window.old) line.now) fix now_ms
         (with_here_ms now_ms s)) (whole h window.old) crumbs.old (told_in result window.new)
@@ -91,7 +91,7 @@ fn seen_on(
     fix: Fix,
     now_ms: u64,
 ) -> Updated
-    requires { (length window.old ≡ 96) × (Ready (whole h window.old) (length crumbs.old) (length line.now)) }
+    requires { Ready (whole h window.old) (length crumbs.old) (length line.now) }
     ensures { Updates
         (λ C. seen C (course_of (whole h window.old) line.now) fix now_ms)
         (whole h window.old) crumbs.old (told_in result window.new) crumbs.new }

@@ -21,7 +21,7 @@ pub fn add_update(
     p: Point,
     now_ms: u64,
 ) -> Updated
-    requires window_len { (length window.old ≡ 96) × (HomingFit (whole h window.old) (length crumbs.old) (length line.now)) }
+    requires fit { HomingFit (whole h window.old) (length crumbs.old) (length line.now) }
     requires grows { Grows (whole h window.old) }
     ensures { Updates (λ C. add_update C (course_of (whole h window.old) line.now) p now_ms)
         (whole h window.old) crumbs.old (told_in result window.new) crumbs.new }
@@ -39,7 +39,7 @@ pub fn joined_course(
     p: Point,
     now_ms: u64,
 ) -> Updated
-    requires window_len { (length window.old ≡ 96) × (HomingFit (whole h window.old) (length crumbs.old) (length line.now)) }
+    requires fit { HomingFit (whole h window.old) (length crumbs.old) (length line.now) }
     requires bound { (1 ≤ h.course.join_end) × (h.course.join_end < h.course.line_len) }
     ensures { Updates (λ C. joined_course C (course_of (whole h window.old) line.now) p now_ms)
         (whole h window.old) crumbs.old (told_in result window.new) crumbs.new }
@@ -73,7 +73,7 @@ pub fn retraced(
     p: Point,
     now_ms: u64,
 ) -> Updated
-    requires window_len { (length window.old ≡ 96) × (HomingFit (whole h window.old) (length crumbs.old) (length line.now)) }
+    requires fit { HomingFit (whole h window.old) (length crumbs.old) (length line.now) }
     requires retrace_len_bound { (h.trail.retrace_len ≤ h.trail.len) × (h.follow.line ≡ lines.Nothing) }
     ensures { Updates (λ C. retraced true C (course_of (whole h window.old) line.now) p now_ms)
         (whole h window.old) crumbs.old (told_in result window.new) crumbs.new }

@@ -42,7 +42,7 @@ pub fn keep(h: Guided, crumbs: &mut [f32], p: Point) -> Guided
 }
 
 pub fn add(h: Guided, window: &mut [f32; 96], crumbs: &mut [f32], p: Point) -> Guided
-    requires { (length window.old ≡ 96) × (trail.TrailFit h.trail (length crumbs.old)) }
+    requires { trail.TrailFit h.trail (length crumbs.old) }
     ensures { Follows (λ C. add_in C p) (whole h window.old) crumbs.old (whole result window.new)
         crumbs.new }
 {

@@ -1,5 +1,5 @@
 -- `fix::replay` meets its contract.
-use mathlib.Core.Path.{◌≡◌, sym, subst}
+use mathlib.Core.Path.{sym, subst}
 use lib.ListN.{length}
 use Rattle.trail.specs.View as trail
 use Rattle.fix.specs.declared.Ridden.{Ridden}
@@ -8,8 +8,7 @@ use Rattle.fix.proofs.replay.Goals as goal
 
 pub replay_parts-after-requires : goal.replay_parts-after-requires
 replay_parts-after-requires c =
-    let long : length c.args.h.window ≡ 96 = c.well_formed.0.1.1.1.0.1.0.1 in
-    (long, subst (λ (g : Ridden). trail.TrailFit g.trail (length c.args.crumbs.now)) (sym c.taken_apart-g.ensures) c.requires)
+    subst (λ (g : Ridden). trail.TrailFit g.trail (length c.args.crumbs.now)) (sym c.taken_apart-g.ensures) c.requires
 
 pub returns : goal.returns
 returns c =

@@ -9,14 +9,14 @@ use Rattle.fix.proofs.recording.Turning.{course-grows, by-line}
 use Rattle.fix.proofs.new_fix.fix_on.Goals as goal
 
 pub update-requires : goal.update-requires
-update-requires c = λ w. fit_same (whole c.args.h c.args.window.now) (whole c.args.h w) _ _ c.requires.1.fit refl refl refl
+update-requires c = λ w. fit_same (whole c.args.h c.args.window.now) (whole c.args.h w) _ _ c.requires.fit refl refl refl
 
 pub add_update-requires : goal.add_update-requires
 add_update-requires c =
-    record { window_len = (c.requires.0, c.requires.1.fit); grows = course-grows (whole c.args.h c.args.window.now) c.in-Course.is }
+    record { fit = c.requires.fit; grows = course-grows (whole c.args.h c.args.window.now) c.in-Course.is }
 
 pub unfollowed-requires : goal.unfollowed-requires
-unfollowed-requires c = record { window_len = c.requires; line_value = c.in-Nothing.is }
+unfollowed-requires c = record { ready = c.requires; line_value = c.in-Nothing.is }
 
 pub returns-in-Breadcrumb : goal.returns-in-Breadcrumb
 unfolding fix_on

@@ -7,7 +7,7 @@ use Rattle.fix.proofs.recording.Turning.{idle-grows, turned_round, rode-on, neve
 use Rattle.fix.proofs.new_fix.may_retrace.Goals as goal
 
 pub retracing-b-requires : goal.retracing-b-requires
-retracing-b-requires c = (c.requires.window_len.1.fit.trail.held, omega (arith, c.requires.window_len.1.retrace))
+retracing-b-requires c = (c.requires.ready.fit.trail.held, omega (arith, c.requires.ready.retrace))
 
 pub retraced-requires : goal.retraced-requires
 retraced-requires c =
@@ -16,8 +16,8 @@ retraced-requires c =
     let r = retraced_as h c.retracing-b.result in
     let a = asks-retracing h g.crumbs.now g.p c.retracing-b.result c.retracing-b.ensures in
     record {
-      window_len = (c.requires.window_len.0, retrace-fit h g.crumbs.now g.p r a _ c.requires.window_len.1.fit);
-      retrace_len_bound = (retrace-few h g.crumbs.now g.p r a c.if-b.true c.requires.window_len.1.back, c.requires.line_value);
+      fit = retrace-fit h g.crumbs.now g.p r a _ c.requires.ready.fit;
+      retrace_len_bound = (retrace-few h g.crumbs.now g.p r a c.if-b.true c.requires.ready.back, c.requires.line_value);
     }
 
 pub returns-then-b : goal.returns-then-b
@@ -37,7 +37,7 @@ add_update-requires c =
     let r = retraced_as h c.retracing-b.result in
     let a = asks-retracing h g.crumbs.now g.p c.retracing-b.result c.retracing-b.ensures in
     record {
-      window_len = (c.requires.window_len.0, retrace-fit h g.crumbs.now g.p r a _ c.requires.window_len.1.fit);
+      fit = retrace-fit h g.crumbs.now g.p r a _ c.requires.ready.fit;
       grows =
           idle-grows r.homing c.requires.line_value;
     }
@@ -54,7 +54,7 @@ returns-then-h c =
 
 pub add_update-requires-2 : goal.add_update-requires-2
 add_update-requires-2 c = record {
-  window_len = (c.requires.window_len.0, c.requires.window_len.1.fit);
+  fit = c.requires.ready.fit;
   grows =
       idle-grows (whole c.args.h c.args.window.now) c.requires.line_value;
 }

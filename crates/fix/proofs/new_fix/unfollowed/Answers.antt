@@ -6,7 +6,7 @@ use Rattle.fix.proofs.recording.Turning.{joined-up, rode-by}
 use Rattle.fix.proofs.new_fix.unfollowed.Goals as goal
 
 pub joining-j-requires : goal.joining-j-requires
-joining-j-requires c = c.requires.window_len.1.fit.course
+joining-j-requires c = c.requires.ready.fit.course
 
 pub joined_course-requires : goal.joined_course-requires
 joined_course-requires c =
@@ -15,7 +15,7 @@ joined_course-requires c =
     let r = joined_as h c.joining-j.result in
     let a = asks-joining h g.crumbs.now g.line.now g.p c.joining-j.result c.joining-j.ensures in
     record {
-      window_len = (c.requires.window_len.0, (join-ready h g.crumbs.now g.line.now g.p r a _ c.requires.window_len.1).fit);
+      fit = (join-ready h g.crumbs.now g.line.now g.p r a _ c.requires.ready).fit;
       bound = joined_at h g.crumbs.now g.line.now g.p r a c.if-j.true;
     }
 
@@ -36,7 +36,7 @@ may_retrace-requires c =
     let r = joined_as h c.joining-j.result in
     let a = asks-joining h g.crumbs.now g.line.now g.p c.joining-j.result c.joining-j.ensures in
     record {
-      window_len = (c.requires.window_len.0, join-ready h g.crumbs.now g.line.now g.p r a _ c.requires.window_len.1);
+      ready = join-ready h g.crumbs.now g.line.now g.p r a _ c.requires.ready;
       line_value = c.requires.line_value;
     }
 

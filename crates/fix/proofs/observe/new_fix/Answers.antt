@@ -14,11 +14,9 @@ use Rattle.fix.proofs.observe.new_fix.Goals as goal
 pub fix_on-requires : goal.fix_on-requires
 fix_on-requires c =
     let g = c.args in
-    let h = whole g.h g.window.now in (
-      c.requires.0,
-      arrived-ready _ g.now_ms h _ (arrives h _ g.now_ms c.located-frame.ensures c.framed-p.ensures
-          c.track_heading-motion.ensures) _ _ c.requires.1,
-    )
+    let h = whole g.h g.window.now in
+    arrived-ready _ g.now_ms h _ (arrives h _ g.now_ms c.located-frame.ensures c.framed-p.ensures
+    c.track_heading-motion.ensures) _ _ c.requires
 
 pub returns : goal.returns
 returns c =

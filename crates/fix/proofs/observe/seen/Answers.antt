@@ -1,5 +1,5 @@
 -- `fix::observe::seen` meets its contract.
-use mathlib.Core.Path.{◌≡◌, sym, subst}
+use mathlib.Core.Path.{sym, subst}
 use lib.ListN.{length}
 use Rattle.state.specs.declared.Guided.{Guided}
 use Rattle.state.specs.Guided.{whole}
@@ -9,12 +9,8 @@ use Rattle.fix.proofs.observe.seen.Goals as goal
 
 pub seen_on-u-requires : goal.seen_on-u-requires
 seen_on-u-requires c =
-    let h = c.args.h in
-    let long : length h.window ≡ 96 = c.well_formed.0.1.1.1.0.1.0.1 in (
-      long,
-      subst (λ (g : Guided). Ready (whole g h.window) (length c.args.crumbs.now) (length c.args.line.now))
-          (sym c.without_window-g.ensures) c.requires,
-    )
+    subst (λ (g : Guided). Ready (whole g c.args.h.window) (length c.args.crumbs.now) (length c.args.line.now))
+    (sym c.without_window-g.ensures) c.requires
 
 pub returns : goal.returns
 returns c =

@@ -13,7 +13,7 @@ use Rattle.fix.proofs.observe.Seeing.{seen-again, seen-new}
 use Rattle.fix.proofs.observe.seen_on.Goals as goal
 
 pub still_at-requires : goal.still_at-requires
-still_at-requires c = λ w. (ready-same (whole c.args.h c.args.window.now) _ _ _ c.requires.1 refl refl refl).fit
+still_at-requires c = λ w. (ready-same (whole c.args.h c.args.window.now) _ _ _ c.requires refl refl refl).fit
 
 pub returns-then-same_fix : goal.returns-then-same_fix
 returns-then-same_fix c =

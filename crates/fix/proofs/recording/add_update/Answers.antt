@@ -14,7 +14,7 @@ update-requires c =
     let k = c.add-grown in
     let grown = whole k.result k.new.window in
     let fit =
-    fit-grown h grown g.p g.crumbs.now k.new.crumbs c.requires.grows k.ensures (length g.line.now) c.requires.window_len.1 in
+    fit-grown h grown g.p g.crumbs.now k.new.crumbs c.requires.grows k.ensures (length g.line.now) c.requires.fit in
     λ w. fit_same grown (whole k.result w) _ _ fit refl refl refl
 
 pub returns : goal.returns

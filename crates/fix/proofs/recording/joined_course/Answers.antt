@@ -12,11 +12,7 @@ add_update-u-requires c =
     let there = whole on.result g.window.now in
     let engaged = on.ensures g.window.now in
     record {
-      window_len = (
-        c.requires.window_len.0,
-        on-fit h there g.line.now g.h.course.join_end g.now_ms engaged _ _ c.requires.bound
-            c.requires.window_len.1,
-      );
+      fit = on-fit h there g.line.now g.h.course.join_end g.now_ms engaged _ _ c.requires.bound c.requires.fit;
       grows = on-grows h there g.line.now g.h.course.join_end g.now_ms engaged;
     }
 

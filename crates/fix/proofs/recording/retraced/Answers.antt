@@ -13,8 +13,8 @@ engage-e-requires c =
     let g = c.args in
     let back = c.turned_back-back in
     let w = g.window.now in (
-      ((back.ensures w).fit _ c.requires.window_len.1.trail).held,
-      back-room (whole g.h w) (whole back.result w) (back.ensures w) _ c.requires.window_len.1.course,
+      ((back.ensures w).fit _ c.requires.fit.trail).held,
+      back-room (whole g.h w) (whole back.result w) (back.ensures w) _ c.requires.fit.course,
     )
 
 pub update-u-requires : goal.update-u-requires
@@ -23,8 +23,8 @@ update-u-requires c =
     let back = c.turned_back-back in
     let e = c.engage-e in
     λ w. engaged-fit (whole back.result w) g.crumbs.now g.line.now g.now_ms (decided_in e.result w)
-    (e.ensures w) _ c.if-e.true ((back.ensures w).fit _ c.requires.window_len.1.trail)
-    (back-room (whole g.h w) (whole back.result w) (back.ensures w) _ c.requires.window_len.1.course)
+    (e.ensures w) _ c.if-e.true ((back.ensures w).fit _ c.requires.fit.trail)
+    (back-room (whole g.h w) (whole back.result w) (back.ensures w) _ c.requires.fit.course)
 
 pub returns-then-e : goal.returns-then-e
 returns-then-e c =
@@ -49,11 +49,8 @@ add_update-requires c =
     let cut = whole back.result w in
     let r = decided_in e.result w in
     let idle = back-idle h cut (back.ensures w) c.requires.retrace_len_bound.1 in record {
-      window_len = (
-        c.requires.window_len.0,
-        unengaged-fit cut g.crumbs.now g.line.now g.now_ms r (e.ensures w) _ c.if-e.false
-            (back-fit h cut (back.ensures w) _ _ c.requires.retrace_len_bound.1 c.requires.window_len.1),
-      );
+      fit = unengaged-fit cut g.crumbs.now g.line.now g.now_ms r (e.ensures w) _ c.if-e.false
+          (back-fit h cut (back.ensures w) _ _ c.requires.retrace_len_bound.1 c.requires.fit);
       grows = idle-grows r.homing (ap (λ (f : Follow). f.line) (unengaged-follow cut g.crumbs.now g.line.now
           g.now_ms r (e.ensures w) c.if-e.false) ∙ idle);
     }
