@@ -24,6 +24,7 @@ const ROUNDS: usize = 17;
 
 // The farthest crumb after `anchor`, at most `SPAN` on, whose chord from `anchor` passes within
 // the tolerance of every crumb between. Those that are surely within it are passed over by fours.
+// Counted by hand: the end at which it stops, for any of three reasons, is the answer.
 fn reach(buf: &[f32], len: usize, anchor: usize, bounds: Bounds) -> usize
     requires { (anchor < len) × (len ≤ capacity (length buf.now)) }
     ensures { result ≡ anchor + reach bounds.tolerance (crumb_at buf.now anchor)
@@ -115,7 +116,7 @@ fn may_thin(size: usize, len: usize, tolerance: f32) -> bool
 }
 
 // Thin the first `len` crumbs until at most three quarters of the room are in use, at `tolerance` and
-// twice it as needed.
+// twice it as needed. No `for` over the passes: behind its end an answer would have to be made up, though the 18th is always the last.
 pub fn thin(buf: &mut [f32], len: usize, tolerance: f32) -> Result<Thinned, Refusal>
     ensures { ThinDone len tolerance buf.old buf.new result }
 {

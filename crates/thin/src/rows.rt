@@ -30,7 +30,8 @@ fn four_near(buf: &[f32], first: usize, a: Point, b: Point, lo: f32) -> bool
     one & two & three & four
 }
 
-// A crumb from `from` on, before which each one is: by fours, as far as they go before `end`.
+// A crumb from `from` on, before which each one is: by fours, as far as they go before `end`. Counted by hand: a `step_by` would
+// begin a row that ends behind `end`.
 pub(crate) fn near_from(buf: &[f32], from: usize, end: usize, a: Point, b: Point, lo: f32) -> usize
     requires { (from ≤ end) × (end ≤ capacity (length buf.now)) }
     ensures { (from ≤ result) × (result ≤ end) × Each (near buf.now a b lo) from result }
@@ -68,7 +69,7 @@ fn sixteen_far(buf: &[f32], first: usize, hi: f32) -> bool
     all
 }
 
-// A crumb of the first `len`, before which it holds of each one: by sixteens, as far as they go.
+// A crumb of the first `len`, before which it holds of each one: by sixteens, as far as they go. Counted by hand for the same reason.
 pub(crate) fn far_from_start(buf: &[f32], len: usize, hi: f32) -> usize
     requires { (2 ≤ len) × (len ≤ capacity (length buf.now)) }
     ensures { (result + 2 ≤ len) × Each (far buf.now hi) 0 result }
