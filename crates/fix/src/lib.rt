@@ -105,11 +105,6 @@ pub fn put_together(h: Homing, g: Ridden) -> Homing
     next
 }
 
-// A window has the length of its type.
-fn has_its_length(_window: [f32; 96])
-    ensures { length _window ≡ 96 }
-{}
-
 pub fn replay_parts(
     g: Ridden,
     window: &mut [f32; 96],
@@ -118,17 +113,15 @@ pub fn replay_parts(
     now_ms: u64,
 ) -> Ridden
     requires { trail.TrailFit g.trail (length crumbs.old) }
-    ensures follows { (h : Homing)
+    ensures { (h : Homing)
         → Follows (λ C. replay C fix now_ms) (ridden g window.old h) crumbs.old
         (ridden result window.new h) crumbs.new }
-    ensures window_len { length window.new ≡ 96 }
 {
     let frame = course::located(g.frame, fix);
     let p = course::framed(frame, fix);
     let motion = motion::track_heading(g.motion, p, now_ms);
     let mut trail = g.trail;
     let thinned = trail.add(window, crumbs, p);
-    has_its_length(*window);
     let follow = follow_parts::after_thinning(thinned, g.follow);
     let lap = passing(g.lap, p, motion.heading);
     Ridden {

@@ -108,21 +108,19 @@ module _ (x : Heard) {h : Homing} {entry : List Float} where
 
 -- ---- the guide before a fix is replayed, its parts apart: it starts anew, or nothing is done
 pub record Begins (x : Heard) (g : Ridden) (h : Homing) (k : Ridden) (n : Homing) : Type 0 where
-  pub long : length n.window ≡ 96
   pub settles : Settles (making (reset_if x.anew) x.rebuild) (ridden g h.window h) x.rebuild (ridden k n.window n)
 
 module _ {x : Heard} {g : Ridden} {h : Homing} where
   so : {k l : Ridden} {m n : Homing} → Begins x g h k m → n ≡ m → l ≡ k → Begins x g h l n
   so {k = k} {n = n} b e f = subst (λ (p : Ridden). Begins x g h p n) (sym f) (subst (λ (t : Homing). Begins x g h k t) (sym e) b)
 
-  pub begins-so : {k : Ridden} {n : Homing} → x.anew ≡ false → length h.window ≡ 96 → n ≡ h → k ≡ g → Begins x g h k n
-  begins-so e long same kept = so (record { long = long; settles = carried_on (ridden g h.window h) refl e }) same kept
+  pub begins-so : {k : Ridden} {n : Homing} → x.anew ≡ false → n ≡ h → k ≡ g → Begins x g h k n
+  begins-so e same kept = so (record { settles = carried_on (ridden g h.window h) refl e }) same kept
 
   pub begins-anew : {k l : Ridden} {whole m n : Homing} → x.anew ≡ true → whole ≡ ridden g h.window h → Resets whole m → k ≡ parts m
-      → length m.window ≡ 96 → n ≡ m → l ≡ k → Begins x g h l n
-  begins-anew {m = m} e together a apart long same kept =
-      so (record { long = long; settles = begun-anew (ridden g h.window h) refl m e (subst (λ (t : Homing). Resets t m) together a) })
-      same (kept ∙ apart)
+      → n ≡ m → l ≡ k → Begins x g h l n
+  begins-anew {m = m} e together a apart same kept =
+      so (record { settles = begun-anew (ridden g h.window h) refl m e (subst (λ (t : Homing). Resets t m) together a) }) same (kept ∙ apart)
 
   -- and then the fix is replayed
   pub heard : {rule : Made} {k : Ridden} {n n' : Homing} {r' : Rebuild} {entry exit : List Float} → rule ≡ heard_makes x

@@ -167,10 +167,9 @@ fn hear(r: Rebuild, later: bool, sample: Sample) -> Heard
 
 // The fix of a sample, where there is one, replayed on the parts of the guide that it changes.
 fn replay_heard(x: Heard, g: Ridden, window: &mut [f32; 96], crumbs: &mut [f32]) -> Ridden
-    requires { (length window.old ≡ 96) × (trail.TrailFit g.trail (length crumbs.old)) }
-    ensures makes { (h : Homing) → Makes (replays_at x.place x.rebuild) (ridden g window.old h) crumbs.old
+    requires { trail.TrailFit g.trail (length crumbs.old) }
+    ensures { (h : Homing) → Makes (replays_at x.place x.rebuild) (ridden g window.old h) crumbs.old
         x.rebuild (ridden result window.new h) crumbs.new }
-    ensures window_len { length window.new ≡ 96 }
 {
     match x.place {
         Some(fix) => fix::replay_parts(g, window, crumbs, fix, x.rebuild.clock_ms),

@@ -15,4 +15,4 @@ returns c =
     let a = c.args in
     replays-whole a.fix a.now_ms c.taken_apart-g.ensures
     c.put_together.ensures
-    (c.replay_parts-after.ensures.follows a.h)
+    (c.replay_parts-after.ensures a.h)

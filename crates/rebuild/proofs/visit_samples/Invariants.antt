@@ -1,6 +1,4 @@
 -- `rebuild::visit_samples` meets its contract.
-use mathlib.Core.Path.{◌≡◌}
-use lib.ListN.{length}
 use Rattle.fix.specs.Ridden.{ridden}
 use Rattle.rebuild.proofs.Visiting.{Going}
 use Rattle.rebuild.proofs.visit_samples.Given as goal
@@ -9,4 +7,3 @@ abbrev pub invariant-loop-sample : goal.invariant-loop-sample
 invariant-loop-sample l =
     Going l.later l.sample-items l.initial.r l.initial.h l.initial.crumbs l.sample-index
     l.r (ridden l.parts l.h.window l.h) l.crumbs
-    × (length l.h.window ≡ 96)
