@@ -36,7 +36,8 @@ use Rattle.homing.specs.Promises.{MakesNew}
 use Rattle.retelling.specs.declared.Rebuilt.{Rebuilt}
 use Rattle.restart.specs.Promises.{asks_step, Steps}
 use Rattle.retelling.specs.Text.{rebuilt_text, refused_text}
-use Rattle.retelling.specs.Writing.{WritesWhole}
+use Rattle.retelling.specs.Writing.{Writes, PutsWhole}
+use Rattle.retelling.specs.declared.lines.Writer.{Writer}
 use Rattle.retelling.proofs.lines.Numbers.{picked}
 use Rattle.retelling.specs.Retold.{slots, rebuilt, held_after, retold, Retells}
 use Rattle.retelling.specs.Told.{told, Rebuilds}
@@ -126,27 +127,27 @@ module _ (file : List ℕ) {h n : Homing} {r x : Rebuild} {b exit : List Float} 
       record { tells = ap refused_text z.1 ∙ sym (retold-refused file z.0); held = tt; size = done.size ∙ size }
 
 -- ---- what is told
-module _ {chain : Result Rebuilt Refusal} (b : List Float) {e f : List ℕ} {k : ℕ} where
+module _ {chain : Result Rebuilt Refusal} (b : List Float) {t u : Writer} where
   pub tells-rebuilt : {x : Rebuilt} {is : Bool} → chain ≡ Ok x → is ≡ is_decided x.rebuild.stage
-      → WritesWhole (rebuilt_text (crumbs x.len b) x.rebuild.clock_ms is) e f k → WritesWhole (told chain b) e f k
+      → PutsWhole (rebuilt_text (crumbs x.len b) x.rebuild.clock_ms is) t u → PutsWhole (told chain b) t u
   unfolding told
-  tells-rebuilt h decided t = rw (h, ← decided) t
+  tells-rebuilt h decided w = rw (h, ← decided) w
 
-  pub tells-refused : {q : Refusal} {n : ℕ} → chain ≡ Err q → n ≡ number q → WritesWhole (refused_text n) e f k
-      → WritesWhole (told chain b) e f k
+  pub tells-refused : {q : Refusal} {n : ℕ} → chain ≡ Err q → n ≡ number q → PutsWhole (refused_text n) t u → PutsWhole (told chain b) t u
   unfolding told
-  tells-refused h same t = rw h (rw same at t)
+  tells-refused h same w = rw h (rw same at w)
 
-pub retells : {file : List ℕ} {chain : Result Rebuilt Refusal} {b : List Float} {e f : List ℕ} {k : ℕ} → Rebuilds file chain b
-    → WritesWhole (told chain b) e f k → Retells file e f k
-retells {file} {chain} {b} {e} {f} {k} m t = from (rw m.tells at t)
+pub retells : {file : List ℕ} {chain : Result Rebuilt Refusal} {b : List Float} {t u : Writer} {f : List ℕ} → Rebuilds file chain b
+    → t.at ≡ 0 → PutsWhole (told chain b) t u → f ≡ u.text.now → Retells file t.text.now f u.at
+retells {file} {chain} {b} {t} {u} m first w left = rw left (from (rw m.tells at w))
   where
-    from : WritesWhole (retold file) e f k → Retells file e f k
-    from t =
+    from : PutsWhole (retold file) t u → Retells file t.text.now u.text.now u.at
+    from w =
+        let v : Writes (retold file) t.text.now 0 u.text.now u.at = rw first at w.puts.writes in
         record {
-          whole = λ room. t.writes.text ∙ take_all (length e) (retold file) (omega (arith, t.short));
-          text = t.writes.text;
-          inside = t.writes.inside (omega arith);
-          size = t.writes.size;
-          behind = t.writes.behind;
+          whole = λ room. v.text ∙ take_all (length t.text.now) (retold file) (omega (arith, w.short));
+          text = v.text;
+          inside = v.inside (omega arith);
+          size = v.size;
+          behind = v.behind;
         }

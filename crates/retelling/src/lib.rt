@@ -4,10 +4,11 @@
 mod lines;
 
 ghost use Rattle.std.specs.Prelude.{◌≡◌, ◌≤◌, length, IfOk};
-ghost use Rattle.retelling.specs.Writing.{WritesWhole};
+ghost use Rattle.retelling.specs.Writing.{PutsWhole};
 ghost use Rattle.retelling.specs.Retold.{Retells};
 ghost use Rattle.retelling.specs.Told.{told, Rebuilds};
 
+use lines::Writer;
 use rebuild::Rebuild;
 use refusal::Refusal;
 
@@ -25,16 +26,16 @@ struct Rebuilt {
 }
 
 // What is told of a chain, whose crumbs stand in front of the buffer.
-fn put_told(text: &mut [u8], chain: Result<Rebuilt, Refusal>, buf: &[f32]) -> usize
+fn put_told(writer: &mut Writer<'_>, chain: Result<Rebuilt, Refusal>, buf: &[f32])
     requires { (length buf.now ≡ 1536) × IfOk chain (λ x. x.len ≤ 512) }
-    ensures { WritesWhole (told chain buf.now) text.old text.new result }
+    ensures { PutsWhole (told chain buf.now) writer.old writer.new }
 {
     match chain {
         Ok(x) => {
             let decided = rebuild::is_decided(x.rebuild.stage);
-            lines::put_rebuilt(text, x.len, x.rebuild.clock_ms, decided, buf)
+            writer.put_rebuilt(x.len, x.rebuild.clock_ms, decided, buf);
         }
-        Err(refusal) => lines::put_refused(text, refusal.number()),
+        Err(refusal) => writer.put_refused(refusal.number()),
     }
 }
 
@@ -60,5 +61,7 @@ pub fn retell(file: &[u8], text: &mut [u8]) -> usize
 {
     let mut crumbs = [0.0; NUMBERS];
     let chain = rebuild_chain(file, &mut crumbs);
-    put_told(text, chain, &crumbs)
+    let mut writer = Writer { text, at: 0 };
+    put_told(&mut writer, chain, &crumbs);
+    writer.at
 }

@@ -1,45 +1,18 @@
-// The lines that `retell` prints, and the numbers in them. Text is written to a buffer that the caller lends,
-// from a place on; each writer answers the place behind what it wrote, and stops at the end of the buffer.
+// The lines that `retell` prints, and the numbers in them.
 
 ghost use Rattle.std.specs.Prelude.{◌≡◌, ◌∷◌, [], ◌<◌, ◌≤◌, length};
 ghost use Rattle.crumbs.specs.Crumb.{capacity, crumbs};
 ghost use Rattle.retelling.specs.Text.{capital as capital_of, decimal, capitals, pattern, crumb_line, crumb_lines, stage_text, first_line};
 ghost use Rattle.retelling.specs.Text.{rebuilt_text, refused_text};
-ghost use Rattle.retelling.specs.Writing.{Writes, WritesWhole};
+ghost use Rattle.retelling.specs.Writing.{Puts, PutsWhole};
 
 use crumbs::Crumb;
 
-// ---- bytes and words
-
-#[tactic(auto, using(crate::proofs::lines::Writing::writes_byte, crate::proofs::lines::Writing::writes_full))]
-fn put_byte(text: &mut [u8], at: usize, b: u8) -> usize
-    ensures { Writes (b ∷ []) text.old at text.new result }
-{
-    if at < text.len() {
-        text[at] = b;
-        return at + 1;
-    }
-    at
-}
-
-fn put_word(text: &mut [u8], at: usize, word: &[u8]) -> usize
-    ensures { Writes word.now text.old at text.new result }
-{
-    let mut next = at;
-    for b in word {
-        next = put_byte(text, next, *b);
-    }
-    next
-}
-
-// ---- numbers
-
-fn put_decimal(text: &mut [u8], at: usize, n: u64) -> usize
-    ensures { Writes (decimal n) text.old at text.new result }
-{
-    let mut digits = [0u8; 20];
-    let count = io::decimal(n, &mut digits);
-    put_word(text, at, &digits[..count])
+// Writes to a text that the caller lends, from place `at` on, as far as there is room.
+#[derive(Drop)]
+pub struct Writer<'a> {
+    pub text: &'a mut [u8],
+    pub at: usize,
 }
 
 #[tactic(auto, unfolding(crate::specs::Text::capital))]
@@ -53,85 +26,114 @@ fn capital(d: u32) -> u8
     55 + d as u8
 }
 
-// The last `count` hexadecimal digits of `n`.
-fn put_capitals(text: &mut [u8], at: usize, count: u32, n: u32) -> usize
-    ensures { Writes (capitals count n) text.old at text.new result }
-{
-    if count == 0 {
-        return at;
+impl Writer<'_> {
+    // ---- bytes and words
+
+    fn put_byte(&mut self, b: u8)
+        ensures { Puts (b ∷ []) self.old self.new }
+    {
+        if self.at < self.text.len() {
+            self.text[self.at] = b;
+            self.at += 1;
+        }
     }
-    let next = put_capitals(text, at, count - 1, n / 16);
-    put_byte(text, next, capital(n % 16))
-}
 
-#[tactic(auto, unfolding(crate::specs::Text::pattern))]
-fn put_pattern(text: &mut [u8], at: usize, x: f32) -> usize
-    ensures { Writes (pattern x) text.old at text.new result }
-{
-    put_capitals(text, at, 8, binary32::pattern(x))
-}
-
-// ---- lines
-
-fn put_crumb(text: &mut [u8], at: usize, c: Crumb) -> usize
-    ensures { Writes (crumb_line c) text.old at text.new result }
-{
-    let at = put_pattern(text, at, c.east);
-    let at = put_byte(text, at, b' ');
-    let at = put_pattern(text, at, c.north);
-    let at = put_byte(text, at, b' ');
-    let at = put_pattern(text, at, c.along);
-    put_byte(text, at, b'\n')
-}
-
-// The first `len` crumbs of the buffer.
-fn put_crumbs(text: &mut [u8], at: usize, buf: &[f32], len: usize) -> usize
-    requires { len ≤ capacity (length buf.now) }
-    ensures { Writes (crumb_lines (crumbs len buf.now)) text.old at text.new result }
-{
-    let mut next = at;
-    for i in 0..len {
-        next = put_crumb(text, next, crumbs::crumb_at(buf, i));
+    fn put_word(&mut self, word: &[u8])
+        ensures { Puts word.now self.old self.new }
+    {
+        for b in word {
+            self.put_byte(*b);
+        }
     }
-    next
-}
 
-#[tactic(auto, unfolding(crate::specs::Text::stage_text))]
-fn put_stage(text: &mut [u8], at: usize, decided: bool) -> usize
-    ensures { Writes (stage_text decided) text.old at text.new result }
-{
-    if decided {
-        return put_word(text, at, b"decided");
+    // ---- numbers
+
+    fn put_decimal(&mut self, n: u64)
+        ensures { Puts (decimal n) self.old self.new }
+    {
+        let mut digits = [0u8; 20];
+        let count = io::decimal(n, &mut digits);
+        self.put_word(&digits[..count]);
     }
-    put_word(text, at, b"pending")
-}
 
-fn put_first(text: &mut [u8], at: usize, len: usize, clock_ms: u64, decided: bool) -> usize
-    ensures { Writes (first_line len clock_ms decided) text.old at text.new result }
-{
-    let at = put_word(text, at, b"crumbs ");
-    let at = put_decimal(text, at, len as u64);
-    let at = put_word(text, at, b" clock ");
-    let at = put_decimal(text, at, clock_ms);
-    let at = put_word(text, at, b" stage ");
-    let at = put_stage(text, at, decided);
-    put_byte(text, at, b'\n')
-}
+    // The last `count` hexadecimal digits of `n`.
+    fn put_capitals(&mut self, count: u32, n: u32)
+        ensures { Puts (capitals count n) self.old self.new }
+    {
+        if count == 0 {
+            return;
+        }
+        self.put_capitals(count - 1, n / 16);
+        self.put_byte(capital(n % 16));
+    }
 
-pub fn put_refused(text: &mut [u8], number: u8) -> usize
-    ensures { WritesWhole (refused_text number) text.old text.new result }
-{
-    let at = put_word(text, 0, b"refused ");
-    let at = put_decimal(text, at, u64::from(number));
-    put_byte(text, at, b'\n')
-}
+    #[tactic(auto, unfolding(crate::specs::Text::pattern))]
+    fn put_pattern(&mut self, x: f32)
+        ensures { Puts (pattern x) self.old self.new }
+    {
+        self.put_capitals(8, binary32::pattern(x));
+    }
 
-// The first line, and the first `len` crumbs of the buffer.
-pub fn put_rebuilt(text: &mut [u8], len: usize, clock_ms: u64, decided: bool, buf: &[f32]) -> usize
-    requires { (length buf.now ≡ 1536) × (len ≤ 512) }
-    ensures { WritesWhole (rebuilt_text (crumbs len buf.now) clock_ms decided) text.old
-        text.new result }
-{
-    let at = put_first(text, 0, len, clock_ms, decided);
-    put_crumbs(text, at, buf, len)
+    // ---- lines
+
+    fn put_crumb(&mut self, c: Crumb)
+        ensures { Puts (crumb_line c) self.old self.new }
+    {
+        self.put_pattern(c.east);
+        self.put_byte(b' ');
+        self.put_pattern(c.north);
+        self.put_byte(b' ');
+        self.put_pattern(c.along);
+        self.put_byte(b'\n');
+    }
+
+    // The first `len` crumbs of the buffer.
+    fn put_crumbs(&mut self, buf: &[f32], len: usize)
+        requires { len ≤ capacity (length buf.now) }
+        ensures { Puts (crumb_lines (crumbs len buf.now)) self.old self.new }
+    {
+        for i in 0..len {
+            self.put_crumb(crumbs::crumb_at(buf, i));
+        }
+    }
+
+    #[tactic(auto, unfolding(crate::specs::Text::stage_text))]
+    fn put_stage(&mut self, decided: bool)
+        ensures { Puts (stage_text decided) self.old self.new }
+    {
+        if decided {
+            self.put_word(b"decided");
+        } else {
+            self.put_word(b"pending");
+        }
+    }
+
+    fn put_first(&mut self, len: usize, clock_ms: u64, decided: bool)
+        ensures { Puts (first_line len clock_ms decided) self.old self.new }
+    {
+        self.put_word(b"crumbs ");
+        self.put_decimal(len as u64);
+        self.put_word(b" clock ");
+        self.put_decimal(clock_ms);
+        self.put_word(b" stage ");
+        self.put_stage(decided);
+        self.put_byte(b'\n');
+    }
+
+    pub fn put_refused(&mut self, number: u8)
+        ensures { PutsWhole (refused_text number) self.old self.new }
+    {
+        self.put_word(b"refused ");
+        self.put_decimal(u64::from(number));
+        self.put_byte(b'\n');
+    }
+
+    // The first line, and the first `len` crumbs of the buffer.
+    pub fn put_rebuilt(&mut self, len: usize, clock_ms: u64, decided: bool, buf: &[f32])
+        requires { (length buf.now ≡ 1536) × (len ≤ 512) }
+        ensures { PutsWhole (rebuilt_text (crumbs len buf.now) clock_ms decided) self.old self.new }
+    {
+        self.put_first(len, clock_ms, decided);
+        self.put_crumbs(buf, len);
+    }
 }

@@ -14,8 +14,9 @@ use Rattle.crumbs.specs.Crumb.{crumbs}
 use Rattle.crumbs.proofs.Crumbs.{length-crumbs}
 use Rattle.retelling.specs.Text.{decimal, capitals, pattern, crumb_line, crumb_lines}
 use Rattle.retelling.specs.Text.{stage_text, first_line, rebuilt_text, refused_text}
-use Rattle.retelling.specs.Writing.{Writes, text_most, WritesWhole}
-use Rattle.retelling.proofs.lines.Numbers.{decimal-one, decimal-more, writes-rebuilt}
+use Rattle.retelling.specs.Writing.{Puts, text_most, PutsWhole}
+use Rattle.retelling.specs.declared.lines.Writer.{Writer}
+use Rattle.retelling.proofs.lines.Numbers.{decimal-one, decimal-more, puts-rebuilt}
 
 -- ---- numbers
 power : (n p : ℕ) → n < p * 10 → n / 10 < p
@@ -86,15 +87,14 @@ unfolding refused_text
 refused-length number h = let x : length (decimal number) ≤ 20 = decimal-length number h in simp length-append (omega arith)
 
 -- ---- written
-pub tells_first : (n : ℕ) (b : List Float) (clock : ℕ) (decided : Bool) {e m f : List ℕ} {x r : ℕ} → n ≤ 512 → clock < 2 ^ 64
-    → Writes (first_line n clock decided) e 0 m x → Writes (crumb_lines (crumbs n b)) m x f r
-    → WritesWhole (rebuilt_text (crumbs n b) clock decided) e f r
-tells_first n b clock decided most fits w v =
+pub puts-first : (n : ℕ) (b : List Float) (clock : ℕ) (decided : Bool) {t m u : Writer} → n ≤ 512 → clock < 2 ^ 64
+    → Puts (first_line n clock decided) t m → Puts (crumb_lines (crumbs n b)) m u
+    → PutsWhole (rebuilt_text (crumbs n b) clock decided) t u
+puts-first n b clock decided most fits w v =
     record {
-      writes = writes-rebuilt n b clock decided w v;
+      puts = puts-rebuilt n b clock decided w v;
       short = rebuilt-length (crumbs n b) clock decided (omega (arith, length-crumbs n b)) fits;
     }
 
-pub tells-number : (number : ℕ) {e f : List ℕ} {r : ℕ} → number < 2 ^ 64 → Writes (refused_text number) e 0 f r
-    → WritesWhole (refused_text number) e f r
-tells-number number fits w = record { writes = w; short = refused-length number fits }
+pub puts-number : (number : ℕ) {t u : Writer} → number < 2 ^ 64 → Puts (refused_text number) t u → PutsWhole (refused_text number) t u
+puts-number number fits w = record { puts = w; short = refused-length number fits }

@@ -17,8 +17,9 @@ use Rattle.crumbs.specs.declared.Crumb.{Crumb}
 use Rattle.crumbs.specs.Crumb.{crumb_at, crumbs}
 use Rattle.crumbs.proofs.Crumbs.{length-crumbs, get_d-crumbs, take-crumbs}
 use Rattle.retelling.specs.Text.{numeral, capital, numerals, decimal, capitals, crumb_line, crumb_lines, first_line, rebuilt_text}
-use Rattle.retelling.specs.Writing.{Writes}
-use Rattle.retelling.proofs.lines.Writing.{writes-none, writes_then}
+use Rattle.retelling.specs.Writing.{Puts}
+use Rattle.retelling.specs.declared.lines.Writer.{Writer}
+use Rattle.retelling.proofs.lines.Writing.{puts-none, puts_then}
 
 -- ---- one of two by a test
 module _ {A : Type 0} (x y : A) where
@@ -141,35 +142,33 @@ pub lines-on : (i : ℕ) (b : List Float) → crumb_lines (crumbs (i + 1) b) ≡
 lines-on i b = ap crumb_lines (crumbs-on i b) ∙ lines-append (crumbs i b) (crumb_at b i)
 
 -- ---- written
-pub writes-decimal : (k n : ℕ) {text e f : List ℕ} {at r : ℕ} → IsDigitCount 10 1 n k → text ≡ last_digits 10 k n → Writes text e at f r
-    → Writes (decimal n) e at f r
-writes-decimal k n h t w = rw (t ∙ decimal-is k n h) at w
+pub puts-decimal : (k n : ℕ) {text : List ℕ} {t u : Writer} → IsDigitCount 10 1 n k → text ≡ last_digits 10 k n → Puts text t u
+    → Puts (decimal n) t u
+puts-decimal k n h e w = rw (e ∙ decimal-is k n h) at w
 
-pub writes-no-capital : (k n : ℕ) {e f : List ℕ} {at r : ℕ} → k ≡ 0 → Writes [] e at f r → Writes (capitals k n) e at f r
-writes-no-capital k n h w = rw (capitals-none k n h) w
+pub puts-no-capital : (k n : ℕ) {t u : Writer} → k ≡ 0 → Puts [] t u → Puts (capitals k n) t u
+puts-no-capital k n h w = rw (capitals-none k n h) w
 
-module _ {e m f : List ℕ} {at x r : ℕ} where
-  pub writes-capital : (k n : ℕ) {d : ℕ} → k ≢ 0 → d ≡ capital (n % 16) → Writes (capitals (k - 1) (n / 16)) e at m x
-      → Writes (d ∷ []) m x f r
-      → Writes (capitals k n) e at f r
-  writes-capital k n h d w v = rw (capitals-more k n h, ← d) (writes_then w v)
+module _ {t m u : Writer} where
+  pub puts-capital : (k n : ℕ) {d : ℕ} → k ≢ 0 → d ≡ capital (n % 16) → Puts (capitals (k - 1) (n / 16)) t m → Puts (d ∷ []) m u
+      → Puts (capitals k n) t u
+  puts-capital k n h d w v = rw (capitals-more k n h, ← d) (puts_then w v)
 
-  pub writes-crumb : (i : ℕ) (b : List Float) {c : Crumb} → c ≡ crumb_at b i → Writes (crumb_lines (crumbs i b)) e at m x
-      → Writes (crumb_line c) m x f r
-      → Writes (crumb_lines (crumbs (i + 1) b)) e at f r
-  writes-crumb i b c w v = rw (lines-on i b, ← c) (writes_then w v)
+  pub puts-crumb : (i : ℕ) (b : List Float) {c : Crumb} → c ≡ crumb_at b i → Puts (crumb_lines (crumbs i b)) t m
+      → Puts (crumb_line c) m u
+      → Puts (crumb_lines (crumbs (i + 1) b)) t u
+  puts-crumb i b c w v = rw (lines-on i b, ← c) (puts_then w v)
 
-pub writes-no-crumb : (b : List Float) (e : List ℕ) (at : ℕ) → Writes (crumb_lines (crumbs 0 b)) e at e at
+  pub puts-rebuilt : (n : ℕ) (b : List Float) (clock : ℕ) (decided : Bool) → Puts (first_line n clock decided) t m
+      → Puts (crumb_lines (crumbs n b)) m u → Puts (rebuilt_text (crumbs n b) clock decided) t u
+  unfolding rebuilt_text
+  puts-rebuilt n b clock decided w v = rw (length-crumbs n b) (puts_then w v)
+
+pub puts-no-crumb : (b : List Float) (t : Writer) → Puts (crumb_lines (crumbs 0 b)) t t
 unfolding crumbs crumb_lines
-writes-no-crumb b e at = writes-none e at
+puts-no-crumb b t = puts-none t
 
 -- all of them, once the last is passed
-pub writes-crumbs : (b : List Float) {i n : ℕ} {e f : List ℕ} {at r : ℕ} → i ≤ n → n ≤ i → Writes (crumb_lines (crumbs i b)) e at f r
-    → Writes (crumb_lines (crumbs n b)) e at f r
-writes-crumbs b {i} {n} x y w = let same : i ≡ n = omega arith in rw same at w
-
-pub writes-rebuilt : (n : ℕ) (b : List Float) (clock : ℕ) (decided : Bool) {e m f : List ℕ} {at x r : ℕ}
-    → Writes (first_line n clock decided) e at m x
-    → Writes (crumb_lines (crumbs n b)) m x f r → Writes (rebuilt_text (crumbs n b) clock decided) e at f r
-unfolding rebuilt_text
-writes-rebuilt n b clock decided w v = rw (length-crumbs n b) (writes_then w v)
+pub puts-crumbs : (b : List Float) {i n : ℕ} {t u : Writer} → i ≤ n → n ≤ i → Puts (crumb_lines (crumbs i b)) t u
+    → Puts (crumb_lines (crumbs n b)) t u
+puts-crumbs b {i} {n} x y w = let same : i ≡ n = omega arith in rw same at w

@@ -7,7 +7,8 @@ use native.Mathlib.Nat.{le_refl, le_trans}
 use native.Mathlib.Numerals.{add-one}
 use lib.ListN.{length, take, drop, set, get_or, length-set, length-take, length-append}
 use lib.Seq.{take_all, take-append_seam, take-suc, take-suc-set, drop-set-lt, drop-drop}
-use Rattle.retelling.specs.Writing.{Writes}
+use Rattle.retelling.specs.Writing.{Writes, Puts}
+use Rattle.retelling.specs.declared.lines.Writer.{Writer}
 
 -- what is cut off is not missed where it would be cut off again
 take-cut : (n : ℕ) (s t : List ℕ) → take n (take n s ++ t) ≡ take n (s ++ t)
@@ -73,13 +74,25 @@ module _ {a b e m f : List ℕ} {at x r : ℕ} (w : Writes a e at m x) (v : Writ
         behind = v.behind ∙ drop_more x r m e v.on w.behind;
       }
 
+-- ---- a writer
+pub puts-none : (t : Writer) → Puts [] t t
+puts-none t = record { writes = writes-none t.text.now t.at; same = refl }
+
+pub puts_byte : {t u : Writer} {b : ℕ} → t.at < length t.text.now → u.text.now ≡ set t.text.now t.at b → u.at ≡ t.at + 1
+    → u.text.ghost_name ≡ t.text.ghost_name → Puts (b ∷ []) t u
+puts_byte {t = t} {b = b} h put on same = record { writes = rw (put, on) (writes_byte t.text.now t.at b h); same = same }
+
+pub puts-full : (l : List ℕ) (t : Writer) → length t.text.now ≤ t.at → Puts l t t
+puts-full l t h = record { writes = writes_full l t.text.now t.at h; same = refl }
+
+pub puts_then : {a b : List ℕ} {t m u : Writer} → Puts a t m → Puts b m u → Puts (a ++ b) t u
+puts_then w v = record { writes = writes_then w.writes v.writes; same = v.same ∙ w.same }
+
 -- a word's next byte behind those before it
-pub writes-next : (word : List ℕ) (i : ℕ) {e m f : List ℕ} {at x r b : ℕ} → Writes (take i word) e at m x → i < length word
-    → b ≡ get_or word i 0 → Writes (b ∷ []) m x f r
-    → Writes (take (i + 1) word) e at f r
-writes-next word i w h e v = rw (add-one i, take-suc word i 0 h, ← e) (writes_then w v)
+pub puts-next : (word : List ℕ) (i : ℕ) {t m u : Writer} {b : ℕ} → Puts (take i word) t m → i < length word → b ≡ get_or word i 0
+    → Puts (b ∷ []) m u → Puts (take (i + 1) word) t u
+puts-next word i w h e v = rw (add-one i, take-suc word i 0 h, ← e) (puts_then w v)
 
 -- the whole word, once its last byte is passed
-pub writes-whole : (word : List ℕ) (i : ℕ) {e f : List ℕ} {at r : ℕ} → length word ≤ i → Writes (take i word) e at f r
-    → Writes word e at f r
-writes-whole word i h w = rw (take_all i word h) at w
+pub puts-whole : (word : List ℕ) (i : ℕ) {t u : Writer} → length word ≤ i → Puts (take i word) t u → Puts word t u
+puts-whole word i h w = rw (take_all i word h) at w

@@ -1,5 +1,0 @@
--- `retelling::lines::put_capitals` ends: one digit fewer is left.
-use Rattle.retelling.proofs.lines.+put_capitals.Given as goal
-
-abbrev pub decreases-put_capitals : goal.decreases-put_capitals
-decreases-put_capitals l = l.count
