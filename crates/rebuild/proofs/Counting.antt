@@ -86,7 +86,8 @@ fix-makes x later t r on = by (skips r.stage later)
     by true = nothing
     by false = both (meets-makes r.stage later t r) (replay x _ on nothing)
 
-place-makes : (p : Option Fix) (later : Bool) (t : Option ℕ) (r : Rebuild) → FixesOnGlobe (point_of p) → Rebuilding (visit_place p later t r).calls
+place-makes : (p : Option Fix) (later : Bool) (t : Option ℕ) (r : Rebuild) → FixesOnGlobe (point_of p)
+    → Rebuilding (visit_place p later t r).calls
 unfolding visit_place
 place-makes (Some x) later t r on = fix-makes x later t r on.0
 place-makes None later t r on = nothing

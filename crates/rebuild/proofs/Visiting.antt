@@ -120,7 +120,8 @@ module _ {x : Heard} {g : Ridden} {h : Homing} where
   pub begins-anew : {k l : Ridden} {whole m n : Homing} → x.anew ≡ true → whole ≡ ridden g h.window h → Resets whole m → k ≡ parts m
       → n ≡ m → l ≡ k → Begins x g h l n
   begins-anew {m = m} e together a apart same kept =
-      so (record { settles = begun-anew (ridden g h.window h) refl m e (subst (λ (t : Homing). Resets t m) together a) }) same (kept ∙ apart)
+      so (record { settles = begun-anew (ridden g h.window h) refl m e (subst (λ (t : Homing). Resets t m) together a) })
+      same (kept ∙ apart)
 
   -- and then the fix is replayed
   pub heard : {rule : Made} {k : Ridden} {n n' : Homing} {r' : Rebuild} {entry exit : List Float} → rule ≡ heard_makes x
@@ -157,7 +158,8 @@ module _ {later : Bool} {xs : List Sample} {r : Rebuild} {h : Homing} where
   going_start {b = b} apart f =
       subst (λ (p : Ridden). Going later xs r h b 0 r (ridden p h.window h) b) (sym apart) (record { made = makes-quiet r h b f })
 
-  module _ {entry mid : List Float} {i : ℕ} {n : Rebuild} {k : Homing} (g : Going later xs r h entry i n k mid) (within : i < length xs) where
+  module _ {entry mid : List Float} {i : ℕ} {n : Rebuild} {k : Homing} (g : Going later xs r h entry i n k mid)
+      (within : i < length xs) where
     pub going_on : {exit : List Float} {n' : Rebuild} {k' : Homing} (d : Sample)
         → Makes (visit_sample later (get_or xs i d) n) k mid n' k' exit → Going later xs r h entry (i + 1) n' k' exit
     going_on {exit = exit} {n' = n'} {k' = k'} d m =

@@ -54,7 +54,8 @@ module _ (budget upper : ℕ) (file : List ℕ) (r : Rebuild) (h : Homing) (b : 
         size = refl;
       }
 
-  pub step-taken : {n : Rebuild} {k : Homing} {exit : List Float} {done : Bool} → asked ≡ 0 → Makes (walk budget upper (slot file) r) h b n k exit
+  pub step-taken : {n : Rebuild} {k : Homing} {exit : List Float} {done : Bool} → asked ≡ 0
+      → Makes (walk budget upper (slot file) r) h b n k exit
       → done ≡ takes_over upper n
       → Steps budget upper file r h b n k (Ok done) exit
   unfolding step
