@@ -8,7 +8,7 @@ ghost use Rattle.calls.specs.Ask.{course_ahead_on, route_home_on, way_back_from}
 ghost use Rattle.answers.specs.Promises.{AnswersLen, AnswersFollowing, AnswersFollowingCourse, AnswersCourseAhead, AnswersRouteHome};
 ghost use Rattle.answers.specs.Promises.{AnswersHeading, AnswersGuide, AnswersWayBack, ReturnsCrumbs, ReturnsCourse, AnswersArrow};
 
-use crumbs::along;
+use crumbs::held::Crumbs;
 use plane::Point;
 use questions::limits;
 use refusal::Refusal;
@@ -89,8 +89,9 @@ fn way_back_from(here: Option<Point>, crumbs: &[f32], len: usize) -> Option<Back
     if len == 0 {
         return None;
     }
-    let direct = plane::distance(p, along::start(crumbs, len, p));
-    let track = along::recorded_m(crumbs, len, p);
+    let held = Crumbs::new(crumbs, len);
+    let direct = plane::distance(p, held.start(p));
+    let track = held.recorded_m(p);
     Some(Back {
         direct: binary32::as_u32(direct),
         track: binary32::as_u32(track),

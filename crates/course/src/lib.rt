@@ -7,7 +7,8 @@ ghost use Rattle.course.specs.Fix.{located, framed};
 ghost use Rattle.course.specs.Course.{fixes, no_origin, placed, line_of, waits};
 ghost use Rattle.course.specs.View.{Places};
 
-use crumbs::{Crumb, along};
+use crumbs::Crumb;
+use crumbs::held::Crumbs;
 use plane::{Fix, Point};
 use state::Frame;
 
@@ -76,7 +77,7 @@ fn place_all(f: Frame, lats: &[i32], lons: &[i32], line: &mut [f32]) -> usize
         let c = Crumb {
             east: p.east,
             north: p.north,
-            along: along::recorded_m(line, k, p),
+            along: Crumbs::new(line, k).recorded_m(p),
         };
         crumbs::put(line, k, c);
     }

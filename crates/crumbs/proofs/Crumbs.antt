@@ -12,6 +12,7 @@ use lib.Seq.{ext_get_or}
 use lib.Ieee.{Float, nan}
 use Rattle.crumbs.specs.declared.Crumb.{Crumb}
 use Rattle.crumbs.specs.Crumb.{stride, capacity, crumb_at, crumbs, in_front, behind}
+use Rattle.crumbs.specs.Line.{no_crumb, at}
 use Rattle.crumbs.specs.Inner.{put_at, Front}
 
 crumb-path : {x y : Crumb} → x.east ≡ y.east → x.north ≡ y.north → x.along ≡ y.along → x ≡ y
@@ -41,6 +42,10 @@ unfolding crumbs
 get_d-crumbs zero b i d h = absurd (omega arith)
 get_d-crumbs (suc n) b zero d h = refl
 get_d-crumbs (suc n) b (suc i) d h = get_d-crumbs n (drop stride b) i d (omega arith) ∙ crumb_at-drop b i
+
+pub at_held : (n : ℕ) (b : List Float) (i : ℕ) → i < n → at (crumbs n b) i ≡ crumb_at b i
+unfolding at
+at_held n b i h = get_d-crumbs n b i no_crumb h
 
 -- the crumbs from place i on begin with the one there
 pub drop-crumbs : (n : ℕ) (b : List Float) (i : ℕ) → i < n → drop i (crumbs n b) ≡ crumb_at b i ∷ drop (suc i) (crumbs n b)

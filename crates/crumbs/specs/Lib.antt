@@ -1,4 +1,5 @@
 pub mod Crumb
+pub mod Line
 pub mod Choice
 pub mod Along
 pub mod Inner

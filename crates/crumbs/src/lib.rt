@@ -3,6 +3,7 @@
 
 pub mod along;
 pub mod bounds;
+pub mod held;
 
 ghost use Rattle.std.specs.Prelude.{◌≡◌, ◌<◌, length};
 ghost use Rattle.crumbs.specs.Crumb.{whole, capacity, crumb_at, point};
@@ -10,11 +11,8 @@ ghost use Rattle.crumbs.specs.Inner.{put_at, Front};
 
 use plane::Point;
 
-// How many numbers of a buffer a crumb takes,
+// How many numbers of a buffer a crumb takes.
 pub const STRIDE: usize = 3;
-
-// and how many of a course's line.
-const LINE_STRIDE: usize = 3;
 
 // A place in metres, and how far along the line it lies.
 #[derive(Clone, Copy)]
@@ -58,19 +56,6 @@ pub fn crumb_at(buf: &[f32], i: usize) -> Crumb
         east: buf[at],
         north: buf[at + 1],
         along: buf[at + 2],
-    }
-}
-
-// The crumb at place `i` of a course's line.
-pub fn line_at(line: &[f32], i: usize) -> Crumb
-    requires { i < capacity (length line.now) }
-    ensures { result ≡ crumb_at line.now i }
-{
-    let at = LINE_STRIDE * i;
-    Crumb {
-        east: line[at],
-        north: line[at + 1],
-        along: line[at + 2],
     }
 }
 

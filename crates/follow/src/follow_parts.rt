@@ -1,10 +1,10 @@
 // What a following that begins or ends changes in the groups of the state, each by itself.
 
-ghost use Rattle.std.specs.Prelude.{◌≡◌, ◌≤◌, length};
-ghost use Rattle.crumbs.specs.Crumb.{capacity, crumbs as held_crumbs};
+ghost use Rattle.std.specs.Prelude.{◌≡◌};
 ghost use Rattle.follow.specs.Record.{after_thinning};
 ghost use Rattle.follow.specs.Parts.{ended_by_thinning, stopped, held_off, along_at, course_from, leads};
 
+use crumbs::held::Crumbs;
 use plane::Point;
 use state::{Course, Follow, Line};
 
@@ -61,21 +61,19 @@ pub fn held_off(c: Course) -> Course
 }
 
 // Metres to the course's end at its place `end`, 0 where the course has none.
-fn along_at(line: &[f32], len: usize, end: usize) -> f32
-    requires { len ≤ capacity (length line.now) }
-    ensures { result ≡ along_at (held_crumbs len line.now) end }
+fn along_at(line: &Crumbs, end: usize) -> f32
+    ensures { result ≡ along_at line.now end }
 {
-    if end < len {
-        return segments::line_crumb(line, len, end).along;
+    if end < line.len() {
+        return line.crumb(end).along;
     }
     0.0
 }
 
-pub fn course_from(c: Course, line: &[f32], end: usize) -> Course
-    requires { c.line_len ≤ capacity (length line.now) }
-    ensures { result ≡ course_from (held_crumbs c.line_len line.now) end c }
+pub fn course_from(c: Course, line: &Crumbs, end: usize) -> Course
+    ensures { result ≡ course_from line.now end c }
 {
-    let along = along_at(line, c.line_len, end);
+    let along = along_at(line, end);
     Course {
         join_fixes: 0,
         along,
@@ -88,12 +86,12 @@ pub fn course_from(c: Course, line: &[f32], end: usize) -> Course
 // ---- the breadcrumb
 
 // Whether the breadcrumb leads anywhere.
-pub fn leads(crumbs: &[f32], len: usize) -> bool
-    requires { len ≤ capacity (length crumbs.now) }
-    ensures { result ≡ leads (held_crumbs len crumbs.now) }
+pub fn leads(crumbs: &Crumbs) -> bool
+    ensures { result ≡ leads crumbs.now }
 {
+    let len = crumbs.len();
     if len < 2 {
         return false;
     }
-    !(segments::crumb(crumbs, len, len - 1).along < trail::MIN_STEP_M)
+    !(crumbs.crumb(len - 1).along < trail::MIN_STEP_M)
 }

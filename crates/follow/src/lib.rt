@@ -12,6 +12,7 @@ ghost use Rattle.follow.specs.Record.{keep_in, add_in, flush_in};
 ghost use Rattle.follow.specs.Engage.{engage_at, engage, leave_at, stop_nothing, stop_course, stop_breadcrumb, stop};
 ghost use Rattle.follow.specs.View.{course_of, Changes, Follows, Asks, decided_in};
 
+use crumbs::held::Crumbs;
 use plane::Point;
 use state::{Follow, Guided, Homing, Line};
 
@@ -78,9 +79,10 @@ pub fn engage_at(h: Guided, line: &[f32], on: Line, end: usize, now_ms: u64) -> 
         off: false,
         reminded_ms: now_ms,
     };
+    let placed = Crumbs::new(line, h.course.line_len);
     let mut next = h;
     next.follow = follow;
-    next.course = follow_parts::course_from(h.course, line, end);
+    next.course = follow_parts::course_from(h.course, &placed, end);
     next
 }
 
@@ -91,7 +93,7 @@ pub fn engage(h: Guided, crumbs: &[f32], line: &[f32], now_ms: u64) -> Decided
         → Asks (engage (course_of (whole h w) line.now) now_ms) (whole h w) crumbs.now (decided_in result w) }
 {
     let len = h.trail.len;
-    if follow_parts::leads(crumbs, len) {
+    if follow_parts::leads(&Crumbs::new(crumbs, len)) {
         let guided = engage_at(h, line, Line::Breadcrumb, len - 1, now_ms);
         return Decided { guided, yes: true };
     }

@@ -7,7 +7,6 @@ use Rattle.binary32.specs.Limits.{plus_zero}
 use Rattle.plane.specs.declared.Point.{Point}
 use Rattle.plane.specs.Plane.{distance}
 use Rattle.crumbs.specs.declared.Crumb.{Crumb}
-use Rattle.crumbs.specs.Crumb.{crumbs}
 use Rattle.crumbs.specs.Along.{recorded_m, start_of}
 use Rattle.state.specs.declared.Event.{Event}
 use Rattle.state.specs.declared.Event.TheVariants as event
@@ -25,11 +24,11 @@ use Rattle.guide.specs.Goal.{goal_on, long_enough}
 use Rattle.guide.specs.Guide.{arrival_from, guide_at, finished, direct}
 use Rattle.guide.specs.View.{arriving, displaying, Stands}
 
-module _ {x : Standing} {b : List Float} {s : State} (stands : Stands x b s) (course : List Crumb) (p : Point) (w : Way) (e : Event) where
+module _ {x : Standing} {s : State} (stands : Stands x s) (course : List Crumb) (p : Point) (w : Way) (e : Event) where
   abbrev goal_here : Point
   goal_here = goal_on s.follow.line course (start_of s.track.crumbs p)
 
-  goal-here : {start goal : Point} → start ≡ start_of (crumbs x.held b) p → goal ≡ goal_on x.follow.line course start → goal ≡ goal_here
+  goal-here : {start goal : Point} → start ≡ start_of x.crumbs.now p → goal ≡ goal_on x.follow.line course start → goal ≡ goal_here
   goal-here {start} es eg =
       eg
       ∙ ap (λ (f : Follow). goal_on f.line course start) stands.follow
@@ -38,7 +37,7 @@ module _ {x : Standing} {b : List Float} {s : State} (stands : Stands x b s) (co
   abbrev long_here : Bool
   long_here = long_enough (on_course s.follow.line) s.track.crumbs
 
-  long-here : {on long : Bool} → on ≡ on_course x.follow.line → long ≡ long_enough on (crumbs x.held b) → long ≡ long_here
+  long-here : {on long : Bool} → on ≡ on_course x.follow.line → long ≡ long_enough on x.crumbs.now → long ≡ long_here
   long-here {on} eo el =
       el
       ∙ ap (λ (l : List Crumb). long_enough on l) stands.crumbs
@@ -61,9 +60,9 @@ module _ {x : Standing} {b : List Float} {s : State} (stands : Stands x b s) (co
   abbrev shown_by : Point → Float → Done Event → Done Event
   shown_by goal direct a = done a.answer (with_guide (Some (guide_at course p goal direct w a.state)) a.state)
 
-  pub shows : {start goal : Point} {direct : Float} {on long : Bool} {a : Arrival} {g : Guide} → start ≡ start_of (crumbs x.held b) p
+  pub shows : {start goal : Point} {direct : Float} {on long : Bool} {a : Arrival} {g : Guide} → start ≡ start_of x.crumbs.now p
       → goal ≡ goal_on x.follow.line course start → direct ≡ distance p goal
-      → on ≡ on_course x.follow.line → long ≡ long_enough on (crumbs x.held b)
+      → on ≡ on_course x.follow.line → long ≡ long_enough on x.crumbs.now
       → arrival_of x.arrived x.follow direct long ≡ arriving a s → g ≡ guide_at course p goal direct w (arriving a s).state
       → finished course p w e s ≡ displaying (record { arrival = a; guide = g }) s
   unfolding finished
@@ -75,14 +74,14 @@ module _ {x : Standing} {b : List Float} {s : State} (stands : Stands x b s) (co
       ∙ sym (ap (λ (y : Guide). done a.event (with_guide (Some y) (arriving a s).state)) guide)
 
 -- ---- nothing to follow
-module _ {x : Standing} {b : List Float} {s : State} (stands : Stands x b s) (course : List Crumb) (p : Point) where
+module _ {x : Standing} {s : State} (stands : Stands x s) (course : List Crumb) (p : Point) where
   abbrev way : Float → Point → Way
   way track target = record { mode = mode.Direct; track = track; off = plus_zero; target = target }
 
   abbrev straight_by : Float → Point → Done Event
   straight_by track target = finished course p (way track target) event.Nothing s
 
-  pub straight : {track : Float} {start : Point} → track ≡ recorded_m (crumbs x.held b) p → start ≡ start_of (crumbs x.held b) p
+  pub straight : {track : Float} {start : Point} → track ≡ recorded_m x.crumbs.now p → start ≡ start_of x.crumbs.now p
       → direct course p s ≡ straight_by track start
   unfolding direct
   straight {track} {start} et es =

@@ -1,7 +1,5 @@
 -- For the functions inside: what a function that shows a guide promises.
 use Rattle.std.specs.Prelude.{◌≡◌, List, Float, Some}
-use Rattle.crumbs.specs.declared.Crumb.{Crumb}
-use Rattle.crumbs.specs.Crumb.{crumbs}
 use Rattle.state.specs.declared.Event.{Event}
 use Rattle.state.specs.declared.Homing.{Homing}
 use Rattle.state.specs.State.{State, state_of, with_follow, with_arrived, with_guide}
@@ -25,17 +23,13 @@ arriving a s = done a.event (with_arrived a.arrived (with_follow a.follow s))
 abbrev pub displaying : Display → State → Done Event
 displaying d s = let a = arriving d.arrival s in done a.answer (with_guide (Some d.guide) a.state)
 
--- x is what the guide is made of in a state, whose breadcrumb lies in b
-pub record Stands (x : Standing) (b : List Float) (s : State) : Type 0 where
+-- x is what the guide is made of in a state
+pub record Stands (x : Standing) (s : State) : Type 0 where
   pub follow : x.follow ≡ s.follow
   pub arrived : x.arrived ≡ s.arrived
   pub heading : x.heading ≡ s.motion.heading
-  pub crumbs : crumbs x.held b ≡ s.track.crumbs
-
--- the placed course in a line buffer
-abbrev pub course_held : Standing → List Float → List Crumb
-course_held x line = crumbs x.placed line
+  pub crumbs : x.crumbs.now ≡ s.track.crumbs
 
 -- in every state in which x is what the guide is made of
-abbrev pub WhereStanding : Standing → List Float → (State → Type 0) → Type 0
-WhereStanding x b fact = (s : State) → Stands x b s → fact s
+abbrev pub WhereStanding : Standing → (State → Type 0) → Type 0
+WhereStanding x fact = (s : State) → Stands x s → fact s

@@ -1,13 +1,12 @@
 // Where the rider is to arrive, and what the guide shows by it.
 
 ghost use Rattle.std.specs.Prelude.{◌≡◌, ◌-◌, ◌≤◌, ◌<◌, length};
-ghost use Rattle.crumbs.specs.Crumb.{capacity, crumbs as held_crumbs};
 ghost use Rattle.guide.specs.Goal.{goal_on, long_enough, mode_of, aim, found_any, near_course};
 ghost use Rattle.guide.specs.Near.{lies_near, some_near};
 ghost use Rattle.search.specs.Course.{course_near};
 ghost use Rattle.matching.specs.Distances.{drop_m};
 
-use crumbs::along;
+use crumbs::held::Crumbs;
 use matching::distances;
 use plane::Point;
 use state::{Line, Mode};
@@ -19,30 +18,28 @@ const MIN_TRACK_M: f32 = 300.0;
 const BAR: f32 = 250000.015625;
 
 // Where the rider is to arrive: the course's end while it is followed, else the start.
-pub fn goal_on(on: Line, line: &[f32], len: usize, start: Point) -> Point
-    requires { len ≤ capacity (length line.now) }
-    ensures { result ≡ goal_on on (held_crumbs len line.now) start }
+pub fn goal_on(on: Line, line: &Crumbs, start: Point) -> Point
+    ensures { result ≡ goal_on on line.now start }
 {
     match on {
-        Line::Course => along::start(line, len, start),
-        Line::Nothing => start,
-        Line::Breadcrumb => start,
+        Line::Course => line.start(start),
+        Line::Nothing | Line::Breadcrumb => start,
     }
 }
 
 // Whether the breadcrumb is long enough to arrive at its start; following a course, the end that counts
 // is the course's.
-pub fn long_enough(course: bool, crumbs: &[f32], len: usize) -> bool
-    requires { len ≤ capacity (length crumbs.now) }
-    ensures { result ≡ long_enough course (held_crumbs len crumbs.now) }
+pub fn long_enough(course: bool, crumbs: &Crumbs) -> bool
+    ensures { result ≡ long_enough course crumbs.now }
 {
     if course {
         return false;
     }
+    let len = crumbs.len();
     if len < 2 {
         return false;
     }
-    segments::crumb(crumbs, len, len - 1).along >= MIN_TRACK_M
+    crumbs.crumb(len - 1).along >= MIN_TRACK_M
 }
 
 // Arrived, or the mode of the way.
@@ -66,11 +63,11 @@ pub fn aim(p: Point, goal: Point, target: Point) -> Point
 }
 
 // Whether segment `end` of the course lies within `distances::DROP_M`. A square of `BAR` or more has a root above that.
-fn lies_near(line: &[f32], len: usize, p: Point, end: usize) -> bool
-    requires { (1 ≤ end) × (end < len) × (len ≤ capacity (length line.now)) }
-    ensures { result ≡ lies_near (held_crumbs len line.now) p end }
+fn lies_near(line: &Crumbs, p: Point, end: usize) -> bool
+    requires { (1 ≤ end) × (end < length line.now) }
+    ensures { result ≡ lies_near line.now p end }
 {
-    let square = segments::square_on_line(line, len, p, end);
+    let square = segments::square_on(line, p, end);
     if square < BAR {
         return binary32::sqrtf(square) <= distances::DROP_M;
     }
@@ -78,14 +75,11 @@ fn lies_near(line: &[f32], len: usize, p: Point, end: usize) -> bool
 }
 
 // Whether some segment of the course does.
-fn some_near(line: &[f32], len: usize, p: Point) -> bool
-    requires { len ≤ capacity (length line.now) }
-    ensures { result ≡ some_near (held_crumbs len line.now) p (len - 1) }
+fn some_near(line: &Crumbs, p: Point) -> bool
+    ensures { result ≡ some_near line.now p (length line.now - 1) }
 {
-    let mut end = len;
-    while end > 1 {
-        end -= 1;
-        if lies_near(line, len, p, end) {
+    for end in (1..line.len()).rev() {
+        if lies_near(line, p, end) {
             return true;
         }
     }
@@ -93,27 +87,26 @@ fn some_near(line: &[f32], len: usize, p: Point) -> bool
 }
 
 // Whether the course's nearest segment does: some segment, and the first tried is no NaN away.
-fn found_near(line: &[f32], len: usize, p: Point) -> bool
-    requires { len ≤ capacity (length line.now) }
-    ensures { result ≡ found_any (course_near (held_crumbs len line.now) p drop_m) }
+fn found_near(line: &Crumbs, p: Point) -> bool
+    ensures { result ≡ found_any (course_near line.now p drop_m) }
 {
+    let len = line.len();
     if len < 2 {
         return false;
     }
-    let first = segments::square_on_line(line, len, p, len - 1);
+    let first = segments::square_on(line, p, len - 1);
     if first == first {
-        return some_near(line, len, p);
+        return some_near(line, p);
     }
     false
 }
 
 // The course is near where nothing is followed and it lies within `distances::DROP_M`.
-pub fn near_course(on: Line, line: &[f32], len: usize, p: Point) -> bool
-    requires { len ≤ capacity (length line.now) }
-    ensures { result ≡ near_course on (held_crumbs len line.now) p }
+pub fn near_course(on: Line, line: &Crumbs, p: Point) -> bool
+    ensures { result ≡ near_course on line.now p }
 {
     match on {
-        Line::Nothing => { found_near(line, len, p) }
+        Line::Nothing => found_near(line, p),
         Line::Breadcrumb => false,
         Line::Course => false,
     }

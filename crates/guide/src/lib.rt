@@ -3,14 +3,12 @@
 
 mod goal;
 
-ghost use Rattle.std.specs.Prelude.{◌≡◌, List, ◌≤◌, length, Float};
-ghost use Rattle.crumbs.specs.Crumb.{capacity, crumbs as held_crumbs};
-ghost use Rattle.crumbs.specs.Along.{start_of};
+ghost use Rattle.std.specs.Prelude.{◌≡◌};
 ghost use Rattle.state.specs.State.{State, with_follow, with_arrived};
 ghost use Rattle.guide.specs.Guide.{arrival_from, guide_at, finished, direct};
-ghost use Rattle.guide.specs.View.{arriving, displaying, course_held, WhereStanding};
+ghost use Rattle.guide.specs.View.{arriving, displaying, WhereStanding};
 
-use crumbs::along;
+use crumbs::held::Crumbs;
 use matching::followed::Way;
 use plane::Point;
 use state::{Event, Follow, Guide, Homing, Mode};
@@ -27,15 +25,14 @@ pub struct Told {
     pub event: Event,
 }
 
-// What the guide is made of: what is followed, whether the rider has arrived, the heading, and how many crumbs the
-// breadcrumb and the course have.
+// What the guide is made of: what is followed, whether the rider has arrived, the heading, and the lines of the breadcrumb and the course.
 #[derive(Clone, Copy)]
-pub struct Standing {
+pub struct Standing<'a> {
     pub follow: Follow,
     pub arrived: bool,
     pub heading: Option<u16>,
-    pub held: usize,
-    pub placed: usize,
+    pub crumbs: &'a Crumbs<'a>,
+    pub course: &'a Crumbs<'a>,
 }
 
 // What arriving or leaving changes, and what the fix changed.
@@ -82,70 +79,52 @@ fn arrival_from(f: Follow, arrived: bool, long: bool, direct: f32, e: Event) -> 
     }
 }
 
-fn guide_at(x: Standing, line: &[f32], p: Point, goal: Point, direct: f32, w: Way) -> Guide
-    requires { x.placed ≤ capacity (length line.now) }
-    ensures { (b : List Float) → WhereStanding x b (λ s. result ≡ guide_at (course_held x line.now) p goal direct w s) }
+fn guide_at(x: &Standing, p: Point, goal: Point, direct: f32, w: Way) -> Guide
+    ensures { WhereStanding x.now (λ s. result ≡ guide_at x.now.course.now p goal direct w s) }
 {
-    let f = x.follow;
-    let on = f.line;
-    let heading = x.heading;
-    let mode = w.mode;
-    let target = w.target;
-    let to = goal::aim(p, goal, target);
+    let on = x.follow.line;
     Guide {
-        mode: goal::mode_of(x.arrived, mode),
+        mode: goal::mode_of(x.arrived, w.mode),
         following: matching::on_line(on),
         course: matching::on_course(on),
-        course_near: goal::near_course(on, line, x.placed, p),
+        course_near: goal::near_course(on, x.course, p),
         direct_m: plane::metres(direct),
         track_m: plane::metres(w.track),
         off_m: plane::metres(w.off),
-        bearing: plane::bearing(p, to),
-        heading,
+        bearing: plane::bearing(p, goal::aim(p, goal, w.target)),
+        heading: x.heading,
     }
 }
 
-// Every update that shows a guide ends so. `start` is where the ride began.
-pub fn finished(
-    x: Standing,
-    crumbs: &[f32],
-    line: &[f32],
-    start: Point,
-    p: Point,
-    w: Way,
-    e: Event,
-) -> Display
-    requires held_bound { (x.held ≤ capacity (length crumbs.now)) × (x.placed ≤ capacity (length line.now)) }
-    requires start_value { start ≡ start_of (held_crumbs x.held crumbs.now) p }
-    ensures { WhereStanding x crumbs.now (λ s. finished (course_held x line.now) p w e s ≡ displaying result s) }
+// Every update that shows a guide ends so.
+pub fn finished(x: &Standing, p: Point, w: Way, e: Event) -> Display
+    ensures { WhereStanding x.now (λ s. finished x.now.course.now p w e s ≡ displaying result s) }
 {
-    let f = x.follow;
-    let on = f.line;
-    let goal = goal::goal_on(on, line, x.placed, start);
+    let on = x.follow.line;
+    let goal = goal::goal_on(on, x.course, x.crumbs.start(p));
     let direct = plane::distance(p, goal);
-    let long = goal::long_enough(matching::on_course(on), crumbs, x.held);
-    let a = arrival_from(f, x.arrived, long, direct, e);
-    let follow = a.follow;
+    let long = goal::long_enough(matching::on_course(on), x.crumbs);
+    let arrival = arrival_from(x.follow, x.arrived, long, direct, e);
     let after = Standing {
-        follow,
-        arrived: a.arrived,
-        ..x
+        follow: arrival.follow,
+        arrived: arrival.arrived,
+        ..*x
     };
-    let guide = guide_at(after, line, p, goal, direct, w);
-    Display { arrival: a, guide }
+    Display {
+        arrival,
+        guide: guide_at(&after, p, goal, direct, w),
+    }
 }
 
 // Nothing to follow: straight to the start.
-pub fn direct(x: Standing, crumbs: &[f32], line: &[f32], p: Point) -> Display
-    requires { (x.held ≤ capacity (length crumbs.now)) × (x.placed ≤ capacity (length line.now)) }
-    ensures { WhereStanding x crumbs.now (λ s. direct (course_held x line.now) p s ≡ displaying result s) }
+pub fn direct(x: &Standing, p: Point) -> Display
+    ensures { WhereStanding x.now (λ s. direct x.now.course.now p s ≡ displaying result s) }
 {
-    let start = along::start(crumbs, x.held, p);
     let w = Way {
         mode: Mode::Direct,
-        track: along::recorded_m(crumbs, x.held, p),
+        track: x.crumbs.recorded_m(p),
         off: 0.0,
-        target: start,
+        target: x.crumbs.start(p),
     };
-    finished(x, crumbs, line, start, p, w, Event::Nothing)
+    finished(x, p, w, Event::Nothing)
 }

@@ -7,7 +7,7 @@ use Rattle.segments.specs.declared.costs.Nearest.{Nearest}
 use Rattle.plane.specs.Plane.{turn}
 use Rattle.crumbs.specs.declared.Crumb.{Crumb}
 use Rattle.segments.specs.Turn.{turned_from}
-use Rattle.segments.specs.Line.{at}
+use Rattle.crumbs.specs.Line.{at}
 use Rattle.search.specs.Search.{nearest_on_breadcrumb}
 use Rattle.search.specs.Along.{ends}
 use Rattle.trail.specs.Trail.{Track}

@@ -9,6 +9,7 @@ ghost use Rattle.state.specs.State.{State, with_course, with_auto_follow};
 ghost use Rattle.joining.specs.Join.{join_on, join_with, joining, retracing};
 ghost use Rattle.joining.specs.View.{Joins, Retraces};
 
+use crumbs::held::Crumbs;
 use plane::Point;
 use state::Course;
 use trail::Trail;
@@ -87,7 +88,7 @@ fn join_with(
         return None;
     };
     if may_join(auto_follow, c) {
-        return search::joined(line, c.line_len, p, known);
+        return search::joined(&Crumbs::new(line, c.line_len), p, known);
     }
     None
 }
@@ -108,7 +109,7 @@ pub fn retracing(t: Trail, heading: Option<u16>, crumbs: &[f32], p: Point) -> Re
     ensures { (w : List Float) (s : State) → s.motion.heading ≡ heading
         → Retraces (retracing p) t w crumbs.now s result }
 {
-    if retrace::rides_back(crumbs, t.len, p, heading) {
+    if retrace::rides_back(&Crumbs::new(crumbs, t.len), p, heading) {
         let fixes = t.retrace + 1;
         let retrace_len = retrace::len_before(t);
         let mut trail = t;

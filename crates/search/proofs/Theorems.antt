@@ -20,7 +20,7 @@ use Rattle.search.specs.declared.Range.{Range}
 use Rattle.segments.specs.declared.Stretch.{Stretch}
 use Rattle.segments.specs.Turn.{turned}
 use Rattle.segments.specs.Cost.{plain, cost_of}
-use Rattle.segments.specs.Line.{at}
+use Rattle.crumbs.specs.Line.{at}
 use Rattle.segments.specs.Segment.{nearest_on, cost_within, considered, found}
 use Rattle.search.specs.Search.{largest, lowest, falling, count, every, anywhere, nearest_on_breadcrumb, nearest_within}
 use Rattle.search.specs.Course.{closer, cost_anywhere, course_near, joins, joined_from, joined}

@@ -11,7 +11,7 @@ use lib.Ieee.{Float, lt, le}
 use Rattle.plane.specs.declared.Point.{Point}
 use Rattle.crumbs.specs.declared.Crumb.{Crumb}
 use Rattle.std.specs.Prelude.{Some, None}
-use Rattle.segments.specs.Line.{no_crumb, at}
+use Rattle.crumbs.specs.Line.{no_crumb, at}
 use Rattle.search.specs.Course.{joins, joined_from}
 use Rattle.search.specs.Along.{place_before, point_along, at_along, ends}
 

@@ -6,7 +6,7 @@ use Rattle.binary32.specs.Limits.{plus_zero, clamp}
 use Rattle.plane.specs.declared.Point.{Point}
 use Rattle.plane.specs.Plane.{between}
 use Rattle.crumbs.specs.declared.Crumb.{Crumb}
-use Rattle.segments.specs.Line.{at}
+use Rattle.crumbs.specs.Line.{at}
 
 -- the last place from i down that lies no further than `along`, or the first place
 unfoldable pub place_before : List Crumb → Float → ℕ → ℕ

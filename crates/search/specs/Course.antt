@@ -9,7 +9,7 @@ use Rattle.crumbs.specs.Crumb.{point}
 use Rattle.segments.specs.declared.costs.Nearest.{Nearest}
 use Rattle.segments.specs.Turn.{same_way}
 use Rattle.segments.specs.Cost.{plain}
-use Rattle.segments.specs.Line.{at}
+use Rattle.crumbs.specs.Line.{at}
 use Rattle.segments.specs.Segment.{nearest_on, considered, found}
 use Rattle.search.specs.Search.{falling, count, every}
 

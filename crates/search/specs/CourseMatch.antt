@@ -13,7 +13,7 @@ use Rattle.segments.specs.declared.Stretch.{Stretch}
 use Rattle.search.specs.declared.course_match.Progress.{Progress}
 use Rattle.segments.specs.Turn.{against}
 use Rattle.segments.specs.CostConstants.{slip_m}
-use Rattle.segments.specs.Line.{at}
+use Rattle.crumbs.specs.Line.{at}
 use Rattle.search.specs.Search.{nearest_within}
 
 -- ---- distances of homing.rs, `nearest`, in metres

@@ -4,7 +4,7 @@ use Rattle.std.specs.Float.Ieee.{lt}
 use Rattle.plane.specs.declared.Point.{Point}
 use Rattle.crumbs.specs.declared.Crumb.{Crumb}
 use Rattle.segments.specs.declared.Stretch.{Stretch}
-use Rattle.segments.specs.Line.{at}
+use Rattle.crumbs.specs.Line.{at}
 use Rattle.segments.specs.Square.{square_on}
 use Rattle.search.specs.declared.Range.{Range}
 use Rattle.search.specs.declared.quick.Lead.{Lead}

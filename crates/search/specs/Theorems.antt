@@ -8,7 +8,7 @@ use Rattle.segments.specs.declared.costs.Ranking.{Ranking}
 use Rattle.segments.specs.declared.costs.Ranking.TheVariants.{Plain}
 use Rattle.segments.specs.declared.Stretch.{Stretch}
 use Rattle.search.specs.declared.Range.{Range}
-use Rattle.segments.specs.Line.{at}
+use Rattle.crumbs.specs.Line.{at}
 use Rattle.segments.specs.Segment.{nearest_on, cost_within}
 use Rattle.search.specs.Search.{largest, lowest, anywhere, nearest_on_breadcrumb, nearest_within}
 

@@ -1,12 +1,12 @@
 // The segment of the followed course that the rider is on.
 
 ghost use Rattle.std.specs.Prelude.{◌≡◌, ◌≤◌, ◌<◌, length};
-ghost use Rattle.crumbs.specs.Crumb.{capacity, crumbs};
 ghost use Rattle.segments.specs.Cost.{on};
 ghost use Rattle.search.specs.CourseMatch.{after_gap, around, in_reach, on_near, slides_back, first_found, settled, nearest_on_course};
 ghost use Rattle.search.specs.Along.{ends};
 
 use crate::{Range, quick};
+use crumbs::held::Crumbs;
 use plane::Point;
 use segments::costs::{Nearest, Ranking};
 use segments::{Stretch, costs, turns};
@@ -54,46 +54,35 @@ fn around(along: f32, on: f32) -> Stretch
 }
 
 // The best segment that the rider can have come to, or gone back to, in one fix.
-fn in_reach(
-    line: &[f32],
-    len: usize,
-    p: Point,
-    ends: Range,
-    along: f32,
-    by: Ranking,
-) -> Option<Nearest>
-    requires { (1 ≤ ends.from) × (ends.to < len) × (len ≤ capacity (length line.now)) }
-    ensures { result ≡ in_reach (crumbs len line.now) p ends along by }
+fn in_reach(line: &Crumbs, p: Point, ends: Range, along: f32, by: Ranking) -> Option<Nearest>
+    requires { (1 ≤ ends.from) × (ends.to < length line.now) }
+    ensures { result ≡ in_reach line.now p ends along by }
 {
-    quick::nearest_within(line, len, p, ends, around(along, JUMP_M), by)
+    quick::nearest_within(line, p, ends, around(along, JUMP_M), by)
 }
 
 // The pass of the near stretch that the rider is on.
-fn on_near(line: &[f32], len: usize, p: Point, ends: Range, was: Progress) -> Option<Nearest>
-    requires { (1 ≤ ends.from) × (ends.to < len) × (len ≤ capacity (length line.now)) }
-    ensures { result ≡ on_near (crumbs len line.now) p ends was }
+fn on_near(line: &Crumbs, p: Point, ends: Range, was: Progress) -> Option<Nearest>
+    requires { (1 ≤ ends.from) × (ends.to < length line.now) }
+    ensures { result ≡ on_near line.now p ends was }
 {
     let heading = was.heading;
     let by = Ranking::On {
         reached: was.reached,
         heading,
     };
-    quick::nearest_within(line, len, p, ends, around(was.along, NEAR_M), by)
+    quick::nearest_within(line, p, ends, around(was.along, NEAR_M), by)
 }
 
 // Whether a match slides back against the rider's way.
-fn slides_back(line: &[f32], len: usize, was: Progress, near: Nearest) -> bool
-    requires { (1 ≤ near.end) × (near.end < len) × (len ≤ capacity (length line.now)) }
-    ensures { result ≡ slides_back (crumbs len line.now) was near }
+fn slides_back(line: &Crumbs, was: Progress, near: Nearest) -> bool
+    requires { (1 ≤ near.end) × (near.end < length line.now) }
+    ensures { result ≡ slides_back line.now was near }
 {
     if near.along > was.reached + costs::SLIP_M {
         let end = near.end;
         let heading = was.heading;
-        return turns::against(
-            heading,
-            segments::line_crumb(line, len, end - 1),
-            segments::line_crumb(line, len, end),
-        );
+        return turns::against(heading, line.crumb(end - 1), line.crumb(end));
     }
     false
 }
@@ -109,43 +98,30 @@ fn or_else(first: Option<Nearest>, other: Option<Nearest>) -> Option<Nearest>
 
 // The match on the near stretch settled: sliding back against the rider's way, a pass ridden its own
 // way close by is the one they are on.
-fn settled(
-    line: &[f32],
-    len: usize,
-    p: Point,
-    ends: Range,
-    was: Progress,
-    near: Nearest,
-) -> Option<Nearest>
-    requires le_from { (1 ≤ ends.from) × (ends.to < len) × (len ≤ capacity (length line.now)) }
-    requires le_end { (1 ≤ near.end) × (near.end < len) }
-    ensures { result ≡ settled (crumbs len line.now) p ends was near }
+fn settled(line: &Crumbs, p: Point, ends: Range, was: Progress, near: Nearest) -> Option<Nearest>
+    requires le_from { (1 ≤ ends.from) × (ends.to < length line.now) }
+    requires le_end { (1 ≤ near.end) × (near.end < length line.now) }
+    ensures { result ≡ settled line.now p ends was near }
 {
-    if slides_back(line, len, was, near) {
+    if slides_back(line, was, near) {
         let heading = was.heading;
-        let ahead = in_reach(line, len, p, ends, was.along, Ranking::Ahead { heading });
+        let ahead = in_reach(line, p, ends, was.along, Ranking::Ahead { heading });
         return or_else(ahead, Some(near));
     }
     Some(near)
 }
 
 // The segment of the followed course that the rider is on.
-pub fn nearest_on_course(
-    line: &[f32],
-    len: usize,
-    p: Point,
-    ends: Range,
-    was: Progress,
-) -> Option<Nearest>
-    requires { (1 ≤ ends.from) × (ends.to < len) × (len ≤ capacity (length line.now)) }
-    ensures { result ≡ nearest_on_course (crumbs len line.now) p ends was }
+pub fn nearest_on_course(line: &Crumbs, p: Point, ends: Range, was: Progress) -> Option<Nearest>
+    requires { (1 ≤ ends.from) × (ends.to < length line.now) }
+    ensures { result ≡ nearest_on_course line.now p ends was }
 {
     let fix = was.fix;
     if after_gap(fix, p) {
-        return in_reach(line, len, p, ends, was.along, Ranking::Plain);
+        return in_reach(line, p, ends, was.along, Ranking::Plain);
     }
-    let Some(near) = on_near(line, len, p, ends, was) else {
-        return in_reach(line, len, p, ends, was.along, Ranking::Plain);
+    let Some(near) = on_near(line, p, ends, was) else {
+        return in_reach(line, p, ends, was.along, Ranking::Plain);
     };
-    settled(line, len, p, ends, was, near)
+    settled(line, p, ends, was, near)
 }

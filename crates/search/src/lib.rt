@@ -8,12 +8,12 @@ pub mod quick;
 pub mod rows;
 
 ghost use Rattle.std.specs.Prelude.{◌≡◌, ◌≤◌, ◌<◌, length};
-ghost use Rattle.crumbs.specs.Crumb.{capacity, crumbs};
 ghost use Rattle.search.specs.Search.{anywhere, nearest_on_breadcrumb, nearest_within};
 ghost use Rattle.search.specs.Course.{closer, course_near, joins, joined};
 ghost use Rattle.search.specs.Along.{share_along, point_along, at_along, ends};
 
 use crumbs::Crumb;
+use crumbs::held::Crumbs;
 use plane::{Point, squares};
 use segments::costs::{Nearest, Ranking};
 use segments::{Stretch, costs, turns};
@@ -48,16 +48,17 @@ fn anywhere() -> Stretch
 }
 
 // The nearest segment of the breadcrumb; on a tie the one nearer home.
-pub fn nearest_on_breadcrumb(buf: &[f32], len: usize, p: Point, ends: Range) -> Option<Nearest>
-    requires { (1 ≤ ends.from) × (ends.to < len) × (len ≤ capacity (length buf.now)) }
-    ensures { result ≡ nearest_on_breadcrumb (crumbs len buf.now) p ends }
+pub fn nearest_on_breadcrumb(line: &Crumbs, p: Point, ends: Range) -> Option<Nearest>
+    requires { (1 ≤ ends.from) × (ends.to < length line.now) }
+    ensures { result ≡ nearest_on_breadcrumb line.now p ends }
 {
     let within = anywhere();
+    let _ = line.len();
     let mut best = None;
     let mut end = ends.from;
     while end <= ends.to {
-        let a = segments::crumb(buf, len, end - 1);
-        let b = segments::crumb(buf, len, end);
+        let a = line.crumb(end - 1);
+        let b = line.crumb(end);
         best = segments::consider(a, b, p, within, Ranking::Plain, end, best);
         end += 1;
     }
@@ -66,21 +67,20 @@ pub fn nearest_on_breadcrumb(buf: &[f32], len: usize, p: Point, ends: Range) -> 
 
 // The segment of the course reaching into the stretch that costs least; on a tie the earlier ridden.
 pub fn nearest_within(
-    line: &[f32],
-    len: usize,
+    line: &Crumbs,
     p: Point,
     ends: Range,
     within: Stretch,
     by: Ranking,
 ) -> Option<Nearest>
-    requires { (1 ≤ ends.from) × (ends.to < len) × (len ≤ capacity (length line.now)) }
-    ensures { result ≡ nearest_within (crumbs len line.now) p ends within by }
+    requires { (1 ≤ ends.from) × (ends.to < length line.now) }
+    ensures { result ≡ nearest_within line.now p ends within by }
 {
     let mut best = None;
     let mut end = ends.to;
     while ends.from <= end {
-        let a = segments::line_crumb(line, len, end - 1);
-        let b = segments::line_crumb(line, len, end);
+        let a = line.crumb(end - 1);
+        let b = line.crumb(end);
         if segments::may_cost(a, b, p, within, by) {
             best = segments::consider(a, b, p, within, by, end, best);
         }
@@ -90,15 +90,12 @@ pub fn nearest_within(
 }
 
 // The course's nearest segment if it lies within `most` metres.
-pub fn course_near(line: &[f32], len: usize, p: Point, most: f32) -> Option<Nearest>
-    requires { len ≤ capacity (length line.now) }
-    ensures { result ≡ course_near (crumbs len line.now) p most }
+pub fn course_near(line: &Crumbs, p: Point, most: f32) -> Option<Nearest>
+    ensures { result ≡ course_near line.now p most }
 {
     let mut best = None;
-    let mut end = len;
-    while end > 1 {
-        end -= 1;
-        let near = segments::nearest_on_line(line, len, p, end);
+    for end in (1..line.len()).rev() {
+        let near = segments::nearest_on(line, p, end);
         best = segments::cheaper(best, near, costs::plain(near));
     }
     closer(most, segments::found(best))
@@ -108,13 +105,7 @@ pub fn course_near(line: &[f32], len: usize, p: Point, most: f32) -> Option<Near
 fn closer(most: f32, best: Option<Nearest>) -> Option<Nearest>
     ensures { result ≡ closer most best }
 {
-    let Some(near) = best else {
-        return best;
-    };
-    if near.off <= most {
-        return best;
-    }
-    None
+    best.filter(|near| near.off <= most)
 }
 
 // Whether a rider at `p` rides along the course from `b` to `a`.
@@ -133,19 +124,11 @@ fn joins(p: Point, heading: u16, a: Crumb, b: Crumb) -> bool
 }
 
 // The earliest ridden segment of the course that a rider at `p` rides along.
-pub fn joined(line: &[f32], len: usize, p: Point, heading: u16) -> Option<usize>
-    requires { len ≤ capacity (length line.now) }
-    ensures { result ≡ joined (crumbs len line.now) p heading }
+pub fn joined(line: &Crumbs, p: Point, heading: u16) -> Option<usize>
+    ensures { result ≡ joined line.now p heading }
 {
-    let mut end = len;
-    while end > 1 {
-        end -= 1;
-        if joins(
-            p,
-            heading,
-            segments::line_crumb(line, len, end - 1),
-            segments::line_crumb(line, len, end),
-        ) {
+    for end in (1..line.len()).rev() {
+        if joins(p, heading, line.crumb(end - 1), line.crumb(end)) {
             return Some(end);
         }
     }
@@ -173,45 +156,24 @@ fn point_along(a: Crumb, b: Crumb, along: f32) -> Point
     }
 }
 
-// The breadcrumb `along` metres from its first crumb, at or before segment `end`.
-pub fn at_along(buf: &[f32], len: usize, end: usize, along: f32) -> Point
-    requires { (1 ≤ end) × (end < len) × (len ≤ capacity (length buf.now)) }
-    ensures { result ≡ at_along (crumbs len buf.now) end along }
+// A line `along` metres from its first crumb, at or before segment `end`.
+pub fn at_along(line: &Crumbs, end: usize, along: f32) -> Point
+    requires { (1 ≤ end) × (end < length line.now) }
+    ensures { result ≡ at_along line.now end along }
 {
     let mut i = end - 1;
-    while i > 0 && segments::crumb(buf, len, i).along > along {
+    while i > 0 && line.crumb(i).along > along {
         i -= 1;
     }
-    point_along(
-        segments::crumb(buf, len, i),
-        segments::crumb(buf, len, i + 1),
-        along,
-    )
-}
-
-// The course's line `along` metres from its first crumb, at or before segment `end`.
-pub fn line_at_along(line: &[f32], len: usize, end: usize, along: f32) -> Point
-    requires { (1 ≤ end) × (end < len) × (len ≤ capacity (length line.now)) }
-    ensures { result ≡ at_along (crumbs len line.now) end along }
-{
-    let mut i = end - 1;
-    while i > 0 && segments::line_crumb(line, len, i).along > along {
-        i -= 1;
-    }
-    point_along(
-        segments::line_crumb(line, len, i),
-        segments::line_crumb(line, len, i + 1),
-        along,
-    )
+    point_along(line.crumb(i), line.crumb(i + 1), along)
 }
 
 // How many leading crumbs of the breadcrumb lie at most `limit` metres along.
-pub fn ends(buf: &[f32], len: usize, limit: f32) -> usize
-    requires { len ≤ capacity (length buf.now) }
-    ensures { result ≡ ends (crumbs len buf.now) limit }
+pub fn ends(line: &Crumbs, limit: f32) -> usize
+    ensures { result ≡ ends line.now limit }
 {
     let mut n = 0;
-    while n < len && segments::crumb(buf, len, n).along <= limit {
+    while n < line.len() && line.crumb(n).along <= limit {
         n += 1;
     }
     n

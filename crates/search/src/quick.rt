@@ -2,8 +2,7 @@
 
 ghost use Rattle.std.specs.Prelude.{◌≡◌, false, List, ℕ, ◌-◌, ◌≤◌, ◌<◌, length};
 ghost use Rattle.crumbs.specs.declared.Crumb.{Crumb};
-ghost use Rattle.crumbs.specs.Crumb.{capacity, crumbs};
-ghost use Rattle.segments.specs.Line.{at};
+ghost use Rattle.crumbs.specs.Line.{at};
 ghost use Rattle.search.specs.Search.{nearest_on_breadcrumb, nearest_within};
 ghost use Rattle.segments.specs.declared.costs.Ranking.TheVariants.{Plain};
 ghost use Rattle.search.specs.Square.{reaches, overtakes, takes_lead, leads_down, Passes};
@@ -11,6 +10,7 @@ ghost use Rattle.search.specs.Rows.{row_length, NoneReaches};
 
 use crate::{Range, rows};
 use crumbs::Crumb;
+use crumbs::held::Crumbs;
 use plane::Point;
 use segments::Stretch;
 use segments::costs::{Nearest, Ranking};
@@ -70,11 +70,12 @@ fn consider(a: Crumb, b: Crumb, p: Point, within: Stretch, end: usize, lead: Lea
 
 // The nearest segment of the breadcrumb; on a tie the one nearer home. Where the root of the least square tried before the
 // best is larger than the best's, the best is the one that the roots give. Else there may be a tie, and the roots decide.
-pub fn nearest_on_breadcrumb(buf: &[f32], len: usize, p: Point, ends: Range) -> Option<Nearest>
-    requires { (1 ≤ ends.from) × (ends.to < len) × (len ≤ capacity (length buf.now)) }
-    ensures { result ≡ nearest_on_breadcrumb (crumbs len buf.now) p ends }
+pub fn nearest_on_breadcrumb(line: &Crumbs, p: Point, ends: Range) -> Option<Nearest>
+    requires { (1 ≤ ends.from) × (ends.to < length line.now) }
+    ensures { result ≡ nearest_on_breadcrumb line.now p ends }
 {
     let within = crate::anywhere();
+    let _ = line.len();
     let mut lead = Lead {
         best: 0,
         least: 0.0,
@@ -82,8 +83,8 @@ pub fn nearest_on_breadcrumb(buf: &[f32], len: usize, p: Point, ends: Range) -> 
     };
     let mut end = ends.from;
     while end <= ends.to {
-        let a = segments::crumb(buf, len, end - 1);
-        let b = segments::crumb(buf, len, end);
+        let a = line.crumb(end - 1);
+        let b = line.crumb(end);
         lead = consider(a, b, p, within, end, lead);
         end += 1;
     }
@@ -91,87 +92,81 @@ pub fn nearest_on_breadcrumb(buf: &[f32], len: usize, p: Point, ends: Range) -> 
         return None;
     }
     if binary32::sqrtf(lead.least) < binary32::sqrtf(lead.before) {
-        let near = segments::nearest_on(buf, len, p, lead.best);
+        let near = segments::nearest_on(line, p, lead.best);
         return Some(near);
     }
-    crate::nearest_on_breadcrumb(buf, len, p, ends)
+    crate::nearest_on_breadcrumb(line, p, ends)
 }
 
 // Whether one of a row of segments, from `end` down, reaches into the stretch.
-fn any_reaches(line: &[f32], len: usize, within: Stretch, end: usize) -> bool
-    requires { (row_length ≤ end) × (end < len) × (len ≤ capacity (length line.now)) }
-    ensures { result ≡ false → NoneReaches (crumbs len line.now) within end }
+fn any_reaches(line: &Crumbs, within: Stretch, end: usize) -> bool
+    requires { (row_length ≤ end) × (end < length line.now) }
+    ensures { result ≡ false → NoneReaches line.now within end }
 {
     let mut any = false;
     for k in 0..rows::ROW {
-        let a = segments::line_crumb(line, len, end - k - 1);
-        let b = segments::line_crumb(line, len, end - k);
+        let a = line.crumb(end - k - 1);
+        let b = line.crumb(end - k);
         any = any | reaches(a, b, within);
     }
     any
 }
 
 // The lead behind a row of segments, from `end` down, one by one.
-fn along_row(line: &[f32], len: usize, p: Point, within: Stretch, end: usize, lead: Lead) -> Lead
-    requires { (row_length ≤ end) × (end < len) × (len ≤ capacity (length line.now)) }
-    ensures { result ≡ leads_down (crumbs len line.now) p within row_length end lead }
+fn along_row(line: &Crumbs, p: Point, within: Stretch, end: usize, lead: Lead) -> Lead
+    requires { (row_length ≤ end) × (end < length line.now) }
+    ensures { result ≡ leads_down line.now p within row_length end lead }
 {
     let mut leading = lead;
     for k in 0..rows::ROW {
-        let a = segments::line_crumb(line, len, end - k - 1);
-        let b = segments::line_crumb(line, len, end - k);
+        let a = line.crumb(end - k - 1);
+        let b = line.crumb(end - k);
         leading = consider(a, b, p, within, end - k, leading);
     }
     leading
 }
 
 // The lead behind a row of segments, from `end` down. Where none reaches into the stretch, it stays.
-fn over_row(line: &[f32], len: usize, p: Point, within: Stretch, end: usize, lead: Lead) -> Lead
-    requires { (row_length ≤ end) × (end < len) × (len ≤ capacity (length line.now)) }
-    ensures { result ≡ leads_down (crumbs len line.now) p within row_length end lead }
+fn over_row(line: &Crumbs, p: Point, within: Stretch, end: usize, lead: Lead) -> Lead
+    requires { (row_length ≤ end) × (end < length line.now) }
+    ensures { result ≡ leads_down line.now p within row_length end lead }
 {
-    if any_reaches(line, len, within, end) {
-        return along_row(line, len, p, within, end, lead);
+    if any_reaches(line, within, end) {
+        return along_row(line, p, within, end, lead);
     }
     lead
 }
 
 // The lead behind whole rows of a range, from its far end down.
-fn over_rows(line: &[f32], len: usize, p: Point, within: Stretch, ends: Range, lead: Lead) -> Passed
-    requires { (1 ≤ ends.from) × (ends.to < len) × (len ≤ capacity (length line.now)) }
-    ensures { Passes (crumbs len line.now) p within ends lead result }
+fn over_rows(line: &Crumbs, p: Point, within: Stretch, ends: Range, lead: Lead) -> Passed
+    requires { (1 ≤ ends.from) × (ends.to < length line.now) }
+    ensures { Passes line.now p within ends lead result }
 {
     let mut leading = lead;
     let mut end = ends.to;
     while ends.from <= end && rows::ROW <= end - ends.from {
-        leading = over_row(line, len, p, within, end, leading);
+        leading = over_row(line, p, within, end, leading);
         end -= rows::ROW;
     }
     Passed { lead: leading, end }
 }
 
 // The nearest segment of the course reaching into the stretch; on a tie the earlier ridden.
-fn plainly_within(
-    line: &[f32],
-    len: usize,
-    p: Point,
-    ends: Range,
-    within: Stretch,
-) -> Option<Nearest>
-    requires { (1 ≤ ends.from) × (ends.to < len) × (len ≤ capacity (length line.now)) }
-    ensures { result ≡ nearest_within (crumbs len line.now) p ends within Plain }
+fn plainly_within(line: &Crumbs, p: Point, ends: Range, within: Stretch) -> Option<Nearest>
+    requires { (1 ≤ ends.from) × (ends.to < length line.now) }
+    ensures { result ≡ nearest_within line.now p ends within Plain }
 {
     let none = Lead {
         best: 0,
         least: 0.0,
         before: crate::LARGEST,
     };
-    let passed = over_rows(line, len, p, within, ends, none);
+    let passed = over_rows(line, p, within, ends, none);
     let mut lead = passed.lead;
     let mut end = passed.end;
     while ends.from <= end {
-        let a = segments::line_crumb(line, len, end - 1);
-        let b = segments::line_crumb(line, len, end);
+        let a = line.crumb(end - 1);
+        let b = line.crumb(end);
         lead = consider(a, b, p, within, end, lead);
         end -= 1;
     }
@@ -179,26 +174,25 @@ fn plainly_within(
         return None;
     }
     if binary32::sqrtf(lead.least) < binary32::sqrtf(lead.before) {
-        let near = segments::nearest_on_line(line, len, p, lead.best);
+        let near = segments::nearest_on(line, p, lead.best);
         return Some(near);
     }
-    crate::nearest_within(line, len, p, ends, within, Ranking::Plain)
+    crate::nearest_within(line, p, ends, within, Ranking::Plain)
 }
 
 // The segment of the course reaching into the stretch that costs least; on a tie the earlier ridden.
 pub fn nearest_within(
-    line: &[f32],
-    len: usize,
+    line: &Crumbs,
     p: Point,
     ends: Range,
     within: Stretch,
     by: Ranking,
 ) -> Option<Nearest>
-    requires { (1 ≤ ends.from) × (ends.to < len) × (len ≤ capacity (length line.now)) }
-    ensures { result ≡ nearest_within (crumbs len line.now) p ends within by }
+    requires { (1 ≤ ends.from) × (ends.to < length line.now) }
+    ensures { result ≡ nearest_within line.now p ends within by }
 {
     if let Ranking::Plain = by {
-        return plainly_within(line, len, p, ends, within);
+        return plainly_within(line, p, ends, within);
     }
-    crate::nearest_within(line, len, p, ends, within, by)
+    crate::nearest_within(line, p, ends, within, by)
 }

@@ -2,12 +2,12 @@
 // only the row that has the least of all is looked at segment by segment.
 
 ghost use Rattle.std.specs.Prelude.{◌≡◌, true, ℕ, ◌+◌, ◌-◌, ◌≤◌, ◌<◌, min, length};
-ghost use Rattle.crumbs.specs.Crumb.{capacity, crumbs};
 ghost use Rattle.search.specs.declared.Range.{Range};
 ghost use Rattle.search.specs.Search.{nearest_on_breadcrumb};
 ghost use Rattle.search.specs.Rows.{row_length, lesser, SquaresFrom, LeastSoFar, InFront, Behind, Settled};
 
 use crate::{Range, quick};
+use crumbs::held::Crumbs;
 use plane::Point;
 use segments::costs::Nearest;
 
@@ -23,13 +23,14 @@ struct Front {
 }
 
 // The squares of how far `p` is off the segments of a row, from segment `first` of the line on.
-fn squares_from(buf: &[f32], len: usize, p: Point, first: usize) -> [f32; 16]
-    requires { (1 ≤ first) × (first + row_length ≤ len) × (len ≤ capacity (length buf.now)) }
-    ensures { SquaresFrom (crumbs len buf.now) p first result }
+fn squares_from(line: &Crumbs, p: Point, first: usize) -> [f32; 16]
+    requires { (1 ≤ first) × (first + row_length ≤ length line.now) }
+    ensures { SquaresFrom line.now p first result }
 {
+    let _ = line.len();
     let mut row = [0.0; 16];
     for k in 0..ROW {
-        row[k] = segments::square_on(buf, len, p, first + k);
+        row[k] = segments::square_on(line, p, first + k);
     }
     row
 }
@@ -56,13 +57,13 @@ fn least_of(row: &[f32; 16], bar: f32) -> f32
 }
 
 // The row from `first` on is tried: it is in front where one of its squares is less than all before it.
-fn pass_row(buf: &[f32], len: usize, p: Point, first: usize, front: Front) -> Front
-    requires { (1 ≤ first) × (first + row_length ≤ len) × (len ≤ capacity (length buf.now)) }
+fn pass_row(line: &Crumbs, p: Point, first: usize, front: Front) -> Front
+    requires { (1 ≤ first) × (first + row_length ≤ length line.now) }
     ensures { (ends : Range) (end : ℕ) → ends.from ≤ first → first ≤ end → first + row_length ≤ ends.to + 1
-        → InFront (crumbs len buf.now) p ends row_length end front
-        → InFront (crumbs len buf.now) p ends row_length (first + row_length) result }
+        → InFront line.now p ends row_length end front
+        → InFront line.now p ends row_length (first + row_length) result }
 {
-    let row = squares_from(buf, len, p, first);
+    let row = squares_from(line, p, first);
     let least = least_of(&row, front.least);
     if least < front.least {
         return Front {
@@ -91,11 +92,12 @@ fn row_at(end: usize, to: usize) -> usize
 }
 
 // The row in front of all rows of a range.
-fn front_row(buf: &[f32], len: usize, p: Point, ends: Range) -> Front
-    requires le_from { (1 ≤ ends.from) × (ends.to < len) × (len ≤ capacity (length buf.now)) }
+fn front_row(line: &Crumbs, p: Point, ends: Range) -> Front
+    requires le_from { (1 ≤ ends.from) × (ends.to < length line.now) }
     requires row_length_bound { ends.from + row_length ≤ ends.to + 1 }
-    ensures { InFront (crumbs len buf.now) p ends row_length (ends.to + 1) result }
+    ensures { InFront line.now p ends row_length (ends.to + 1) result }
 {
+    let _ = line.len();
     let mut front = Front {
         first: ends.from,
         least: crate::LARGEST,
@@ -104,19 +106,20 @@ fn front_row(buf: &[f32], len: usize, p: Point, ends: Range) -> Front
     let mut end = ends.from;
     while end <= ends.to {
         let first = row_at(end, ends.to);
-        front = pass_row(buf, len, p, first, front);
+        front = pass_row(line, p, first, front);
         end = first + ROW;
     }
     front
 }
 
 // The first segment of the row in front that has its least square; the last one where none has.
-fn front_segment(buf: &[f32], len: usize, p: Point, front: Front) -> Front
-    requires { (1 ≤ front.first) × (front.first + row_length ≤ len) × (len ≤ capacity (length buf.now)) }
-    ensures { (ends : Range) → InFront (crumbs len buf.now) p ends row_length (ends.to + 1) front
-        → InFront (crumbs len buf.now) p ends 1 (ends.to + 1) result }
+fn front_segment(line: &Crumbs, p: Point, front: Front) -> Front
+    requires { (1 ≤ front.first) × (front.first + row_length ≤ length line.now) }
+    ensures { (ends : Range) → InFront line.now p ends row_length (ends.to + 1) front
+        → InFront line.now p ends 1 (ends.to + 1) result }
 {
-    let row = squares_from(buf, len, p, front.first);
+    let _ = line.len();
+    let row = squares_from(line, p, front.first);
     let mut before = front.before;
     let mut k = 0;
     while k < ROW - 1 && !(row[k] <= front.least) {
@@ -132,51 +135,51 @@ fn front_segment(buf: &[f32], len: usize, p: Point, front: Front) -> Front
 
 // Whether the segments of a range before the one in front are certainly farther off than `off`. The first of them has to be, lest it be
 // no number away: it would stay the nearest then.
-fn all_behind(buf: &[f32], len: usize, p: Point, from: usize, front: Front, off: f32) -> bool
-    requires { (1 ≤ from) × (from < len) × (len ≤ capacity (length buf.now)) }
-    ensures { result ≡ true → Behind (crumbs len buf.now) p from front off }
+fn all_behind(line: &Crumbs, p: Point, from: usize, front: Front, off: f32) -> bool
+    requires { (1 ≤ from) × (from < length line.now) }
+    ensures { result ≡ true → Behind line.now p from front off }
 {
     if front.first == from {
         return true;
     }
-    let a = segments::crumb(buf, len, from - 1);
-    let b = segments::crumb(buf, len, from);
+    let a = line.crumb(from - 1);
+    let b = line.crumb(from);
     if !quick::reaches(a, b, crate::anywhere()) {
         return false;
     }
-    let first = segments::nearest_on(buf, len, p, from);
+    let first = segments::nearest_on(line, p, from);
     (off < first.off) & (off < binary32::sqrtf(front.before))
 }
 
 // Whether the segment in front, which lies `off` metres away, is certainly the nearest of the range.
-fn is_nearest(buf: &[f32], len: usize, p: Point, from: usize, front: Front, off: f32) -> bool
-    requires { (1 ≤ from) × (from ≤ front.first) × (front.first < len) × (len ≤ capacity (length buf.now)) }
-    ensures { result ≡ true → Settled (crumbs len buf.now) p from front off }
+fn is_nearest(line: &Crumbs, p: Point, from: usize, front: Front, off: f32) -> bool
+    requires { (1 ≤ from) × (from ≤ front.first) × (front.first < length line.now) }
+    ensures { result ≡ true → Settled line.now p from front off }
 {
     let end = front.first;
-    let a = segments::crumb(buf, len, end - 1);
-    let b = segments::crumb(buf, len, end);
+    let a = line.crumb(end - 1);
+    let b = line.crumb(end);
     if !quick::reaches(a, b, crate::anywhere()) {
         return false;
     }
     if off <= binary32::sqrtf(front.least) {
-        return all_behind(buf, len, p, from, front, off);
+        return all_behind(line, p, from, front, off);
     }
     false
 }
 
 // The nearest segment of the breadcrumb; on a tie the one nearer home.
-pub fn nearest_on_breadcrumb(buf: &[f32], len: usize, p: Point, ends: Range) -> Option<Nearest>
-    requires { (1 ≤ ends.from) × (ends.to < len) × (len ≤ capacity (length buf.now)) }
-    ensures { result ≡ nearest_on_breadcrumb (crumbs len buf.now) p ends }
+pub fn nearest_on_breadcrumb(line: &Crumbs, p: Point, ends: Range) -> Option<Nearest>
+    requires { (1 ≤ ends.from) × (ends.to < length line.now) }
+    ensures { result ≡ nearest_on_breadcrumb line.now p ends }
 {
     if ends.from <= ends.to && ROW <= ends.to - ends.from {
-        let row = front_row(buf, len, p, ends);
-        let front = front_segment(buf, len, p, row);
-        let near = segments::nearest_on(buf, len, p, front.first);
-        if is_nearest(buf, len, p, ends.from, front, near.off) {
+        let row = front_row(line, p, ends);
+        let front = front_segment(line, p, row);
+        let near = segments::nearest_on(line, p, front.first);
+        if is_nearest(line, p, ends.from, front, near.off) {
             return Some(near);
         }
     }
-    quick::nearest_on_breadcrumb(buf, len, p, ends)
+    quick::nearest_on_breadcrumb(line, p, ends)
 }

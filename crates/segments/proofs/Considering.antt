@@ -11,7 +11,7 @@ use Rattle.std.specs.Prelude.{Option, None, Float}
 use Rattle.segments.specs.declared.costs.Ranking.{Ranking}
 use Rattle.segments.specs.Cost.{cost_of}
 use Rattle.segments.specs.declared.Stretch.{Stretch}
-use Rattle.segments.specs.Line.{at}
+use Rattle.crumbs.specs.Line.{at}
 use Rattle.segments.specs.Segment.{meets, nearest_on, cheaper, cost_within, considered}
 
 module _ (line : List Crumb) (p : Point) (within : Stretch) (by : Ranking) (end : ℕ) (best : Option (Nearest × Float)) where

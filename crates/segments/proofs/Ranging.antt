@@ -20,7 +20,7 @@ use Rattle.segments.specs.Cost.{on, ahead, cost_of}
 use Rattle.plane.specs.Square.{off_square}
 use Rattle.plane.proofs.squares.Far.{far-off, off-fits, off-not-below, off-is}
 use Rattle.binary32.proofs.roots.Monotone.{clear}
-use Rattle.segments.specs.Line.{at}
+use Rattle.crumbs.specs.Line.{at}
 use Rattle.segments.specs.Segment.{meets, nearest_on}
 use Rattle.segments.specs.Square.{square_on}
 

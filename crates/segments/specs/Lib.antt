@@ -1,4 +1,3 @@
-pub mod Line
 pub mod Segment
 pub mod Square
 pub mod Turn

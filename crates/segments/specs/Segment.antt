@@ -9,7 +9,7 @@ use Rattle.segments.specs.declared.costs.Nearest.{Nearest}
 use Rattle.segments.specs.declared.costs.Ranking.{Ranking}
 use Rattle.segments.specs.Cost.{cost_of}
 use Rattle.segments.specs.declared.Stretch.{Stretch}
-use Rattle.segments.specs.Line.{at}
+use Rattle.crumbs.specs.Line.{at}
 
 -- where p meets the segment from a to b, whose far end is `end`
 unfoldable pub meets : Crumb → Crumb → Point → ℕ → Nearest

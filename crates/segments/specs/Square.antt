@@ -4,7 +4,7 @@ use Rattle.plane.specs.declared.Point.{Point}
 use Rattle.crumbs.specs.declared.Crumb.{Crumb}
 use Rattle.crumbs.specs.Crumb.{point}
 use Rattle.plane.specs.Square.{off_square}
-use Rattle.segments.specs.Line.{at}
+use Rattle.crumbs.specs.Line.{at}
 
 unfoldable pub square_on : List Crumb → Point → ℕ → Float
 square_on line p end = off_square p (point (at line (end - 1))) (point (at line end))

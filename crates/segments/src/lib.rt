@@ -1,6 +1,5 @@
-// Segments of a line: where a position meets one, and whether it is better than the best so far. A line is a lent buffer and a
-// count of the crumbs held in it, the breadcrumb's or a course's; what serves both is given the two crumbs of a segment. It is named by
-// its far end: it runs from the crumb before to the one at `end`.
+// Segments of a line, the breadcrumb or a course: where a position meets one, and whether it is better than the best so far. A segment is
+// named by its far end: it runs from the crumb before to the one at `end`.
 // `costs` says what a match costs by each ranking, `turns` which way a line runs.
 #![tactic(auto)]
 
@@ -10,14 +9,15 @@ pub mod turns;
 ghost use Rattle.std.specs.Prelude.{◌≡◌, ℕ, ◌-◌, ◌≤◌, ◌<◌, length, List, true, false, Option, Float};
 ghost use Rattle.plane.specs.Square.{off_square};
 ghost use Rattle.crumbs.specs.declared.Crumb.{Crumb};
-ghost use Rattle.crumbs.specs.Crumb.{capacity, crumbs, point};
-ghost use Rattle.segments.specs.Line.{at};
+ghost use Rattle.crumbs.specs.Crumb.{point};
+ghost use Rattle.crumbs.specs.Line.{at};
 ghost use Rattle.segments.specs.Segment.{meets, nearest_on, cheaper, cost_within, considered, found};
 ghost use Rattle.segments.specs.Cost.{cost_of};
 ghost use Rattle.segments.specs.Square.{square_on};
 
 use costs::{Nearest, Ranking};
 use crumbs::Crumb;
+use crumbs::held::Crumbs;
 use plane::{Point, squares};
 
 // A part of a line, from `floor` to `ceiling` metres along.
@@ -27,61 +27,20 @@ pub struct Stretch {
     pub ceiling: f32,
 }
 
-// The crumb at place `i` of the breadcrumb.
-pub fn crumb(buf: &[f32], len: usize, i: usize) -> Crumb
-    requires { (i < len) × (len ≤ capacity (length buf.now)) }
-    ensures { result ≡ at (crumbs len buf.now) i }
+// Where `p` meets segment `end` of a line.
+pub fn nearest_on(line: &Crumbs, p: Point, end: usize) -> Nearest
+    requires { (1 ≤ end) × (end < length line.now) }
+    ensures { result ≡ nearest_on line.now p end }
 {
-    crumbs::crumb_at(buf, i)
+    meets(line.crumb(end - 1), line.crumb(end), p, end)
 }
 
-// The crumb at place `i` of the course's line.
-pub fn line_crumb(line: &[f32], len: usize, i: usize) -> Crumb
-    requires { (i < len) × (len ≤ capacity (length line.now)) }
-    ensures { result ≡ at (crumbs len line.now) i }
+// The square of how far `p` is off segment `end` of a line.
+pub fn square_on(line: &Crumbs, p: Point, end: usize) -> f32
+    requires { (1 ≤ end) × (end < length line.now) }
+    ensures { result ≡ square_on line.now p end }
 {
-    crumbs::line_at(line, i)
-}
-
-// Where `p` meets segment `end` of the breadcrumb.
-pub fn nearest_on(buf: &[f32], len: usize, p: Point, end: usize) -> Nearest
-    requires { (1 ≤ end) × (end < len) × (len ≤ capacity (length buf.now)) }
-    ensures { result ≡ nearest_on (crumbs len buf.now) p end }
-{
-    meets(crumb(buf, len, end - 1), crumb(buf, len, end), p, end)
-}
-
-// Where `p` meets segment `end` of the course's line.
-pub fn nearest_on_line(line: &[f32], len: usize, p: Point, end: usize) -> Nearest
-    requires { (1 ≤ end) × (end < len) × (len ≤ capacity (length line.now)) }
-    ensures { result ≡ nearest_on (crumbs len line.now) p end }
-{
-    meets(
-        line_crumb(line, len, end - 1),
-        line_crumb(line, len, end),
-        p,
-        end,
-    )
-}
-
-// The square of how far `p` is off segment `end` of the breadcrumb.
-pub fn square_on(buf: &[f32], len: usize, p: Point, end: usize) -> f32
-    requires { (1 ≤ end) × (end < len) × (len ≤ capacity (length buf.now)) }
-    ensures { result ≡ square_on (crumbs len buf.now) p end }
-{
-    square(crumb(buf, len, end - 1), crumb(buf, len, end), p)
-}
-
-// The square of how far `p` is off segment `end` of the course's line.
-pub fn square_on_line(line: &[f32], len: usize, p: Point, end: usize) -> f32
-    requires { (1 ≤ end) × (end < len) × (len ≤ capacity (length line.now)) }
-    ensures { result ≡ square_on (crumbs len line.now) p end }
-{
-    square(
-        line_crumb(line, len, end - 1),
-        line_crumb(line, len, end),
-        p,
-    )
+    square(line.crumb(end - 1), line.crumb(end), p)
 }
 
 // The square of how far `p` is off the segment from `a` to `b`.
@@ -99,11 +58,7 @@ fn too_far(by: Ranking, p: Point, a: Crumb, b: Crumb) -> bool
     let square = square(a, b, p);
     match by {
         Ranking::Plain => false,
-        Ranking::On {
-            reached: _,
-            heading: _,
-        } => !(square < costs::FAR),
-        Ranking::Ahead { heading: _ } => !(square < costs::FAR),
+        Ranking::On { .. } | Ranking::Ahead { .. } => !(square < costs::FAR),
     }
 }
 
@@ -181,8 +136,5 @@ pub fn consider(
 pub fn found(best: Option<(Nearest, f32)>) -> Option<Nearest>
     ensures { result ≡ found best }
 {
-    match best {
-        None => None,
-        Some((near, _)) => Some(near),
-    }
+    best.map(|(near, _)| near)
 }

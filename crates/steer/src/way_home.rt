@@ -8,6 +8,7 @@ ghost use Rattle.follow.specs.View.{GuidedFit, course_of, decided_in};
 ghost use Rattle.calls.specs.Follow.{brought, engaged_or, way_home, near_here};
 ghost use Rattle.steer.specs.Decides.{Decides};
 
+use crumbs::held::Crumbs;
 use follow::Decided;
 use matching::distances;
 use plane::Point;
@@ -74,5 +75,6 @@ pub fn near_here(h: Guided, line: &[f32]) -> Option<Nearest>
     let Some(p) = h.here else {
         return None;
     };
-    search::course_near(line, h.course.line_len, p, distances::DROP_M)
+    let course = Crumbs::new(line, h.course.line_len);
+    search::course_near(&course, p, distances::DROP_M)
 }

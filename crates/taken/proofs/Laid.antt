@@ -16,7 +16,7 @@ use Rattle.crumbs.specs.Choice.{Choice, end, leave, strike, first, last}
 use Rattle.thin.specs.Crumb.{thinning}
 use Rattle.thin.proofs.Theorems.{thins-any}
 use Rattle.crumbs.specs.Along.{crumb_of, along_to, along_behind, recorded_m, realong_behind, realong}
-use Rattle.segments.specs.Line.{at}
+use Rattle.crumbs.specs.Line.{at}
 use Rattle.calls.specs.Questions.{crumb_fits, crumbs_fit}
 use Rattle.taken.proofs.Bounds.{Along, steps, far, along-start, along-step, along-far, along-fits, place-fits}
 

@@ -12,7 +12,7 @@ use Rattle.crumbs.specs.declared.Crumb.{Crumb}
 use Rattle.crumbs.specs.Crumb.{point}
 use Rattle.segments.specs.declared.costs.Nearest.{Nearest}
 use Rattle.search.specs.declared.Range.{Range}
-use Rattle.segments.specs.Line.{at}
+use Rattle.crumbs.specs.Line.{at}
 use Rattle.segments.specs.Segment.{meets, nearest_on}
 use Rattle.search.specs.Theorems.{Met}
 use Rattle.taken.proofs.Bounds.{Along, far, along-share}

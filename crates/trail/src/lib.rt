@@ -11,6 +11,7 @@ ghost use Rattle.trail.specs.Trail.{window_places, strays, thin, put, keep, flus
 ghost use Rattle.trail.specs.View.{waiting_at, places, TrailFit};
 ghost use Rattle.trail.specs.Inner.{Emptied, TrailChanges, TrailFollows, Records};
 
+use crumbs::held::Crumbs;
 use crumbs::{Crumb, along};
 use plane::Point;
 
@@ -136,7 +137,7 @@ impl Trail {
         let c = Crumb {
             east: p.east,
             north: p.north,
-            along: along::recorded_m(crumbs, self.len, p),
+            along: Crumbs::new(crumbs, self.len).recorded_m(p),
         };
         crumbs::put(crumbs, self.len, c);
         self.len += 1;
@@ -204,7 +205,7 @@ impl Trail {
         if self.len == 0 {
             return self.keep(crumbs, p);
         }
-        let anchor = along::end(crumbs, self.len);
+        let anchor = Crumbs::new(crumbs, self.len).end();
         if plane::distance(self.last(window, anchor), p) < MIN_STEP_M {
             return false;
         }

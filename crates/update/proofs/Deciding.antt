@@ -20,7 +20,7 @@ use Rattle.state.specs.State.{State}
 use Rattle.state.specs.Rule.{Done, done}
 use Rattle.matching.specs.declared.followed.Followed.{Followed}
 use Rattle.matching.specs.Match.{on_course, on_line}
-use Rattle.matching.specs.Followed.{followed, progress}
+use Rattle.matching.specs.Followed.{followed}
 use Rattle.matching.specs.View.{IsFollowed, widened_from, match_in}
 use Rattle.matching.proofs.Choosing.{picked, passed-by}
 use Rattle.matching.proofs.followed.Lines.{match-in}
@@ -131,24 +131,27 @@ two-of true n e = (leb-true 2 n e, refl)
 two-of false n e = absurd (false≢true e)
 
 -- ---- by what is followed
-module _ {f : Followed} {l course : List Crumb} {s : State} (i : IsFollowed f l course s) where
+module _ {f : Followed} {course : List Crumb} {s : State} (i : IsFollowed f course s) where
   pub line_of : s.follow.line ≡ f.on
-  line_of = sym (ap (λ (x : Followed). x.on) i.parts)
+  line_of = sym i.parts.on
 
-  len_of : f.len ≡ length (followed course s)
-  len_of = ap (λ (x : Followed). x.len) i.parts
+  len_of : length f.line.now ≡ length (followed course s)
+  len_of = ap (λ (l : List Crumb). length l) i.parts.line
 
-  pub met-in : (p : Point) {best : Option Nearest} {near : Nearest} → 2 ≤ f.len → best ≡ match_in course p s → best ≡ Some near
-      → InLine f.len (Some near)
+  pub met-in : (p : Point) {best : Option Nearest} {near : Nearest} → 2 ≤ length f.line.now → best ≡ match_in course p s
+      → best ≡ Some near → InLine (length f.line.now) (Some near)
   met-in p two e told =
       let here = match-in course p s (subst (λ (n : ℕ). 2 ≤ n) len_of two) in
-      subst (λ (x : Option Nearest). InLine f.len x) (sym e ∙ told) (subst (λ (n : ℕ). InLine n (match_in course p s)) (sym len_of) here)
+      subst (λ (x : Option Nearest). InLine (length f.line.now) x) (sym e ∙ told)
+      (subst (λ (n : ℕ). InLine n (match_in course p s)) (sym len_of) here)
 
   module _ (p : Point) (now : ℕ) where
-    pub begun-followed : IsFollowed f l course (begun p now s)
-    unfolding begun progress
-    begun-followed = record { parts = i.parts; crumbs = i.crumbs }
-
-    pub leads-here : {t : Bool} → (on_line f.on && leb 2 f.len) ≡ t → leads 0 now course p s (begun p now s) ≡ t
+    pub begun-followed : IsFollowed f course (begun p now s)
     unfolding begun
-    leads-here e = sym (ap (λ (x : Followed). on_line x.on && leb 2 x.len) i.parts) ∙ e
+    begun-followed = record { parts = i.parts }
+
+    pub leads-here : {t : Bool} → (on_line f.on && leb 2 (length f.line.now)) ≡ t → leads 0 now course p s (begun p now s) ≡ t
+    unfolding begun
+    leads-here e =
+        sym (ap (λ (x : Line). on_line x && leb 2 (length f.line.now)) i.parts.on
+        ∙ ap (λ (n : ℕ). on_line s.follow.line && leb 2 n) len_of) ∙ e

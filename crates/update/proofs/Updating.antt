@@ -22,13 +22,15 @@ use Rattle.state.specs.Rule.{Done, done}
 use Rattle.follow.specs.View.{HomingFit, course_of, Changes, Follows}
 use Rattle.matching.specs.declared.followed.Followed.{Followed}
 use Rattle.matching.specs.Match.{on_line, course_matched}
-use Rattle.matching.specs.View.{followed_by, line_in, Lent, IsFollowed}
-use Rattle.matching.proofs.followed.Lines.{is-followed, lent-on, last_on}
+use Rattle.matching.specs.Followed.{followed_on}
+use Rattle.matching.specs.View.{IsFollowedBy, IsFollowed}
+use native.Mathlib.Omega.{arith}
+use Rattle.crumbs.proofs.Crumbs.{length-crumbs}
+use Rattle.matching.proofs.followed.Lines.{last_on}
 use Rattle.guide.specs.declared.Display.{Display}
-use Rattle.guide.specs.declared.Standing.{Standing}
 use Rattle.guide.specs.declared.Told.{Told}
 use Rattle.guide.specs.Guide.{direct}
-use Rattle.guide.specs.View.{Tells, displaying, Stands}
+use Rattle.guide.specs.View.{Tells, displaying}
 use Rattle.update.specs.declared.Outcome.{Outcome}
 use Rattle.update.specs.declared.Outcome.TheVariants.{Straight, Stays, Ends, GoesOn}
 use Rattle.update.specs.Update.{begun, matched_at, ended_with, update}
@@ -135,62 +137,54 @@ module _ (p : Point) (now : ℕ) (h r : Homing) (room line_room : ℕ) (c : Chan
   course-begun line = ap (λ (x : Course). crumbs x.line_len line) course-kept
 
 -- ---- what an update reads of a state
-module _ (h : Homing) (b line : List Float) where
-  abbrev standing : Standing
-  standing =
+module _ (h : Homing) (b : List Float) {held placed : List Crumb} (H : held ≡ crumbs h.trail.len b) where
+  pub followed-here : {f : Followed} → IsFollowedBy h.follow h.course h.motion.heading placed held f → IsFollowed f placed (state_of h b)
+  unfolding track
+  followed-here {f} i =
       record {
-        follow = h.follow;
-        arrived = h.arrived;
-        heading = h.motion.heading;
-        held = h.trail.len;
-        placed = h.course.line_len;
+        parts =
+            record {
+              on = i.on;
+              line = i.line ∙ ap (followed_on h.follow.line placed) H;
+              segment = i.segment;
+              off = i.off;
+              was = i.was;
+            };
       }
 
-  pub stands-begun : (p : Point) (now : ℕ) → Stands standing b (begun p now (state_of h b))
-  unfolding begun track
-  stands-begun p now = record { follow = refl; arrived = refl; heading = refl; crumbs = refl }
-
-  abbrev followed_here : Followed
-  followed_here = followed_by h.follow h.course h.motion.heading h.trail.len
-
-  module _ {f : Followed} (e : f ≡ followed_here) where
-    pub followed-here : IsFollowed f (line_in f b line) (course_of h line) (state_of h b)
-    unfolding track
-    followed-here =
-        let here = is-followed (state_of h b) b line h.trail.len refl in
-        subst (λ (x : Followed). IsFollowed x (line_in x b line) (course_of h line) (state_of h b)) (sym e) here
-
-    module _ {room line_room : ℕ} (fit : HomingFit h room line_room) where
-      pub lent-here : Lent f room line_room
-      lent-here =
-          let here = lent-on h.follow.line _ _ room line_room fit.course fit.trail.held in
-          subst (λ (x : Followed). Lent x room line_room) (sym e) here
-
-      pub last-here : on_line f.on ≡ true → f.segment < f.len
-      last-here =
-          subst (λ (x : Followed). on_line x.on ≡ true → x.segment < x.len) (sym e)
-          (λ l. last_on h.follow.segment _ _ h.follow.line l fit.on_trail fit.on_course)
+  pub last-here : (line : List Float) (P : placed ≡ course_of h line) {room line_room : ℕ} → HomingFit h room line_room → {f : Followed}
+      → IsFollowedBy h.follow h.course h.motion.heading placed held f → on_line f.on ≡ true → f.segment < length f.line.now
+  last-here line P fit {f} i l =
+      let n : length held ≡ h.trail.len = ap (λ (m : List Crumb). length m) H ∙ length-crumbs h.trail.len b in
+      let k : length placed ≡ h.course.line_len = ap (λ (m : List Crumb). length m) P ∙ length-crumbs h.course.line_len line in
+      let on : h.follow.segment < length (followed_on h.follow.line placed held) =
+      last_on h.follow.segment placed held h.follow.line (sym (ap on_line i.on) ∙ l)
+      (λ e. let v = fit.on_trail e in (v.0, omega (arith, v.1)))
+      (λ e. let v = fit.on_course e in (v.0, omega (arith, v.1))) in
+      let long : length f.line.now ≡ length (followed_on h.follow.line placed held) = ap (λ (m : List Crumb). length m) i.line in
+      let at = i.segment in
+      omega arith
 
 -- ---- by what becomes of the following
-module _ (h : Homing) (b line : List Float) (p : Point) (now : ℕ) where
+module _ (h : Homing) (b : List Float) (course : List Crumb) (p : Point) (now : ℕ) where
   abbrev rule : ℕ → State → Done Event
-  rule C = update C (course_of h line) p now
+  rule C = update C course p now
 
   abbrev begun_state : State
   begun_state = begun p now (state_of h b)
 
   abbrev by : Outcome → Done Event
-  by o = comes_to o (capacity (length b)) (course_of h line) p now begun_state
+  by o = comes_to o (capacity (length b)) course p now begun_state
 
-  module _ {f : Followed} {o : Outcome} (e : f ≡ followed_here h b line) (becomes : Becomes f b line p o) where
+  module _ {f : Followed} {o : Outcome} (i : IsFollowed f course (state_of h b)) (becomes : Becomes f p o) where
     is : {x : Outcome} → o ≡ x → rule (capacity (length b)) (state_of h b) ≡ by x
-    is told = becomes.does _ _ (followed-here h b line e) (capacity (length b)) now ∙ ap by told
+    is told = becomes.does _ _ i (capacity (length b)) now ∙ ap by told
 
-    pub match-on : {near : Nearest} → o ≡ GoesOn near → (1 ≤ near.end) × (near.end < f.len)
-    match-on told = subst (λ (x : Outcome). MatchedIn f.len x) told (becomes.matched _ _ (followed-here h b line e))
+    pub match-on : {near : Nearest} → o ≡ GoesOn near → (1 ≤ near.end) × (near.end < length f.line.now)
+    match-on told = subst (λ (x : Outcome). MatchedIn (length f.line.now) x) told (becomes.matched _ _ i)
 
     pub goes-straight : trail.TrailFit h.trail (length b) → o ≡ Straight → (d : Display)
-        → direct (course_of h line) p begun_state ≡ displaying d begun_state
+        → direct course p begun_state ≡ displaying d begun_state
         → (r : Told) → Tells (λ s. displaying d (begun p now (with_course h.course s))) h b r → Updates rule h b r b
     unfolding comes_to
     goes-straight fit told d shows r t =
@@ -205,16 +199,16 @@ module _ (h : Homing) (b line : List Float) (p : Point) (now : ℕ) where
         updates-as rule (λ C. still) h b _ b (is told)
         (updates-still still h b _ fit (tells still h b _ _ refl refl (c.same b) c.trail))
 
-    pub ends : {event : Event} → o ≡ Ends event → (n : Homing) → Changes (begun p now) h n → (r : Told) (exit : List Float)
+    pub ends : {event : Event} (line : List Float) → course ≡ course_of h line → o ≡ Ends event → (n : Homing) → Changes (begun p now) h n → (r : Told) (exit : List Float)
         → Updates (λ C. ended_with event C (course_of n line) p now) n b r exit → Updates rule h b r exit
     unfolding comes_to
-    ends {event} told n c r exit u =
-        let ending : ℕ → State → Done Event = λ C. ended_with event C (course_of h line) p now in
-        let here = subst (λ (l : List Crumb). Updates (λ C. ended_with event C l p now) n b r exit) (course-begun p now h n 0 0 c line) u in
+    ends {event} line P told n c r exit u =
+        let ending : ℕ → State → Done Event = λ C. ended_with event C course p now in
+        let here = subst (λ (l : List Crumb). Updates (λ C. ended_with event C l p now) n b r exit) (course-begun p now h n 0 0 c line ∙ sym P) u in
         updates-as rule (λ C s. ending C (begun p now s)) h b r exit (is told) (updates-from (begun p now) ending h n b r exit c here)
 
     pub goes_on : {near : Nearest} → trail.TrailFit h.trail (length b) → o ≡ GoesOn near → (d : Display)
-        → matched_at (course_of h line) p now near begun_state ≡ displaying d (with_course (course_matched near p h.course) begun_state)
+        → matched_at course p now near begun_state ≡ displaying d (with_course (course_matched near p h.course) begun_state)
         → {c : Course} → c ≡ course_matched near p h.course
         → (r : Told) → Tells (λ s. displaying d (begun p now (with_course c s))) h b r → Updates rule h b r b
     unfolding comes_to begun

@@ -42,7 +42,7 @@ MatchedIn len Stays = Unit {0}
 MatchedIn len (Ends e) = Unit {0}
 MatchedIn len (GoesOn near) = (1 ≤ near.end) × (near.end < len)
 
--- In every state in which f is followed, with its line in these buffers, an update does what the outcome does.
-pub record Becomes (f : Followed) (b line : List Float) (p : Point) (r : Outcome) : Type 0 where
-  pub does : WhereFollowed f b line (λ course s. (C now : ℕ) → update C course p now s ≡ comes_to r C course p now (begun p now s))
-  pub matched : WhereFollowed f b line (λ course s. MatchedIn f.len r)
+-- In every state in which f is followed, an update does what the outcome does.
+pub record Becomes (f : Followed) (p : Point) (r : Outcome) : Type 0 where
+  pub does : WhereFollowed f (λ course s. (C now : ℕ) → update C course p now s ≡ comes_to r C course p now (begun p now s))
+  pub matched : WhereFollowed f (λ course s. MatchedIn (length f.line.now) r)

@@ -3,17 +3,17 @@
 
 ghost use Rattle.std.specs.Prelude.{◌≡◌, true, ◌&&◌, leb, List, ℕ, ◌≤◌, ◌<◌, length, Float};
 ghost use Rattle.crumbs.specs.declared.Crumb.{Crumb};
-ghost use Rattle.crumbs.specs.Crumb.{capacity};
 ghost use Rattle.state.specs.State.{State, with_course};
 ghost use Rattle.state.specs.Guided.{whole};
 ghost use Rattle.follow.specs.View.{GuidedFit, course_of, Changes};
 ghost use Rattle.matching.specs.Match.{on_line, course_matched};
-ghost use Rattle.matching.specs.View.{line_in, Lent, IsFollowed, WhereFollowed};
-ghost use Rattle.guide.specs.View.{Tells, course_held, displaying, WhereStanding};
+ghost use Rattle.matching.specs.View.{WhereFollowed};
+ghost use Rattle.matching.specs.Followed.{followed};
+ghost use Rattle.guide.specs.View.{Tells, displaying, WhereStanding};
 ghost use Rattle.update.specs.Update.{begun, matched_at, at_course_end, ended_with, matched_to, follow_on, update};
 ghost use Rattle.update.specs.View.{Updates, told_in, comes_to, MatchedIn, Becomes};
 
-use crumbs::along;
+use crumbs::held::Crumbs;
 use guide::{Display, Standing};
 use matching::followed::Followed;
 use matching::{distances, followed};
@@ -73,39 +73,36 @@ fn matched_to(on: Line, near: Nearest) -> Outcome
     Outcome::GoesOn(near)
 }
 
-fn follow_on(f: Followed, crumbs: &[f32], line: &[f32], p: Point) -> Outcome
-    requires lent { Lent f (length crumbs.now) (length line.now) }
-    requires le_len { (2 ≤ f.len) × (f.segment < f.len) }
-    ensures { WhereFollowed f crumbs.now line.now
-        (λ course s. ((C at : ℕ) → follow_on C course p at s ≡ comes_to result C course p at s) × MatchedIn f.len result) }
+fn follow_on(f: &Followed, p: Point) -> Outcome
+    requires { (2 ≤ length f.now.line.now) × (f.now.segment < length f.now.line.now) }
+    ensures { WhereFollowed f.now
+        (λ course s. ((C at : ℕ) → follow_on C course p at s ≡ comes_to result C course p at s)
+        × MatchedIn (length f.now.line.now) result) }
 {
-    let best = followed::matched(f, crumbs, line, p);
+    let best = followed::matched(f, p);
     let Some(near) = best else {
         return Outcome::Stays;
     };
-    let on = f.on;
-    matched_to(on, near)
+    matched_to(f.on, near)
 }
 
 // Whether a line is followed that has a segment.
-fn leads_on(on: Line, len: usize) -> bool
-    ensures { result ≡ (on_line on && leb 2 len) }
+fn leads_on(on: Line, line: &Crumbs) -> bool
+    ensures { result ≡ (on_line on && leb 2 (length line.now)) }
 {
     if matching::on_line(on) {
-        return 2 <= len;
+        return 2 <= line.len();
     }
     false
 }
 
 // What becomes of a following at a fix at p.
-fn outcome_at(f: Followed, crumbs: &[f32], line: &[f32], p: Point) -> Outcome
-    requires lent { Lent f (length crumbs.now) (length line.now) }
-    requires segment_lt_len { on_line f.on ≡ true → f.segment < f.len }
-    ensures { Becomes f crumbs.now line.now p result }
+fn outcome_at(f: &Followed, p: Point) -> Outcome
+    requires { on_line f.now.on ≡ true → f.now.segment < length f.now.line.now }
+    ensures { Becomes f.now p result }
 {
-    let on = f.on;
-    if leads_on(on, f.len) {
-        return follow_on(f, crumbs, line, p);
+    if leads_on(f.on, f.line) {
+        return follow_on(f, p);
     }
     Outcome::Straight
 }
@@ -113,30 +110,21 @@ fn outcome_at(f: Followed, crumbs: &[f32], line: &[f32], p: Point) -> Outcome
 // ---- what is shown
 
 // Matched: the guide along the line.
-fn matched_at(
-    x: Standing,
-    f: Followed,
-    crumbs: &[f32],
-    line: &[f32],
-    p: Point,
-    now_ms: u64,
-    near: Nearest,
-) -> Display
-    requires held_bound { (x.held ≤ capacity (length crumbs.now)) × (x.placed ≤ capacity (length line.now)) }
-    requires lent { (Lent f (length crumbs.now) (length line.now)) × (1 ≤ near.end) × (near.end < f.len) }
-    ensures { WhereStanding x crumbs.now
-        (λ s. IsFollowed f (line_in f crumbs.now line.now) (course_held x line.now) s
-        → matched_at (course_held x line.now) p now_ms near s
+fn matched_at(x: &Standing, line: &Crumbs, p: Point, now_ms: u64, near: Nearest) -> Display
+    requires { (1 ≤ near.end) × (near.end < length line.now) }
+    ensures { WhereStanding x.now (λ s. line.now ≡ followed x.now.course.now s
+        → matched_at x.now.course.now p now_ms near s
         ≡ displaying result (with_course (course_matched near p s.course) s)) }
 {
     let was = x.follow;
     let off = matching::off_now(was.off, near.off);
     let e = matching::off_event(was.off, off, matching::due(was, now_ms));
-    let w = followed::way_on(f, crumbs, line, off, near);
-    let follow = matching::follow_matched(near, off, e, now_ms, was);
-    let matched = Standing { follow, ..x };
-    let start = along::start(crumbs, x.held, p);
-    guide::finished(matched, crumbs, line, start, p, w, e)
+    let w = followed::way_on(line, off, near);
+    let matched = Standing {
+        follow: matching::follow_matched(near, off, e, now_ms, was),
+        ..*x
+    };
+    guide::finished(&matched, p, w, e)
 }
 
 // ---- the state after it
@@ -145,11 +133,8 @@ fn matched_at(
 fn begun(h: Guided, p: Point, now_ms: u64) -> Guided
     ensures { (w : List Float) → Changes (begun p now_ms) (whole h w) (whole result w) }
 {
-    let m = h.motion;
-    let heading = m.heading;
-    let was = h.lap;
     let mut next = h;
-    next.lap = lap::step_pass(was, p, heading);
+    next.lap = lap::step_pass(h.lap, p, h.motion.heading);
     next.updated_ms = now_ms;
     next
 }
@@ -159,23 +144,19 @@ fn shown(h: Guided, course: Course, p: Point, now_ms: u64, d: Display) -> Update
     ensures { (b w : List Float)
         → Tells (λ s. displaying d (begun p now_ms (with_course course s))) (whole h w) b (told_in result w) }
 {
-    let m = h.motion;
-    let heading = m.heading;
-    let was = h.lap;
-    let a = d.arrival;
-    let follow = a.follow;
-    let guide = d.guide;
-    let event = a.event;
     let guided = Guided {
-        lap: lap::step_pass(was, p, heading),
+        lap: lap::step_pass(h.lap, p, h.motion.heading),
         updated_ms: now_ms,
-        follow,
+        follow: d.arrival.follow,
         course,
-        arrived: a.arrived,
-        guide: Some(guide),
+        arrived: d.arrival.arrived,
+        guide: Some(d.guide),
         ..h
     };
-    Updated { guided, event }
+    Updated {
+        guided,
+        event: d.arrival.event,
+    }
 }
 
 // Following ends, and the guide is made anew without it.
@@ -192,26 +173,20 @@ fn ended_with(
         crumbs.old (told_in result w) crumbs.new }
 {
     let stopped = follow::stop_following(h, crumbs);
-    let follow = stopped.follow;
-    let m = stopped.motion;
-    let heading = m.heading;
+    let held = Crumbs::new(crumbs, stopped.trail.len);
+    let placed = Crumbs::new(line, stopped.course.line_len);
     let x = Standing {
-        follow,
+        follow: stopped.follow,
         arrived: stopped.arrived,
-        heading,
-        held: stopped.trail.len,
-        placed: stopped.course.line_len,
+        heading: stopped.motion.heading,
+        crumbs: &held,
+        course: &placed,
     };
-    let course = stopped.course;
-    let last = shown(
-        stopped,
-        course,
-        p,
-        now_ms,
-        guide::direct(x, crumbs, line, p),
-    );
-    let guided = last.guided;
-    Updated { guided, event: e }
+    let last = shown(stopped, stopped.course, p, now_ms, guide::direct(&x, p));
+    Updated {
+        guided: last.guided,
+        event: e,
+    }
 }
 
 // The guide after a fix at p.
@@ -220,22 +195,18 @@ pub fn update(h: Guided, crumbs: &mut [f32], line: &[f32], p: Point, now_ms: u64
     ensures { (w : List Float) → Updates (λ C. update C (course_of (whole h w) line.now) p now_ms) (whole h w)
         crumbs.old (told_in result w) crumbs.new }
 {
-    let follow = h.follow;
-    let course = h.course;
-    let m = h.motion;
-    let heading = m.heading;
-    let held = h.trail.len;
-    let f = followed::followed_by(follow, course, heading, held);
+    let held = Crumbs::new(crumbs, h.trail.len);
+    let placed = Crumbs::new(line, h.course.line_len);
+    let f = followed::followed_by(h.follow, h.course, h.motion.heading, &placed, &held);
     let x = Standing {
-        follow,
+        follow: h.follow,
         arrived: h.arrived,
-        heading,
-        held,
-        placed: course.line_len,
+        heading: h.motion.heading,
+        crumbs: &held,
+        course: &placed,
     };
-    let o = outcome_at(f, crumbs, line, p);
-    match o {
-        Outcome::Straight => shown(h, course, p, now_ms, guide::direct(x, crumbs, line, p)),
+    match outcome_at(&f, p) {
+        Outcome::Straight => shown(h, h.course, p, now_ms, guide::direct(&x, p)),
         Outcome::Stays => Updated {
             guided: begun(h, p, now_ms),
             event: Event::Nothing,
@@ -243,10 +214,10 @@ pub fn update(h: Guided, crumbs: &mut [f32], line: &[f32], p: Point, now_ms: u64
         Outcome::Ends(e) => ended_with(e, begun(h, p, now_ms), crumbs, line, p, now_ms),
         Outcome::GoesOn(near) => shown(
             h,
-            matching::course_matched(near, p, course),
+            matching::course_matched(near, p, h.course),
             p,
             now_ms,
-            matched_at(x, f, crumbs, line, p, now_ms, near),
+            matched_at(&x, f.line, p, now_ms, near),
         ),
     }
 }

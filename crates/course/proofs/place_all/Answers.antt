@@ -20,7 +20,7 @@ loop-k-preserved c =
     placing-on c.loop-k.invariant c.loop-k-test.true
     (c.framed-p.ensures
     ∙ ap (framed s.f) (handed-fix (get_or s.lats.now at (pos 0)) (get_or s.lons.now at (pos 0)) (search rules) (search rules)))
-    c.recorded_m.ensures c.put.ensures
+    (rw c.new.ensures at c.recorded_m.ensures) c.put.ensures
 
 pub returns : goal.returns
 returns c = placing-end c.loop-k.invariant c.loop-k-test.false

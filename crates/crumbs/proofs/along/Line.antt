@@ -8,7 +8,6 @@ use native.Mathlib.Numerals.{add-one}
 use lib.ListN.{length, take, drop, set, drop_of_length-le}
 use lib.Seq.{take_all, take-suc, take-suc-set, drop-set-lt}
 use lib.Ieee.{Float}
-use Rattle.binary32.specs.Limits.{plus_zero}
 use Rattle.plane.specs.declared.Point.{Point}
 use Rattle.crumbs.specs.declared.Crumb.{Crumb}
 use Rattle.crumbs.specs.Crumb.{capacity, crumb_at, crumbs, behind, point}
@@ -16,7 +15,7 @@ use Rattle.crumbs.specs.Inner.{put_at}
 use Rattle.crumbs.specs.Choice.{last}
 use Rattle.crumbs.proofs.Choices.{last_snoc}
 use Rattle.crumbs.proofs.Crumbs.{length-crumbs, get_d-crumbs, drop-crumbs, take-crumbs, crumbs-put, behind-put, length-put, put_same}
-use Rattle.crumbs.specs.Along.{crumb_of, along_to, along_behind, recorded_m, start_of, realong_behind, realong}
+use Rattle.crumbs.specs.Along.{crumb_of, along_to, realong_behind, realong}
 use Rattle.crumbs.specs.Inner.{Realongs}
 
 -- ---- the last and the first crumb of a buffer
@@ -37,23 +36,6 @@ last-crumbs (suc n) b h =
 pub last_none : (b : List Float) → last (crumbs 0 b) ≡ None
 unfolding crumbs
 last_none b = refl
-
-pub start_none : (b : List Float) (p : Point) → start_of (crumbs 0 b) p ≡ p
-unfolding crumbs start_of
-start_none b p = refl
-
-pub start-some : (n : ℕ) (b : List Float) (p : Point) → 0 < n → start_of (crumbs n b) p ≡ point (crumb_at b 0)
-unfolding crumbs start_of
-start-some zero b p h = absurd (omega arith)
-start-some (suc n) b p h = refl
-
-pub recorded-none : (b : List Float) (p : Point) → recorded_m (crumbs 0 b) p ≡ plus_zero
-unfolding recorded_m along_behind
-recorded-none b p = rw last_none
-
-pub recorded-some : (n : ℕ) (b : List Float) (p : Point) → 0 < n → recorded_m (crumbs n b) p ≡ along_to (crumb_at b (n - 1)) p
-unfolding recorded_m along_behind
-recorded-some n b p h = rw (last-crumbs n b h)
 
 -- ---- along recomputed
 -- What the loop carries on: the crumbs whose along is recomputed, and what is still to come, are the whole.

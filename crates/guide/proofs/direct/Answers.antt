@@ -1,7 +1,6 @@
 -- `guide::direct` meets its contract.
 use mathlib.Core.Path.{◌∙◌}
 use lib.Ieee.{of_bits}
-use Rattle.crumbs.specs.Crumb.{crumbs}
 use Rattle.guide.proofs.Showing.{straight}
 use Rattle.guide.proofs.direct.Goals as goal
 
@@ -9,5 +8,4 @@ pub returns : goal.returns
 unfolding of_bits
 returns c = λ s x.
     let g = c.args in
-    let course = crumbs g.x.placed g.line.now in
-    straight x course g.p c.recorded_m.ensures c.start-start.ensures ∙ c.finished.ensures s x
+    straight x g.x.now.course.now g.p c.recorded_m.ensures c.start.ensures ∙ c.finished.ensures s x

@@ -4,12 +4,12 @@ use Rattle.guide.proofs.guide_at.Goals as goal
 
 pub returns : goal.returns
 unfolding guide_at
-returns c = λ b s x.
+returns c = λ s x.
     simp (
       ← x.follow,
       ← x.arrived,
       ← x.heading,
-      c.aim-to.ensures,
+      c.aim.ensures,
       c.mode_of.ensures,
       c.on_line.ensures,
       c.on_course.ensures,

@@ -10,7 +10,7 @@ returns-in_default c = λ s. let g = c.args in
 pub returns-then-may_join : goal.returns-then-may_join
 returns-then-may_join c = λ s.
     let g = c.args in
-    c.joined.ensures
+    rw c.new.ensures at c.joined.ensures
     ∙ found g.auto_follow g.c g.line.now s g.p g.heading c.in-Some.known c.in-Some.is c.may_join.result
     c.may_join.ensures c.if-may_join.true
 

@@ -4,20 +4,19 @@ use Prim.Native.Nat.{ℕ, ◌-◌, ◌≤◌, ◌<◌}
 use native.Mathlib.Omega.{arith}
 use mathlib.Core.Bool.{Bool, true, false, ◌&&◌, cond}
 use mathlib.Core.List.{List}
+use lib.ListN.{length}
 use lib.Dec.{leb}
-use lib.Ieee.{Float, lt}
+use lib.Ieee.{lt}
 use borrow.Author.Tests.{lt-leb, le-leb, leb-true}
 use Rattle.binary32.specs.Arithmetic.{◌⊖◌}
 use Rattle.plane.specs.declared.Point.{Point}
 use Rattle.std.specs.Prelude.{Option, Some, None, ℕ}
 use Rattle.crumbs.specs.declared.Crumb.{Crumb}
-use Rattle.crumbs.specs.Crumb.{crumbs}
-use Rattle.crumbs.proofs.Crumbs.{length-crumbs}
 use Rattle.segments.specs.declared.costs.Nearest.{Nearest}
-use Rattle.segments.specs.Line.{at}
+use Rattle.crumbs.specs.Line.{at}
 use Rattle.search.specs.Search.{nearest_on_breadcrumb}
 use Rattle.search.specs.Along.{ends}
-use Rattle.search.proofs.Theorems.{breadcrumb-met, ends-at-most}
+use Rattle.search.proofs.Theorems.{breadcrumb-met}
 use Rattle.joining.specs.Retrace.{retrace_m, retrace_skip_m, backwards, against_near, nearest_before, rides_back}
 use Rattle.segments.specs.Inner.{InLine}
 
@@ -62,28 +61,22 @@ before-in-line l p n len few = by (nearest_before l p n) refl
     by (Some near) e = within near (leb 2 n) refl e
 
 -- ---- by the heading and the length
-module _ (len : ℕ) (b : List Float) (p : Point) (heading : Option ℕ) where
-  pub no-heading : heading ≡ None → false ≡ rides_back heading (crumbs len b) p
+module _ (l : List Crumb) (p : Point) (heading : Option ℕ) where
+  pub no-heading : heading ≡ None → false ≡ rides_back heading l p
   unfolding rides_back
-  no-heading e = sym (ap (λ (x : Option ℕ). rides_back x (crumbs len b) p) e)
+  no-heading e = sym (ap (λ (x : Option ℕ). rides_back x l p) e)
 
   module _ (known : ℕ) (e : heading ≡ Some known) where
-    abbrev limit : Float
-    limit = (at (crumbs len b) (len - 1)).along ⊖ retrace_skip_m
-
-    chosen : (t : Bool) → leb 2 len ≡ t
-        → rides_back heading (crumbs len b) p
-        ≡ cond t (against_near (crumbs len b) known (nearest_before (crumbs len b) p (ends (crumbs len b) limit))) false
+    chosen : (t : Bool) → leb 2 (length l) ≡ t
+        → rides_back heading l p
+        ≡ cond t (against_near l known (nearest_before l p (ends l ((at l (length l - 1)).along ⊖ retrace_skip_m)))) false
     unfolding rides_back
-    chosen t h = ap (λ (x : Option ℕ). rides_back x (crumbs len b) p) e ∙ simp (length-crumbs, h)
+    chosen t h = ap (λ (x : Option ℕ). rides_back x l p) e ∙ simp h
 
-    pub too_short : len < 2 → false ≡ rides_back heading (crumbs len b) p
+    pub too_short : length l < 2 → false ≡ rides_back heading l p
     too_short h = sym (chosen false (lt-leb _ _ h))
 
-    pub long-enough : 2 ≤ len
-        → against_near (crumbs len b) known (nearest_before (crumbs len b) p (ends (crumbs len b) limit))
-        ≡ rides_back heading (crumbs len b) p
+    pub long-enough : 2 ≤ length l
+        → against_near l known (nearest_before l p (ends l ((at l (length l - 1)).along ⊖ retrace_skip_m)))
+        ≡ rides_back heading l p
     long-enough h = sym (chosen true (le-leb _ _ h))
-
-pub ends-few : (len : ℕ) (b : List Float) (limit : Float) → ends (crumbs len b) limit ≤ len
-ends-few len b limit = subst (λ (n : ℕ). ends (crumbs len b) limit ≤ n) (length-crumbs len b) (ends-at-most (crumbs len b) limit)

@@ -25,7 +25,7 @@ returns-then-rides_back c = λ w s same.
     let g = c.args in
     let b = g.crumbs.now in
     let at : State = with_track (track g.t w b) s in
-    let is = rode-back g.p at (rides g.t b g.p same (sym c.rides_back.ensures ∙ c.if-rides_back.true)) in
+    let is = rode-back g.p at (rides g.t b g.p same (sym (rw c.new.ensures at c.rides_back.ensures) ∙ c.if-rides_back.true)) in
     record {
       answered = sym (ap (λ (d : Done Bool). d.answer) is);
       same = simp (c.len_before-retrace_len.ensures w b) (sym (ap (λ (d : Done Bool). d.state) is));
@@ -38,7 +38,7 @@ returns c = λ w s same.
     let g = c.args in
     let b = g.crumbs.now in
     let at : State = with_track (track g.t w b) s in
-    let is = rode-on g.p at (rides g.t b g.p same (sym c.rides_back.ensures ∙ c.if-rides_back.false)) in
+    let is = rode-on g.p at (rides g.t b g.p same (sym (rw c.new.ensures at c.rides_back.ensures) ∙ c.if-rides_back.false)) in
     record {
       answered = sym (ap (λ (d : Done Bool). d.answer) is);
       same = sym (ap (λ (d : Done Bool). d.state) is);

@@ -1,30 +1,23 @@
 -- `search::course_near` meets its contract: the ends still to be considered decide.
 use mathlib.Core.Path.{ap, ◌∙◌}
 use native.Mathlib.Omega.{arith}
-use Rattle.crumbs.proofs.Crumbs.{length-crumbs}
 use Rattle.search.specs.Course.{closer, cost_anywhere, course_near}
 use Rattle.segments.specs.Segment.{considered, found}
 use Rattle.search.proofs.Searching.{falls-from, falls-on, falls_out}
 use Rattle.search.proofs.course_near.Goals as goal
 
 pub loop-end-init : goal.loop-end-init
-loop-end-init c = (omega arith, falls-from (simp length-crumbs))
+loop-end-init c = (omega arith, falls-from (omega arith))
 
-pub overflow_sub-end : goal.overflow_sub-end
-overflow_sub-end c = omega arith
-
-pub nearest_on_line-near-requires : goal.nearest_on_line-near-requires
-nearest_on_line-near-requires c = omega arith
-
-pub loop-end-smaller : goal.loop-end-smaller
-loop-end-smaller c = omega arith
+pub nearest_on-near-requires : goal.nearest_on-near-requires
+nearest_on-near-requires c = omega arith
 
 pub loop-end-preserved : goal.loop-end-preserved
 unfolding considered cost_anywhere
 loop-end-preserved c = (
   omega arith,
   falls-on c.loop-end.invariant.1 (omega arith) (omega arith)
-      (simp (c.cheaper-best.ensures, c.plain.ensures, c.nearest_on_line-near.ensures)),
+      (simp (c.cheaper-best.ensures, c.plain.ensures, c.nearest_on-near.ensures)),
 )
 
 pub returns : goal.returns

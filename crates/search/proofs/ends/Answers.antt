@@ -1,7 +1,6 @@
 -- `search::ends` meets its contract: those counted and those of the rest are all.
 use mathlib.Core.Path.{sym, ◌∙◌}
 use native.Mathlib.Omega.{arith}
-use Rattle.crumbs.proofs.Crumbs.{length-crumbs}
 use Rattle.search.proofs.Walking.{ends_on, ends-here, ends-out}
 use Rattle.search.proofs.ends.Goals as goal
 
@@ -20,15 +19,15 @@ loop-n-smaller c = omega arith
 pub loop-n-preserved : goal.loop-n-preserved
 loop-n-preserved c = (
   omega arith,
-  ends_on _ _ _ (simp length-crumbs c.loop-n-test.true) c.crumb.ensures c.if-crumb-limit.true
+  ends_on _ _ _ (omega arith) c.crumb.ensures c.if-crumb-limit.true
       ∙ c.loop-n.invariant.1,
 )
 
 pub returns-else-crumb-limit : goal.returns-else-crumb-limit
 returns-else-crumb-limit c =
-    sym (ends-here _ _ _ (simp length-crumbs c.loop-n-test.true) c.crumb.ensures
+    sym (ends-here _ _ _ (omega arith) c.crumb.ensures
     c.if-crumb-limit.false)
     ∙ c.loop-n.invariant.1
 
 pub returns-after-loop-n : goal.returns-after-loop-n
-returns-after-loop-n c = sym (ends-out _ _ _ (simp length-crumbs (omega arith))) ∙ c.loop-n.invariant.1
+returns-after-loop-n c = sym (ends-out _ _ _ (omega arith)) ∙ c.loop-n.invariant.1

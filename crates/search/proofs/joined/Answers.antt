@@ -1,40 +1,31 @@
 -- `search::joined` meets its contract: the ends below decide.
-use mathlib.Core.Path.{sym, ◌∙◌}
+use Prim.Native.Nat.{◌-◌}
+use mathlib.Core.Path.{sym, ap, ◌∙◌}
 use native.Mathlib.Omega.{arith}
-use Rattle.crumbs.proofs.Crumbs.{length-crumbs}
-use Rattle.search.specs.Course.{joined}
+use Rattle.search.specs.Course.{joined_from, joined}
 use Rattle.search.proofs.Walking.{joined-out, joined-here, joined-below}
 use Rattle.search.proofs.joined.Goals as goal
 
 pub loop-end-init : goal.loop-end-init
 unfolding joined
-loop-end-init c = (omega arith, sym (simp length-crumbs))
+loop-end-init c = (omega arith, ap (λ n. joined_from c.args.line.now c.args.p c.args.heading (n - 1)) c.len-end.ensures)
 
-pub overflow_sub-end : goal.overflow_sub-end
-overflow_sub-end c = omega arith
+pub crumb-requires : goal.crumb-requires
+crumb-requires c = omega arith
 
-pub overflow_sub-end-in-loop-end : goal.overflow_sub-end-in-loop-end
-overflow_sub-end-in-loop-end c = omega arith
-
-pub line_crumb-requires : goal.line_crumb-requires
-line_crumb-requires c = omega arith
-
-pub line_crumb-requires-in-loop-end : goal.line_crumb-requires-in-loop-end
-line_crumb-requires-in-loop-end c = omega arith
+pub crumb-requires-in-loop-end : goal.crumb-requires-in-loop-end
+crumb-requires-in-loop-end c = omega arith
 
 pub returns-then-joins : goal.returns-then-joins
 returns-then-joins c =
-    sym (joined-here _ _ _ _ (omega arith) c.line_crumb.ensures c.line_crumb-in-loop-end.ensures c.joins.ensures
+    sym (joined-here _ _ _ _ (omega arith) c.crumb.ensures c.crumb-in-loop-end.ensures c.joins.ensures
     c.if-joins.true)
     ∙ c.loop-end.invariant.1
-
-pub loop-end-smaller : goal.loop-end-smaller
-loop-end-smaller c = omega arith
 
 pub loop-end-preserved : goal.loop-end-preserved
 loop-end-preserved c = (
   omega arith,
-  sym (joined-below _ _ _ _ (omega arith) c.line_crumb.ensures c.line_crumb-in-loop-end.ensures c.joins.ensures
+  sym (joined-below _ _ _ _ (omega arith) c.crumb.ensures c.crumb-in-loop-end.ensures c.joins.ensures
       c.if-joins.false)
       ∙ c.loop-end.invariant.1,
 )

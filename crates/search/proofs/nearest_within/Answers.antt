@@ -13,11 +13,11 @@ loop-end-init c = falls-start
 pub overflow_sub-end : goal.overflow_sub-end
 overflow_sub-end c = omega arith
 
-pub line_crumb-a-requires : goal.line_crumb-a-requires
-line_crumb-a-requires c = omega arith
+pub crumb-a-requires : goal.crumb-a-requires
+crumb-a-requires c = omega arith
 
-pub line_crumb-b-requires : goal.line_crumb-b-requires
-line_crumb-b-requires c = omega arith
+pub crumb-b-requires : goal.crumb-b-requires
+crumb-b-requires c = omega arith
 
 pub overflow_sub-end-in-loop-end : goal.overflow_sub-end-in-loop-end
 overflow_sub-end-in-loop-end c = omega arith
@@ -29,8 +29,8 @@ pub loop-end-preserved : goal.loop-end-preserved
 loop-end-preserved c =
     let first = c.requires.0 in
     let more = c.loop-end-test.true in
-    let a = c.line_crumb-a.ensures in
-    let b = c.line_crumb-b.ensures in
+    let a = c.crumb-a.ensures in
+    let b = c.crumb-b.ensures in
     elim c.if-may_cost.branch [
       | then-may_cost w ↦ falls-on c.loop-end.invariant first more (w.best-is ∙ w.consider-best.ensures _ a b)
       | else-may_cost w ↦ falls-on c.loop-end.invariant first more

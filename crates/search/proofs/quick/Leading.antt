@@ -19,7 +19,7 @@ use Rattle.std.specs.Prelude.{Option, Some, None}
 use Rattle.segments.specs.declared.costs.Ranking.TheVariants.{Plain}
 use Rattle.segments.specs.Cost.{plain, cost_of}
 use Rattle.segments.specs.declared.Stretch.{Stretch}
-use Rattle.segments.specs.Line.{at}
+use Rattle.crumbs.specs.Line.{at}
 use Rattle.segments.specs.Segment.{nearest_on, cheaper, cost_within, considered, found}
 use Rattle.search.specs.declared.Range.{Range}
 use Rattle.search.specs.Search.{rising, falling, count}

@@ -20,7 +20,7 @@ use Rattle.std.specs.Prelude.{Option, Some, None, Float}
 use Rattle.segments.specs.declared.costs.Ranking.TheVariants.{Plain}
 use Rattle.segments.specs.Cost.{plain, cost_of}
 use Rattle.segments.specs.declared.Stretch.{Stretch}
-use Rattle.segments.specs.Line.{at}
+use Rattle.crumbs.specs.Line.{at}
 use Rattle.segments.specs.Segment.{nearest_on, cheaper, cost_within, considered, found}
 use Rattle.segments.specs.Square.{square_on}
 use Rattle.segments.proofs.Ranging.{on-is, on_fits}

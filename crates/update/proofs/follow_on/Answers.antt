@@ -15,5 +15,5 @@ returns c = λ course s i.
     let best = c.matched-best.ensures course s i in
     let told = c.in-Some.is in (
       λ C at. meets C at course g.p s best told ∙ c.matched_to.ensures.comes C at course g.p s (line_of i),
-      c.matched_to.ensures.stays_in g.f.len (met-in i g.p c.requires.le_len.0 best told),
+      c.matched_to.ensures.stays_in _ (met-in i g.p c.requires.0 best told),
     )

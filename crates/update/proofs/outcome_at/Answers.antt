@@ -7,7 +7,7 @@ use Rattle.update.proofs.outcome_at.Goals as goal
 pub follow_on-requires : goal.follow_on-requires
 follow_on-requires c =
     let leads = two-of _ _ (sym c.leads_on.ensures ∙ c.if-leads_on.true) in
-    record { lent = c.requires.lent; le_len = (leads.0, c.requires.segment_lt_len leads.1) }
+    (leads.0, c.requires leads.1)
 
 pub returns-then-leads_on : goal.returns-then-leads_on
 returns-then-leads_on c =

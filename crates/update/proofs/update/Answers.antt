@@ -1,28 +1,25 @@
 -- `update::update` meets its contract.
+use mathlib.Core.Path.{refl}
 use mathlib.Core.List.{[]}
 use Rattle.state.specs.Guided.{whole}
+use Rattle.trail.specs.View.{track}
 use Rattle.update.specs.View.{told_in}
 use Rattle.update.specs.Update.{begun}
 use Rattle.update.proofs.Deciding.{begun-followed}
-use Rattle.update.proofs.Updating.{fit-begun, stands-begun, followed-here, lent-here, last-here}
+use Rattle.update.proofs.Updating.{fit-begun, followed-here, last-here}
 use Rattle.update.proofs.Updating.{match-on, goes-straight, stays, ends, goes_on}
 use Rattle.update.proofs.update.Goals as goal
 
-pub outcome_at-o-requires : goal.outcome_at-o-requires
-outcome_at-o-requires c =
-    let g = c.args in
-    let f = c.followed_by-f.ensures in
-    let h = whole g.h [] in
-    record {
-      lent = lent-here h g.crumbs.now g.line.now f (c.requires []);
-      segment_lt_len =
-          last-here h g.crumbs.now g.line.now f (c.requires []);
-    }
+pub new-held-requires : goal.new-held-requires
+new-held-requires c = (c.requires []).trail.held
 
-pub direct-requires : goal.direct-requires
-direct-requires c =
-    let fit = c.requires [] in
-    (fit.trail.held, fit.course)
+pub new-placed-requires : goal.new-placed-requires
+new-placed-requires c = (c.requires []).course
+
+pub outcome_at-requires : goal.outcome_at-requires
+outcome_at-requires c =
+    last-here (whole c.args.h []) c.args.crumbs.now c.new-held.ensures c.args.line.now c.new-placed.ensures (c.requires [])
+    c.followed_by-f.ensures
 
 pub ended_with-requires : goal.ended_with-requires
 ended_with-requires c =
@@ -32,60 +29,48 @@ ended_with-requires c =
 
 pub matched_at-requires : goal.matched_at-requires
 matched_at-requires c =
-    let followed = c.followed_by-f.ensures in
-    let becomes = c.outcome_at-o.ensures in
     let g = c.args in
-    let b = g.crumbs.now in
-    let line = g.line.now in
-    let near = match-on (whole g.h []) b line g.p g.now_ms followed becomes c.in-GoesOn.is in
-    let fit = c.requires [] in
-    record { held_bound = (fit.trail.held, fit.course); lent = (lent-here (whole g.h []) b line followed fit, near.0, near.1) }
+    let i = followed-here (whole g.h []) g.crumbs.now c.new-held.ensures c.followed_by-f.ensures in
+    match-on (whole g.h []) g.crumbs.now c.new-placed.result g.p g.now_ms i c.outcome_at.ensures c.in-GoesOn.is
 
 pub returns-in-Straight : goal.returns-in-Straight
+unfolding begun track
 returns-in-Straight c = λ w.
-    let followed = c.followed_by-f.ensures in
-    let becomes = c.outcome_at-o.ensures in
     let g = c.args in
+    let h = whole g.h w in
     let b = g.crumbs.now in
-    let line = g.line.now in
-    let shows = c.direct.ensures _ (stands-begun (whole g.h w) b line g.p g.now_ms) in
-    let told = c.in-Straight.is in
-    goes-straight (whole g.h w) b line g.p g.now_ms followed becomes (c.requires w).trail told
-    c.direct.result shows (told_in c.shown.result w) (c.shown.ensures b w)
+    let i = followed-here h b c.new-held.ensures c.followed_by-f.ensures in
+    let shows = c.direct.ensures _ (record { follow = refl; arrived = refl; heading = refl; crumbs = c.new-held.ensures }) in
+    rw (← c.new-placed.ensures) (goes-straight h b c.new-placed.result g.p g.now_ms i c.outcome_at.ensures (c.requires w).trail c.in-Straight.is
+    c.direct.result shows (told_in c.shown.result w) (c.shown.ensures b w))
 
 pub returns-in-Stays : goal.returns-in-Stays
 returns-in-Stays c = λ w.
-    let followed = c.followed_by-f.ensures in
-    let becomes = c.outcome_at-o.ensures in
     let g = c.args in
+    let h = whole g.h w in
     let b = g.crumbs.now in
-    let line = g.line.now in
-    stays (whole g.h w) b line g.p g.now_ms followed becomes (c.requires w).trail c.in-Stays.is
-    (whole c.begun.result w) (c.begun.ensures w)
+    let i = followed-here h b c.new-held.ensures c.followed_by-f.ensures in
+    rw (← c.new-placed.ensures) (stays h b c.new-placed.result g.p g.now_ms i c.outcome_at.ensures (c.requires w).trail c.in-Stays.is
+    (whole c.begun.result w) (c.begun.ensures w))
 
 pub returns-in-Ends : goal.returns-in-Ends
 returns-in-Ends c = λ w.
-    let followed = c.followed_by-f.ensures in
-    let becomes = c.outcome_at-o.ensures in
     let g = c.args in
+    let h = whole g.h w in
     let b = g.crumbs.now in
-    let line = g.line.now in
+    let i = followed-here h b c.new-held.ensures c.followed_by-f.ensures in
     let ended = c.ended_with in
-    ends (whole g.h w) b line g.p g.now_ms followed becomes c.in-Ends.is
-    (whole c.begun-in-Ends.result w) (c.begun-in-Ends.ensures w) (told_in ended.result w) ended.new.crumbs (ended.ensures w)
+    rw (← c.new-placed.ensures) (ends h b c.new-placed.result g.p g.now_ms i c.outcome_at.ensures g.line.now c.new-placed.ensures c.in-Ends.is
+    (whole c.begun-in-Ends.result w) (c.begun-in-Ends.ensures w) (told_in ended.result w) ended.new.crumbs (ended.ensures w))
 
 pub returns-in-GoesOn : goal.returns-in-GoesOn
-unfolding begun
+unfolding begun track
 returns-in-GoesOn c = λ w.
-    let followed = c.followed_by-f.ensures in
-    let becomes = c.outcome_at-o.ensures in
     let g = c.args in
+    let h = whole g.h w in
     let b = g.crumbs.now in
-    let line = g.line.now in
-    let matched = c.matched_at in
-    let i = begun-followed (followed-here (whole g.h w) b line followed) g.p g.now_ms in
-    let shows = matched.ensures _ (stands-begun (whole g.h w) b line g.p g.now_ms) i in
-    let told = c.in-GoesOn.is in
-    goes_on (whole g.h w) b line g.p g.now_ms followed becomes (c.requires w).trail told
-    matched.result shows c.course_matched.ensures (told_in c.shown-in-GoesOn.result w)
-    (c.shown-in-GoesOn.ensures b w)
+    let i = followed-here h b c.new-held.ensures c.followed_by-f.ensures in
+    let shows = c.matched_at.ensures _ (record { follow = refl; arrived = refl; heading = refl; crumbs = c.new-held.ensures })
+    (begun-followed i g.p g.now_ms).parts.line in
+    rw (← c.new-placed.ensures) (goes_on h b c.new-placed.result g.p g.now_ms i c.outcome_at.ensures (c.requires w).trail c.in-GoesOn.is
+    c.matched_at.result shows c.course_matched.ensures (told_in c.shown-in-GoesOn.result w) (c.shown-in-GoesOn.ensures b w))

@@ -2,15 +2,14 @@
 use borrow.Author.Tests.{lt-leb, le-leb}
 use lib.Ieee.{of_bits}
 use Rattle.binary32.specs.Arithmetic.{constant}
-use Rattle.crumbs.proofs.Crumbs.{length-crumbs}
 use Rattle.trail.specs.Trail.{min_step_m}
 use Rattle.follow.specs.Parts.{leads}
 use Rattle.follow.proofs.follow_parts.leads.Goals as goal
 
 pub returns-then-len-lt2 : goal.returns-then-len-lt2
 unfolding leads
-returns-then-len-lt2 c = simp (length-crumbs, lt-leb _ _ c.if-len-lt2.true)
+returns-then-len-lt2 c = simp (lt-leb _ _ (rw c.len-len.ensures at c.if-len-lt2.true))
 
 pub returns : goal.returns
 unfolding leads min_step_m constant of_bits
-returns c = simp (length-crumbs, le-leb _ _ c.if-len-lt2.false, ← c.crumb.ensures)
+returns c = simp (le-leb _ _ (rw c.len-len.ensures at c.if-len-lt2.false), ← (rw c.len-len.ensures at c.crumb.ensures))

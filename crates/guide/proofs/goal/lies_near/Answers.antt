@@ -7,7 +7,7 @@ use Rattle.guide.proofs.goal.lies_near.Goals as goal
 
 pub returns-then-square : goal.returns-then-square
 unfolding drop_m constant of_bits
-returns-then-square c = lies _ _ _ c.square_on_line-square.ensures c.sqrtf.ensures
+returns-then-square c = lies _ _ _ c.square_on-square.ensures c.sqrtf.ensures
 
 pub returns : goal.returns
-returns c = lies-not _ _ _ c.square_on_line-square.ensures c.if-square.false
+returns c = lies-not _ _ _ c.square_on-square.ensures c.if-square.false

@@ -2,7 +2,6 @@
 use borrow.Author.Tests.{lt-leb, le-leb}
 use lib.Ieee.{of_bits}
 use Rattle.binary32.specs.Arithmetic.{constant}
-use Rattle.crumbs.proofs.Crumbs.{length-crumbs}
 use Rattle.guide.specs.Goal.{min_track_m, long_enough}
 use Rattle.guide.proofs.goal.long_enough.Goals as goal
 
@@ -12,9 +11,9 @@ returns-then-course c = simp c.if-course.true
 
 pub returns-then-len-lt2 : goal.returns-then-len-lt2
 unfolding long_enough
-returns-then-len-lt2 c = simp (c.if-course.false, length-crumbs, lt-leb _ _ c.if-len-lt2.true)
+returns-then-len-lt2 c = simp (c.if-course.false, lt-leb _ _ (rw c.len-len.ensures at c.if-len-lt2.true))
 
 pub returns : goal.returns
 unfolding long_enough min_track_m constant of_bits
 returns c =
-    simp (c.if-course.false, length-crumbs, le-leb _ _ c.if-len-lt2.false, ← c.crumb.ensures)
+    simp (c.if-course.false, le-leb _ _ (rw c.len-len.ensures at c.if-len-lt2.false), ← (rw c.len-len.ensures at c.crumb.ensures))

@@ -1,6 +1,5 @@
 -- `guide::goal::near_course` meets its contract.
 use mathlib.Core.Path.{sym, ap, ◌∙◌}
-use Rattle.crumbs.specs.Crumb.{crumbs}
 use Rattle.state.specs.declared.Line.{Line}
 use Rattle.guide.specs.Goal.{near_course}
 use Rattle.guide.proofs.goal.near_course.Goals as goal
@@ -9,15 +8,12 @@ pub returns-in-Nothing : goal.returns-in-Nothing
 unfolding near_course
 returns-in-Nothing c =
     let g = c.args in
-    c.found_near.ensures
-    ∙ sym (ap (λ (x : Line). near_course x (crumbs g.len g.line.now) g.p) c.in-Nothing.is)
+    c.found_near.ensures ∙ sym (ap (λ (x : Line). near_course x g.line.now g.p) c.in-Nothing.is)
 
 pub returns-in-Breadcrumb : goal.returns-in-Breadcrumb
 unfolding near_course
-returns-in-Breadcrumb c = let g = c.args in
-    sym (ap (λ (x : Line). near_course x (crumbs g.len g.line.now) g.p) c.in-Breadcrumb.is)
+returns-in-Breadcrumb c = rw c.in-Breadcrumb.is
 
 pub returns-in-Course : goal.returns-in-Course
 unfolding near_course
-returns-in-Course c = let g = c.args in
-    sym (ap (λ (x : Line). near_course x (crumbs g.len g.line.now) g.p) c.in-Course.is)
+returns-in-Course c = rw c.in-Course.is

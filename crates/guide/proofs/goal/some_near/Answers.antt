@@ -1,23 +1,19 @@
 -- `guide::goal::some_near` meets its contract: the ends below decide.
-use mathlib.Core.Path.{refl, sym, ◌∙◌}
+use Prim.Native.Nat.{◌-◌}
+use mathlib.Core.Path.{sym, ap, ◌∙◌}
+use Rattle.guide.specs.Near.{some_near}
 use native.Mathlib.Omega.{arith}
 use Rattle.guide.proofs.goal.Nearing.{some-here, some_below, some_out}
 use Rattle.guide.proofs.goal.some_near.Goals as goal
 
 pub loop-end-init : goal.loop-end-init
-loop-end-init c = (omega arith, refl)
-
-pub overflow_sub-end : goal.overflow_sub-end
-overflow_sub-end c = omega arith
+loop-end-init c = (omega arith, ap (λ n. some_near c.args.line.now c.args.p (n - 1)) c.len-end.ensures)
 
 pub lies_near-requires : goal.lies_near-requires
 lies_near-requires c = omega arith
 
 pub returns-then-lies_near : goal.returns-then-lies_near
 returns-then-lies_near c = some-here _ _ _ c.lies_near.ensures (omega arith) c.if-lies_near.true ∙ c.loop-end.invariant.1
-
-pub loop-end-smaller : goal.loop-end-smaller
-loop-end-smaller c = omega arith
 
 pub loop-end-preserved : goal.loop-end-preserved
 loop-end-preserved c = (

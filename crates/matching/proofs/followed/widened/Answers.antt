@@ -7,7 +7,7 @@ pub returns-then-lost : goal.returns-then-lost
 returns-then-lost c = λ course s i.
     let g = c.args in
     let lost = sym c.lost.ensures ∙ c.if-lost.true in
-    c.nearer.ensures ∙ widened-off i g.p g.near c.nearest-best.result lost (c.nearest-best.ensures course s i)
+    c.nearer.ensures ∙ widened-off i g.p g.near c.nearest.result lost c.len.ensures (c.nearest.ensures course s i)
 
 pub returns : goal.returns
 returns c = λ course s i.

@@ -8,7 +8,7 @@ use Rattle.search.proofs.course_match.slides_back.Goals as goal
 pub returns-then-near-was : goal.returns-then-near-was
 unfolding slides_back slip_m constant of_bits
 returns-then-near-was c = simp
-    (c.if-near-was.true, c.against.ensures, c.line_crumb-then-near-was.ensures, c.line_crumb.ensures)
+    (c.if-near-was.true, c.against.ensures, c.crumb-then-near-was.ensures, c.crumb.ensures)
 
 pub returns : goal.returns
 unfolding slides_back slip_m constant of_bits

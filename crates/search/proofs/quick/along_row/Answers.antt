@@ -12,14 +12,14 @@ overflow_sub-end c = omega arith
 pub overflow_sub-end-in-loop-k : goal.overflow_sub-end-in-loop-k
 overflow_sub-end-in-loop-k c = omega arith
 
-pub line_crumb-a-requires : goal.line_crumb-a-requires
-line_crumb-a-requires c = omega arith
+pub crumb-a-requires : goal.crumb-a-requires
+crumb-a-requires c = omega arith
 
 pub overflow_sub-end-in-loop-k-2 : goal.overflow_sub-end-in-loop-k-2
 overflow_sub-end-in-loop-k-2 c = omega arith
 
-pub line_crumb-b-requires : goal.line_crumb-b-requires
-line_crumb-b-requires c = omega arith
+pub crumb-b-requires : goal.crumb-b-requires
+crumb-b-requires c = omega arith
 
 pub overflow_sub-end-in-loop-k-3 : goal.overflow_sub-end-in-loop-k-3
 overflow_sub-end-in-loop-k-3 c = omega arith
@@ -34,7 +34,7 @@ pub loop-k-preserved : goal.loop-k-preserved
 loop-k-preserved c = (
   omega (arith, c.loop-k-test.true),
   over-next _ _ _ _ _ _ c.loop-k.invariant.1
-      (c.consider-leading.ensures _ c.line_crumb-a.ensures c.line_crumb-b.ensures),
+      (c.consider-leading.ensures _ c.crumb-a.ensures c.crumb-b.ensures),
 )
 
 pub returns : goal.returns

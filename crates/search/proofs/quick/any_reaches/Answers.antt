@@ -12,14 +12,14 @@ overflow_sub-end c = omega arith
 pub overflow_sub-end-in-loop-k : goal.overflow_sub-end-in-loop-k
 overflow_sub-end-in-loop-k c = omega arith
 
-pub line_crumb-a-requires : goal.line_crumb-a-requires
-line_crumb-a-requires c = omega arith
+pub crumb-a-requires : goal.crumb-a-requires
+crumb-a-requires c = omega arith
 
 pub overflow_sub-end-in-loop-k-2 : goal.overflow_sub-end-in-loop-k-2
 overflow_sub-end-in-loop-k-2 c = omega arith
 
-pub line_crumb-b-requires : goal.line_crumb-b-requires
-line_crumb-b-requires c = omega arith
+pub crumb-b-requires : goal.crumb-b-requires
+crumb-b-requires c = omega arith
 
 pub overflow_step-k : goal.overflow_step-k
 overflow_step-k c = omega arith
@@ -30,7 +30,7 @@ loop-k-smaller c = omega arith
 pub loop-k-preserved : goal.loop-k-preserved
 loop-k-preserved c =
     tested-next c.loop-k.invariant c.loop-k-test.true
-    (c.reaches-any.ensures _ _ c.line_crumb-a.ensures c.line_crumb-b.ensures)
+    (c.reaches-any.ensures _ _ c.crumb-a.ensures c.crumb-b.ensures)
 
 pub returns : goal.returns
 returns c = tested-end c.loop-k.invariant c.loop-k-test.false

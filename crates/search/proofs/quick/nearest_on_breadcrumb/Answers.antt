@@ -34,8 +34,7 @@ returns-then-lead-eq0 c =
 
 pub nearest_on-near-requires : goal.nearest_on-near-requires
 nearest_on-near-requires c =
-    let a = c.requires in
-    (counted _ c.if-lead-eq0.false, lt_of_le_of_lt c.loop-end.invariant.upto a.1, a.2)
+    (counted _ c.if-lead-eq0.false, lt_of_le_of_lt c.loop-end.invariant.upto c.requires.1)
 
 pub returns-then-sqrtf : goal.returns-then-sqrtf
 returns-then-sqrtf c =

@@ -1,11 +1,10 @@
 -- `search::quick::plainly_within` meets its contract: the lead by squares follows the rule's best.
 use Prim.Native.Nat.{◌+◌, ◌-◌}
-use Rattle.crumbs.specs.Crumb.{crumbs}
 use Rattle.search.proofs.quick.Leading.{Chases}
 use Rattle.search.proofs.quick.plainly_within.Given as goal
 
 abbrev pub invariant-loop-end : goal.invariant-loop-end
-invariant-loop-end l = Chases (crumbs l.len l.line) l.p l.within l.ends l.lead l.end
+invariant-loop-end l = Chases l.line l.p l.within l.ends l.lead l.end
 
 abbrev pub decreases-loop-end : goal.decreases-loop-end
 decreases-loop-end l = l.end + 1 - l.ends.from

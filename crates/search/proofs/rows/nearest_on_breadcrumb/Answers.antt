@@ -11,13 +11,13 @@ pub nearest_on-near-requires : goal.nearest_on-near-requires
 nearest_on-near-requires c =
     let pre = c.requires in
     let v = c.front_segment-front.ensures _ c.front_row-row.ensures in
-    (omega (arith, pre.0, v.from), omega (arith, pre.1, v.to), pre.2)
+    (omega (arith, pre.0, v.from), omega (arith, pre.1, v.to))
 
 pub is_nearest-requires : goal.is_nearest-requires
 is_nearest-requires c =
     let pre = c.requires in
     let v = c.front_segment-front.ensures _ c.front_row-row.ensures in
-    (pre.0, v.from, omega (arith, pre.1, v.to), pre.2)
+    (pre.0, v.from, omega (arith, pre.1, v.to))
 
 pub returns-then-is_nearest : goal.returns-then-is_nearest
 returns-then-is_nearest c =

@@ -19,5 +19,5 @@ pub returns : goal.returns
 unfolding near_here drop_m constant of_bits
 returns c = λ w.
     let g = c.args in
-    c.course_near.ensures
+    rw c.new-course.ensures at c.course_near.ensures
     ∙ sym (ap (λ (x : Option Point). near_here x (course_of (whole g.h w) g.line.now)) c.in-Some.is)

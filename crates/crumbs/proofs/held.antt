@@ -1,0 +1,2 @@
+-- Facts that the methods' proofs share.
+mod Ends
