@@ -33,18 +33,12 @@ pub struct Retraced {
 // Fixes in a row along the course.
 const JOIN_FIXES: u8 = 5;
 
-fn one_more(n: u8) -> u8
-    ensures { result ≡ min (n + 1) 255 }
-{
-    if n < 255 { n + 1 } else { 255 }
-}
-
 fn join_on(c: Course, join: Option<usize>) -> Joined
     ensures { (s : State) → Joins (join_on join) (with_course c s) result }
 {
     match join {
         Some(end) => {
-            let fixes = one_more(c.join_fixes);
+            let fixes = c.join_fixes.saturating_add(1);
             let mut course = c;
             course.join_fixes = fixes;
             course.join_end = end;

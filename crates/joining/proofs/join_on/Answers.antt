@@ -6,7 +6,7 @@ pub returns-in-Some : goal.returns-in-Some
 unfolding join_on joined_to
 returns-in-Some c = λ s.
     let told = c.in-Some.is in
-    record { answered = simp (told, ← c.one_more-fixes.ensures); same = simp (told, ← c.one_more-fixes.ensures) }
+    record { answered = simp (told, ← c.saturating_add-fixes.ensures); same = simp (told, ← c.saturating_add-fixes.ensures) }
 
 pub returns-in-None : goal.returns-in-None
 unfolding join_on joined_to
