@@ -2,7 +2,7 @@
 
 ghost use Rattle.std.specs.Prelude.{◌≡◌, ◌≤◌, ◌<◌, length};
 ghost use Rattle.segments.specs.Cost.{on};
-ghost use Rattle.search.specs.CourseMatch.{after_gap, around, in_reach, on_near, slides_back, first_found, settled, nearest_on_course};
+ghost use Rattle.search.specs.CourseMatch.{after_gap, around, in_reach, on_near, slides_back, settled, nearest_on_course};
 ghost use Rattle.search.specs.Along.{ends};
 
 use crate::{Range, quick};
@@ -87,15 +87,6 @@ fn slides_back(line: &Crumbs, was: Progress, near: Nearest) -> bool
     false
 }
 
-fn or_else(first: Option<Nearest>, other: Option<Nearest>) -> Option<Nearest>
-    ensures { result ≡ first_found first other }
-{
-    let Some(_) = first else {
-        return other;
-    };
-    first
-}
-
 // The match on the near stretch settled: sliding back against the rider's way, a pass ridden its own
 // way close by is the one they are on.
 fn settled(line: &Crumbs, p: Point, ends: Range, was: Progress, near: Nearest) -> Option<Nearest>
@@ -106,7 +97,7 @@ fn settled(line: &Crumbs, p: Point, ends: Range, was: Progress, near: Nearest) -
     if slides_back(line, was, near) {
         let heading = was.heading;
         let ahead = in_reach(line, p, ends, was.along, Ranking::Ahead { heading });
-        return or_else(ahead, Some(near));
+        return ahead.or(Some(near));
     }
     Some(near)
 }
