@@ -53,9 +53,11 @@ pub fn nearest_on_breadcrumb(line: &Crumbs, p: Point, ends: Range) -> Option<Nea
     ensures { result ≡ nearest_on_breadcrumb line.now p ends }
 {
     let within = anywhere();
+    // A line is counted by a usize, so no sum below leaves one.
     let _ = line.len();
     let mut best = None;
     let mut end = ends.from;
+    // By `while`: a `for` over an inclusive range leaves from two places, and the last step is proved twice.
     while end <= ends.to {
         let a = line.crumb(end - 1);
         let b = line.crumb(end);
@@ -78,6 +80,7 @@ pub fn nearest_within(
 {
     let mut best = None;
     let mut end = ends.to;
+    // By `while`: a `for` over an inclusive range leaves from two places, and the last step is proved twice.
     while ends.from <= end {
         let a = line.crumb(end - 1);
         let b = line.crumb(end);

@@ -75,6 +75,7 @@ pub fn nearest_on_breadcrumb(line: &Crumbs, p: Point, ends: Range) -> Option<Nea
     ensures { result ≡ nearest_on_breadcrumb line.now p ends }
 {
     let within = crate::anywhere();
+    // A line is counted by a usize, so no sum below leaves one.
     let _ = line.len();
     let mut lead = Lead {
         best: 0,
@@ -82,6 +83,7 @@ pub fn nearest_on_breadcrumb(line: &Crumbs, p: Point, ends: Range) -> Option<Nea
         before: crate::LARGEST,
     };
     let mut end = ends.from;
+    // By `while`: a `for` over an inclusive range leaves from two places, and the last step is proved twice.
     while end <= ends.to {
         let a = line.crumb(end - 1);
         let b = line.crumb(end);
@@ -144,6 +146,7 @@ fn over_rows(line: &Crumbs, p: Point, within: Stretch, ends: Range, lead: Lead) 
 {
     let mut leading = lead;
     let mut end = ends.to;
+    // By `while`: the rows end where fewer than sixteen segments are left, and the rest begins there.
     while ends.from <= end && rows::ROW <= end - ends.from {
         leading = over_row(line, p, within, end, leading);
         end -= rows::ROW;
@@ -164,6 +167,7 @@ fn plainly_within(line: &Crumbs, p: Point, ends: Range, within: Stretch) -> Opti
     let passed = over_rows(line, p, within, ends, none);
     let mut lead = passed.lead;
     let mut end = passed.end;
+    // By `while`: a `for` over an inclusive range leaves from two places, and the last step is proved twice.
     while ends.from <= end {
         let a = line.crumb(end - 1);
         let b = line.crumb(end);

@@ -27,6 +27,7 @@ fn squares_from(line: &Crumbs, p: Point, first: usize) -> [f32; 16]
     requires { (1 ≤ first) × (first + row_length ≤ length line.now) }
     ensures { SquaresFrom line.now p first result }
 {
+    // A line is counted by a usize, so no sum below leaves one.
     let _ = line.len();
     let mut row = [0.0; 16];
     for k in 0..ROW {
@@ -97,6 +98,7 @@ fn front_row(line: &Crumbs, p: Point, ends: Range) -> Front
     requires row_length_bound { ends.from + row_length ≤ ends.to + 1 }
     ensures { InFront line.now p ends row_length (ends.to + 1) result }
 {
+    // A line is counted by a usize, so no sum below leaves one.
     let _ = line.len();
     let mut front = Front {
         first: ends.from,
@@ -118,6 +120,7 @@ fn front_segment(line: &Crumbs, p: Point, front: Front) -> Front
     ensures { (ends : Range) → InFront line.now p ends row_length (ends.to + 1) front
         → InFront line.now p ends 1 (ends.to + 1) result }
 {
+    // A line is counted by a usize, so no sum below leaves one.
     let _ = line.len();
     let row = squares_from(line, p, front.first);
     let mut before = front.before;
