@@ -13,7 +13,7 @@ values_of write (Err q) was = was
 values_of write (Ok a) was = write a was
 
 -- a flag that comes in: anything but 0 means yes
-unfoldable pub is_set : ℕ → Bool
+abbrev pub is_set : ℕ → Bool
 is_set flag = not (eqb flag 0)
 
 -- ---- slices that hold no state
