@@ -17,9 +17,8 @@ use Rattle.ride.specs.declared.Query.{Query}
 use Rattle.ride.specs.declared.Query.TheVariants as query
 use Rattle.ride.specs.declared.Call.{Call}
 use Rattle.ride.specs.declared.Call.TheVariants as call
-use Rattle.ride.specs.declared.TheConstants.{CALL_BYTES}
-use Rattle.ride.specs.Script.{call_of, has_room, written}
-use Rattle.ride.specs.Theorems.{Each, SliceOf, lent_line, CallOfMachineSize, IsCall, EveryListWritten}
+use Rattle.ride.specs.Script.{call_of, has_room, written, pointed}
+use Rattle.ride.specs.Theorems.{Each, SliceOf, reference_bytes, lent_line, CallOfMachineSize, IsCall, EveryListWritten}
 
 -- ---- how a call is written, wherever what it is lent lies
 abbrev lent : {A : Type 0} → A → Bor A
@@ -52,6 +51,9 @@ write (rule.SetAutoFollow on) = call.SetAutoFollow on
 write (rule.Observe line place clock) = call.Observe (lent line) place clock
 write (rule.Replay point clock) = call.Replay point clock
 write (rule.SetFollowing line on clock) = call.SetFollowing (lent line) on clock
+
+abbrev refer : rule.Call → Bor Call
+refer c = lent (write c)
 
 -- the points in two lists
 pairs : (points : List Fix) → fixes (lats_of points) (lons_of points) ≡ points
@@ -100,7 +102,7 @@ fits room (rule.Observe line place clock) h = refl
 fits room (rule.Replay point clock) h = refl
 fits room (rule.SetFollowing line on clock) h = refl
 
-says : (room : ℕ) (cs : List rule.Call) → room_for cs ≤ room → written room (map write cs) ≡ cs
+says : (room : ℕ) (cs : List rule.Call) → room_for cs ≤ room → written room (pointed (map refer cs)) ≡ cs
 unfolding written
 says room [] h = refl
 says room (c ∷ cs) h =
@@ -148,7 +150,7 @@ covers cs m =
     record {
       room = room;
       roomy = roomy cs m.0;
-      calls = map write cs;
-      sized = slice-map IsCall write CALL_BYTES cs (each-is _ _ is-call cs m.0, m.1);
+      calls = map refer cs;
+      sized = slice-map (λ c. IsCall c.now) refer reference_bytes cs (each-is _ _ is-call cs m.0, m.1);
       says = says room cs (omega arith);
     }

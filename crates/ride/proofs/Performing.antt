@@ -4,6 +4,7 @@ use mathlib.Core.Path.{◌≡◌, sym, ap, ◌∙◌}
 use mathlib.Core.Bool.{Bool, true, false, cond}
 use mathlib.Core.List.{List, [], ◌∷◌}
 use native.Mathlib.Numerals.{add-one}
+use denote.Bor.{Bor}
 use lib.Ieee.{Float}
 use lib.ListN.{length, drop, get_or, drop_of_length-le}
 use lib.Seq.{drop-cons}
@@ -15,19 +16,19 @@ use Rattle.calls.specs.Promises.{Called}
 use Rattle.journal.specs.Journal.{run}
 use Rattle.journal.proofs.Programs.{run-first}
 use Rattle.ride.specs.declared.Call.{Call}
-use Rattle.ride.specs.Script.{call_of, has_room, written}
+use Rattle.ride.specs.Script.{call_of, has_room, written, pointed}
 use Rattle.ride.specs.Inner.{Performs}
 
 -- what the loop carries on, with the calls from the i-th on still to come
-pub record Performing (room : ℕ) (calls : List Call) (h₀ : Homing) (entry : List Float) (i : ℕ) (crumbs : List Float) (h : Homing) : Type 0
+pub record Performing (room : ℕ) (calls : List (Bor Call)) (h₀ : Homing) (entry : List Float) (i : ℕ) (crumbs : List Float) (h : Homing) : Type 0
   where
-    pub to-come : (run (length entry) (written room (drop i calls)) (state_of h crumbs)).state
-        ≡ (run (length entry) (written room calls) (state_of h₀ entry)).state
+    pub to-come : (run (length entry) (written room (pointed (drop i calls))) (state_of h crumbs)).state
+        ≡ (run (length entry) (written room (pointed calls)) (state_of h₀ entry)).state
     pub long : length crumbs ≡ length entry
 
-module _ {room : ℕ} {calls : List Call} {h₀ : Homing} {entry : List Float} {i : ℕ} {crumbs : List Float} {h : Homing}
+module _ {room : ℕ} {calls : List (Bor Call)} {h₀ : Homing} {entry : List Float} {i : ℕ} {crumbs : List Float} {h : Homing}
     (p : Performing room calls h₀ entry i crumbs h) where
-  ended : written room (drop i calls) ≡ [] → Performs (written room calls) h₀ entry h crumbs
+  ended : written room (pointed (drop i calls)) ≡ [] → Performs (written room (pointed calls)) h₀ entry h crumbs
   unfolding run
   ended e =
       record {
@@ -36,26 +37,28 @@ module _ {room : ℕ} {calls : List Call} {h₀ : Homing} {entry : List Float} {
       }
 
   -- no call is left
-  pub ends : length calls ≤ i → Performs (written room calls) h₀ entry h crumbs
+  pub ends : length calls ≤ i → Performs (written room (pointed calls)) h₀ entry h crumbs
   unfolding written
-  ends over = ended (ap (written room) (drop_of_length-le calls over))
+  ends over = ended (ap (λ (l : List (Bor Call)). written room (pointed l)) (drop_of_length-le calls over))
 
-  module _ (d : Call) (more : i < length calls) where
+  module _ (d : Bor Call) (more : i < length calls) where
     abbrev this : Call
-    this = get_or calls i d
+    this = (get_or calls i d).now
 
     abbrev rest : List rule.Call
-    rest = written room (drop (i + 1) calls)
+    rest = written room (pointed (drop (i + 1) calls))
 
-    next : written room (drop i calls) ≡ cond (has_room room this) (call_of this ∷ rest) []
+    next : written room (pointed (drop i calls)) ≡ cond (has_room room this) (call_of this ∷ rest) []
     unfolding written
-    next = ap (written room) (drop-cons calls i d more ∙ ap (λ j. this ∷ drop j calls) (sym (add-one i)))
+    next =
+        ap (λ (l : List (Bor Call)). written room (pointed l))
+        (drop-cons calls i d more ∙ ap (λ j. get_or calls i d ∷ drop j calls) (sym (add-one i)))
 
     -- whether there is room for the copy of its line, as the working line of w numbers tells
-    told : {w : ℕ} {b : Bool} → w ≡ room → b ≡ has_room w this → written room (drop i calls) ≡ cond b (call_of this ∷ rest) []
+    told : {w : ℕ} {b : Bool} → w ≡ room → b ≡ has_room w this → written room (pointed (drop i calls)) ≡ cond b (call_of this ∷ rest) []
     told {w} {b} same e = next ∙ ap (λ b. cond b (call_of this ∷ rest) []) (sym (e ∙ ap (λ n. has_room n this) same))
 
-    pub breaks-off : {w : ℕ} → w ≡ room → false ≡ has_room w this → Performs (written room calls) h₀ entry h crumbs
+    pub breaks-off : {w : ℕ} → w ≡ room → false ≡ has_room w this → Performs (written room (pointed calls)) h₀ entry h crumbs
     breaks-off same none = ended (told same none)
 
     -- it is performed

@@ -1,5 +1,6 @@
 -- A list of calls as `ride` is given it: each value is one call of the rules.
-use Rattle.std.specs.Prelude.{ℕ, Bool, true, cond, List, [], ◌∷◌, leb, length}
+use Rattle.std.specs.Prelude.{ℕ, Bool, true, cond, List, [], ◌∷◌, map, leb, length}
+use Rattle.std.specs.Borrow.{Bor}
 use Rattle.course.specs.Course.{fixes}
 use Rattle.calls.specs.Calls as rule
 use Rattle.ride.specs.declared.Query.{Query}
@@ -38,3 +39,7 @@ has_room room _ = true
 unfoldable pub written : ℕ → List Call → List rule.Call
 written room [] = []
 written room (c ∷ cs) = cond (has_room room c) (call_of c ∷ written room cs) []
+
+-- what the references of a slice point to
+abbrev pub pointed : List (Bor Call) → List Call
+pointed calls = map (λ c. c.now) calls

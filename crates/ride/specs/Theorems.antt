@@ -1,5 +1,6 @@
 -- That `ride` speaks of every list of calls of machine size: each is what a slice of calls says. `proofs/Covers.antt` proves it.
 use Rattle.std.specs.Prelude.{ℕ, ◌*◌, ◌^◌, ◌<◌, ◌≡◌, List, [], ◌∷◌, T, length, Float, ℤ, Option, Some, None}
+use Rattle.std.specs.Borrow.{Bor}
 use Rattle.std.specs.Int.{w32, w64}
 use Rattle.std.proofs.Common.{Fits, SFits}
 use Rattle.std.specs.Float.{binary32}
@@ -11,8 +12,7 @@ use Rattle.ride.specs.declared.Query.{Query}
 use Rattle.ride.specs.declared.Query.TheVariants as query
 use Rattle.ride.specs.declared.Call.{Call}
 use Rattle.ride.specs.declared.Call.TheVariants as call
-use Rattle.ride.specs.declared.TheConstants.{CALL_BYTES}
-use Rattle.ride.specs.Script.{written}
+use Rattle.ride.specs.Script.{written, pointed}
 
 -- ---- machine size
 abbrev pub Each : {A : Type 0} → (A → Type 0) → List A → Type 0
@@ -22,6 +22,10 @@ Each P (x ∷ xs) = P x × Each P xs
 -- a slice of elements of a type, of so many bytes each: every slice takes fewer than 2^63 bytes
 abbrev pub SliceOf : {A : Type 0} → (A → Type 0) → ℕ → List A → Type 0
 SliceOf P bytes xs = Each P xs × (length xs * bytes < 2 ^ 63)
+
+-- the bytes of a reference on a 64-bit machine
+abbrev pub reference_bytes : ℕ
+reference_bytes = 8
 
 abbrev pub IsF32 : Float → Type 0
 IsF32 x = T (fits binary32 x)
@@ -42,9 +46,9 @@ pub record CallOfMachineSize (c : rule.Call) : Type 0 where
   pub lons : SliceOf (λ x. SFits w32 x.lon) 4 (arguments c).points
   pub clock : Fits w64 (arguments c).clock
 
--- and all of them fit in a slice
+-- And references to all of them fit in a slice. That all their lines fit in one slice, and all their points in one, is not asked.
 abbrev pub MachineSize : List rule.Call → Type 0
-MachineSize cs = SliceOf CallOfMachineSize CALL_BYTES cs
+MachineSize cs = SliceOf CallOfMachineSize reference_bytes cs
 
 -- ---- a call as `ride` is given it
 abbrev pub IsFix : Fix → Type 0
@@ -74,13 +78,13 @@ IsCall (call.Observe line place now_ms) = IsLine line.now × IsPlace place × Fi
 IsCall (call.Replay fix at_ms) = IsFix fix × Fits w64 at_ms
 IsCall (call.SetFollowing line follow now_ms) = IsLine line.now × Fits w64 now_ms
 
--- a slice that says the calls cs, as `ride` is given it, beside a working line of `room` f32
+-- a slice of references that says the calls cs, as `ride` is given it, beside a working line of `room` f32
 pub record Written (cs : List rule.Call) : Type 0 where
   pub room : ℕ
   pub roomy : room * 4 < 2 ^ 63
-  pub calls : List Call
-  pub sized : SliceOf IsCall CALL_BYTES calls
-  pub says : written room calls ≡ cs
+  pub calls : List (Bor Call)
+  pub sized : SliceOf (λ c. IsCall c.now) reference_bytes calls
+  pub says : written room (pointed calls) ≡ cs
 
 -- what `ride` promises of the calls that its slice says is so promised of every list of calls
 abbrev pub EveryListWritten : Type 0

@@ -3,7 +3,7 @@
 
 ghost use Rattle.std.specs.Prelude.{◌≡◌, true, length};
 ghost use Rattle.calls.specs.Promises.{Called};
-ghost use Rattle.ride.specs.Script.{has_room, call_of, written};
+ghost use Rattle.ride.specs.Script.{has_room, call_of, written, pointed};
 ghost use Rattle.ride.specs.Promises.{Rides};
 ghost use Rattle.ride.specs.Inner.{Performs};
 
@@ -53,9 +53,6 @@ pub enum Call<'a> {
         now_ms: u64,
     },
 }
-
-// How many bytes a call takes in a slice.
-pub const CALL_BYTES: usize = size_of::<Call<'static>>();
 
 // ---- one call; its answer is dropped
 
@@ -151,8 +148,8 @@ fn step(h: &mut Homing, crumbs: &mut [f32], working: &mut [f32], call: &Call<'_>
 // ---- the calls
 
 // The calls one after the other.
-fn perform(h: &mut Homing, crumbs: &mut [f32], working: &mut [f32], calls: &[Call<'_>])
-    ensures { Performs (written (length working.old) calls.now) h.old crumbs.old h.new crumbs.new }
+fn perform(h: &mut Homing, crumbs: &mut [f32], working: &mut [f32], calls: &[&Call<'_>])
+    ensures { Performs (written (length working.old) (pointed calls.now)) h.old crumbs.old h.new crumbs.new }
 {
     for call in calls {
         if !has_room(call, working.len()) {
@@ -163,8 +160,8 @@ fn perform(h: &mut Homing, crumbs: &mut [f32], working: &mut [f32], calls: &[Cal
 }
 
 // A new guide on the crumb buffer performs the calls. `working` is for the line of a call that writes it, and as long as a line may be.
-pub fn ride(crumbs: &mut [f32], working: &mut [f32], calls: &[Call<'_>]) -> Result<Homing, Refusal>
-    ensures { Rides (written (length working.old) calls.now) crumbs.old working.old result crumbs.new working.new }
+pub fn ride(crumbs: &mut [f32], working: &mut [f32], calls: &[&Call<'_>]) -> Result<Homing, Refusal>
+    ensures { Rides (written (length working.old) (pointed calls.now)) crumbs.old working.old result crumbs.new working.new }
 {
     let mut h = homing::new(crumbs)?;
     perform(&mut h, crumbs, working, calls);
