@@ -37,6 +37,7 @@ fn row_between(buf: &[f32], i: usize, least: &[f32; 48], most: &[f32; 48]) -> bo
     ok
 }
 
+// The place of the row where it stops is the answer, so the loop counts.
 // How many of the first `len` crumbs, by rows, have no number below that of `least` or above that of `most`.
 pub fn leading(buf: &[f32], len: usize, least: Crumb, most: Crumb) -> usize
     requires { len ≤ capacity (length buf.now) }

@@ -16,7 +16,7 @@ use crumbs::held::Crumbs;
 use plane::Point;
 use state::{Follow, Guided, Homing, Line};
 
-// A state, and a yes or no beside it.
+// A state, and a yes or no beside it. There is a state whichever way the answer goes, so neither this nor `Decided` is an Option.
 #[derive(Clone, Copy)]
 pub struct Answered {
     pub homing: Homing,

@@ -14,7 +14,7 @@ use plane::Point;
 use state::Course;
 use trail::Trail;
 
-// The course after a fix, and whether enough fixes in a row ran along it.
+// The course after a fix, and whether enough fixes in a row ran along it. Both are there either way, as in `Retraced`: no Option.
 #[derive(Clone, Copy)]
 pub struct Joined {
     pub course: Course,

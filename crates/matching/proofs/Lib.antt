@@ -2,3 +2,4 @@
 pub mod Choosing
 pub mod Nearing
 pub mod Minimum
+pub mod Lines

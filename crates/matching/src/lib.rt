@@ -29,21 +29,13 @@ const REMIND_MS: u64 = 60_000;
 pub fn on_course(line: Line) -> bool
     ensures { result ≡ on_course line }
 {
-    match line {
-        Line::Course => true,
-        Line::Nothing => false,
-        Line::Breadcrumb => false,
-    }
+    line == Line::Course
 }
 
 pub fn on_line(line: Line) -> bool
     ensures { result ≡ on_line line }
 {
-    match line {
-        Line::Nothing => false,
-        Line::Breadcrumb => true,
-        Line::Course => true,
-    }
+    line != Line::Nothing
 }
 
 // ---- the match
@@ -100,14 +92,13 @@ pub fn off_event(was: bool, is: bool, due: bool) -> Event
 pub fn due(f: Follow, now_ms: u64) -> bool
     ensures { result ≡ due f now_ms }
 {
-    let line = f.line;
-    if on_course(line) {
+    if on_course(f.line) {
         return false;
     }
     motion::elapsed(now_ms, f.reminded_ms) >= REMIND_MS
 }
 
-// Off since now, or reminded now.
+// Off since now, or reminded now. Each event is named, so that one more has to be thought of here.
 fn reminded_at(e: Event, now_ms: u64, was_ms: u64) -> u64
     ensures { result ≡ reminded_at e now_ms was_ms }
 {
@@ -126,12 +117,10 @@ pub fn follow_matched(near: Nearest, off: bool, e: Event, now_ms: u64, f: Follow
     ensures { result ≡ follow_matched near off e now_ms f }
 {
     let reminded_ms = reminded_at(e, now_ms, f.reminded_ms);
-    let point = near.point;
-    let line = f.line;
     Follow {
-        line,
+        line: f.line,
         segment: near.end,
-        matched: Some(point),
+        matched: Some(near.point),
         off,
         reminded_ms,
     }

@@ -61,16 +61,13 @@ impl State {
 
     // Takes what a call left. Behind one that was lent another state, the guide has its own again.
     pub fn keep(&mut self, left: &State, replaced: &Replaced) {
-        let rebuild = left.rebuild;
-        self.rebuild = rebuild;
+        self.rebuild = left.rebuild;
         let [(first, _), (second, _)] = replaced.words;
         if first < WORDS || second < WORDS || replaced.number.0 < NUMBERS {
             return;
         }
-        let words = left.words;
-        let numbers = left.numbers;
-        self.words = words;
-        self.numbers = numbers;
+        self.words = left.words;
+        self.numbers = left.numbers;
     }
 
     // Performs a call, tells its event or flag, and gives its refusal's number.

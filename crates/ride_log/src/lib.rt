@@ -112,6 +112,7 @@ fn ride_of(file: &[u8], index: u32) -> u32
     u32_at(file, start_of(index) + 4)
 }
 
+// The byte as the file has it: question 8 is put to it before a kind is made of it.
 #[tactic(auto, unfolding(crate::specs::Entry::kind_number))]
 pub fn kind_number(file: &[u8], index: u32) -> u8
     ensures { result ≡ kind_number file.now index }

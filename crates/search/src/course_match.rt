@@ -66,10 +66,9 @@ fn on_near(line: &Crumbs, p: Point, ends: Range, was: Progress) -> Option<Neares
     requires { (1 ≤ ends.from) × (ends.to < length line.now) }
     ensures { result ≡ on_near line.now p ends was }
 {
-    let heading = was.heading;
     let by = Ranking::On {
         reached: was.reached,
-        heading,
+        heading: was.heading,
     };
     quick::nearest_within(line, p, ends, around(was.along, NEAR_M), by)
 }
@@ -81,8 +80,7 @@ fn slides_back(line: &Crumbs, was: Progress, near: Nearest) -> bool
 {
     if near.along > was.reached + costs::SLIP_M {
         let end = near.end;
-        let heading = was.heading;
-        return turns::against(heading, line.crumb(end - 1), line.crumb(end));
+        return turns::against(was.heading, line.crumb(end - 1), line.crumb(end));
     }
     false
 }
@@ -95,8 +93,15 @@ fn settled(line: &Crumbs, p: Point, ends: Range, was: Progress, near: Nearest) -
     ensures { result ≡ settled line.now p ends was near }
 {
     if slides_back(line, was, near) {
-        let heading = was.heading;
-        let ahead = in_reach(line, p, ends, was.along, Ranking::Ahead { heading });
+        let ahead = in_reach(
+            line,
+            p,
+            ends,
+            was.along,
+            Ranking::Ahead {
+                heading: was.heading,
+            },
+        );
         return ahead.or(Some(near));
     }
     Some(near)
@@ -107,8 +112,7 @@ pub fn nearest_on_course(line: &Crumbs, p: Point, ends: Range, was: Progress) ->
     requires { (1 ≤ ends.from) × (ends.to < length line.now) }
     ensures { result ≡ nearest_on_course line.now p ends was }
 {
-    let fix = was.fix;
-    if after_gap(fix, p) {
+    if after_gap(was.fix, p) {
         return in_reach(line, p, ends, was.along, Ranking::Plain);
     }
     let Some(near) = on_near(line, p, ends, was) else {

@@ -159,7 +159,7 @@ fn point_along(a: Crumb, b: Crumb, along: f32) -> Point
     }
 }
 
-// A line `along` metres from its first crumb, at or before segment `end`.
+// A line `along` metres from its first crumb, at or before segment `end`. The place where the loop stops is what is read, so it counts.
 pub fn at_along(line: &Crumbs, end: usize, along: f32) -> Point
     requires { (1 ≤ end) × (end < length line.now) }
     ensures { result ≡ at_along line.now end along }
@@ -171,7 +171,7 @@ pub fn at_along(line: &Crumbs, end: usize, along: f32) -> Point
     point_along(line.crumb(i), line.crumb(i + 1), along)
 }
 
-// How many leading crumbs of the breadcrumb lie at most `limit` metres along.
+// How many leading crumbs of the breadcrumb lie at most `limit` metres along. The count itself is asked for.
 pub fn ends(line: &Crumbs, limit: f32) -> usize
     ensures { result ≡ ends line.now limit }
 {

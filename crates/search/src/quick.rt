@@ -15,7 +15,8 @@ use plane::Point;
 use segments::Stretch;
 use segments::costs::{Nearest, Ranking};
 
-// The segment with the least square so far, 0 where there is none, that square, and the least of those tried before it.
+// The segment with the least square so far, 0 where there is none, that square, and the least of those tried before it. No segment is
+// named 0, and an Option would hold all three only where the loop over squares asks for one of them.
 #[derive(Clone, Copy)]
 struct Lead {
     best: usize,

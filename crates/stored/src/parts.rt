@@ -1,5 +1,5 @@
 // The parts of a guide's state, read from slices that the caller lends and written as words. Where each stands is
-// the table in crates/stored/specs/Stored.antt.
+// the table in crates/stored/specs/Stored.antt. The C interface lends words and numbers as two slices, and they are read where they lie.
 
 ghost use Rattle.std.specs.Prelude.{◌≡◌, true, [], ◌+◌, ◌≤◌, length, take, drop};
 ghost use Rattle.stored.specs.Fields.{within};

@@ -70,7 +70,7 @@ fn start(buf: &[f32], len: usize, bounds: Bounds, halve: bool) -> usize
 }
 
 // One pass over the first `len` crumbs, compacted in place; returns how many are kept. Each kept
-// crumb is written at or before where it was, and the reach reads only from the last kept crumb on.
+// crumb is written at or before where it was, and the reach reads only from the last kept crumb on. Each step goes as far as its reach.
 fn pass(buf: &mut [f32], len: usize, tolerance: f32, halve: bool) -> usize
     requires { len ≤ capacity (length buf.old) }
     ensures { Passed halve tolerance len buf.old buf.new result }

@@ -4,7 +4,7 @@ use Rattle.calls.specs.Ask as rule
 use Rattle.calls.specs.Calls.{asks_lent, asks}
 use Rattle.calls.specs.Promises.{says}
 use Rattle.answers.proofs.Answering.{told}
-use Rattle.answers.proofs.Lines.{on-line}
+use Rattle.matching.proofs.Lines.{on-line}
 use Rattle.answers.proofs.following.Goals as goal
 
 pub returns : goal.returns
