@@ -20,11 +20,11 @@ use Rattle.ride.specs.Script.{call_of, has_room, written, pointed}
 use Rattle.ride.specs.Inner.{Performs}
 
 -- what the loop carries on, with the calls from the i-th on still to come
-pub record Performing (room : ℕ) (calls : List (Bor Call)) (h₀ : Homing) (entry : List Float) (i : ℕ) (crumbs : List Float) (h : Homing) : Type 0
-  where
-    pub to-come : (run (length entry) (written room (pointed (drop i calls))) (state_of h crumbs)).state
-        ≡ (run (length entry) (written room (pointed calls)) (state_of h₀ entry)).state
-    pub long : length crumbs ≡ length entry
+pub record Performing (room : ℕ) (calls : List (Bor Call)) (h₀ : Homing) (entry : List Float) (i : ℕ) (crumbs : List Float) (h : Homing)
+    : Type 0 where
+  pub to-come : (run (length entry) (written room (pointed (drop i calls))) (state_of h crumbs)).state
+      ≡ (run (length entry) (written room (pointed calls)) (state_of h₀ entry)).state
+  pub long : length crumbs ≡ length entry
 
 module _ {room : ℕ} {calls : List (Bor Call)} {h₀ : Homing} {entry : List Float} {i : ℕ} {crumbs : List Float} {h : Homing}
     (p : Performing room calls h₀ entry i crumbs h) where
