@@ -1,5 +1,6 @@
 -- An answer by the number of the first question that says no, and the rules by what the program holds. Assumes nothing.
-use Rattle.std.proofs.Common.{ℕ, zero, suc, ◌≡◌, ◌≢◌, ◌==◌, refl, sym, ap, ap₂, ◌∙◌, subst, false, List, [], length, Float, Option, Some, None, Result, Ok, Err, Bor}
+use Rattle.std.proofs.Common.{ℕ, zero, suc, ◌≡◌, ◌≢◌, ◌==◌, refl, sym, ap, ap₂, ◌∙◌, subst, false, List, [], length, Float, Option, Some}
+use Rattle.std.proofs.Common.{None, Result, Ok, Err, Bor}
 use borrow.Author.Tests.{eq-eqb}
 use lib.Dec.{T}
 use Rattle.refusal.specs.declared.Refusal.{Refusal}

@@ -1,5 +1,6 @@
 -- What the tests of `pattern` and `as_f32` tell of the value. Assumes nothing.
-use Rattle.std.proofs.Common.{◌≡◌, ℕ, zero, suc, ◌+◌, ◌*◌, ◌^◌, ◌<◌, min, Bool, true, false, cond, T, ltb, ℤ, pos, negsuc, nat_abs, sym, refl, ap}
+use Rattle.std.proofs.Common.{◌≡◌, ℕ, zero, suc, ◌+◌, ◌*◌, ◌^◌, ◌<◌, min, Bool, true, false, cond, T, ltb, ℤ, pos, negsuc, nat_abs, sym}
+use Rattle.std.proofs.Common.{refl, ap}
 use Rattle.std.proofs.Common.{◌∙◌, subst, add-one, arith, ltb→lt}
 use lib.Signed.{lt_z}
 use lib.Ieee.{Float, nan, inf, fin, Format, binary32, prec, emax, low, odd, units, round, neg, is_nan, of_int, to_bits}

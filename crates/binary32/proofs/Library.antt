@@ -1,5 +1,6 @@
 -- The root of the library, which `f32::sqrt` gives, is `root`: both round the same root, each at a scale of its own. Assumes nothing.
-use Rattle.std.proofs.Common.{◌≡◌, ℕ, zero, suc, ◌+◌, ◌-◌, ◌*◌, ◌/◌, ◌%◌, ◌^◌, ◌<◌, ◌≤◌, Bool, true, false, cond, not, ◌&&◌, T, eqb, ltb, leb, ℤ}
+use Rattle.std.proofs.Common.{◌≡◌, ℕ, zero, suc, ◌+◌, ◌-◌, ◌*◌, ◌/◌, ◌%◌, ◌^◌, ◌<◌, ◌≤◌, Bool, true, false, cond, not, ◌&&◌, T, eqb, ltb}
+use Rattle.std.proofs.Common.{leb, ℤ}
 use Rattle.std.proofs.Common.{pos, negsuc, lit<, eqb→eq}
 use Rattle.std.proofs.Common.{sym, refl, ap, ◌∙◌, subst, add-one, le_antisymm, le_of_suc-le-suc, lt_of_not-le, not-le_of_lt, lt_of_le_of_lt}
 use Rattle.std.proofs.Common.{le_trans, le_of_eq, lt_of_lt_of_le, mul_assoc, mul_comm, mul_left_comm, mul_right_comm, mul-one, one-mul}
@@ -70,7 +71,8 @@ find w (suc zero) j N W l e = absurd (small W l)
     small : w < 2 ^ 24 → 2 ^ 46 ≤ w * 2 → ⊥
     small a b = omega arith
 find w (suc (suc k)) j N W l e =
-    go (ltb (w * 2 ^ suc (suc k)) (2 ^ 48)) (ltb→lt (w * 2 ^ suc (suc k)) (2 ^ 48)) (nltb→le (w * 2 ^ suc (suc k)) (2 ^ 48)) (find w k (suc j) N W)
+    go (ltb (w * 2 ^ suc (suc k)) (2 ^ 48)) (ltb→lt (w * 2 ^ suc (suc k)) (2 ^ 48)) (nltb→le (w * 2 ^ suc (suc k)) (2 ^ 48))
+    (find w k (suc j) N W)
   where
     go : (b : Bool) → (T b → w * 2 ^ suc (suc k) < 2 ^ 48) → (T (not b) → 2 ^ 48 ≤ w * 2 ^ suc (suc k))
         → (2 ^ 46 ≤ w * 2 ^ k → N ≡ w * 2 ^ k * (2 ^ suc j * 2 ^ suc j) → Found N) → Found N

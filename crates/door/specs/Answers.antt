@@ -24,7 +24,8 @@ pub record AnsweredBy {A W : Type 0} (promise : Result A Refusal → Type 0) (wr
 
 -- An export that reads `held` from what it is lent: the call is asked about what is held. Where nothing is, the number is `unread`, and the
 -- values stay.
-pub record Answers {S A W : Type 0} (held : Option S) (unread : ℕ) (promise : S → Result A Refusal → Type 0) (write : A → W → W) (number : ℕ)
+pub record Answers {S A W : Type 0} (held : Option S) (unread : ℕ) (promise : S → Result A Refusal → Type 0) (write : A → W → W)
+    (number : ℕ)
     (was is : W) : Type 0 where
   pub nothing : held ≡ None → (number ≡ unread) × (is ≡ was)
   pub asked : (h : S) → held ≡ Some h → AnsweredBy (promise h) write number was is

@@ -37,7 +37,8 @@ pub record EndsReplay (h : Homing) (r : Homing) (a : Result (Unit {0}) Refusal) 
   pub called : (b : List Float) → Called call.EndReplay h b r b
 
 -- `set_course` of the points xs, whatever the crumb buffer holds, which it is not given
-pub record SetsCourse (xs : List Fix) (h : Homing) (entry : List Float) (r : Homing) (a : Result (Unit {0}) Refusal) (exit : List Float) : Type 0 where
+pub record SetsCourse (xs : List Fix) (h : Homing) (entry : List Float) (r : Homing) (a : Result (Unit {0}) Refusal) (exit : List Float) :
+    Type 0 where
   pub answered : (b : List Float) → says a ≡ answer (asks (length b) (call.SetCourse entry xs) (state_of h b)) (tt {0})
   pub called : (b : List Float) → Called (call.SetCourse entry xs) h b r b
   -- the placed line stands in front of the line buffer, and the numbers behind it are unchanged
@@ -47,12 +48,14 @@ pub record SetsCourse (xs : List Fix) (h : Homing) (entry : List Float) (r : Hom
   pub size : length exit ≡ length entry
 
 -- `set_auto_follow`
-pub record SetsAuto (on : Bool) (h : Homing) (entry : List Float) (r : Homing) (a : Result (Unit {0}) Refusal) (exit : List Float) : Type 0 where
+pub record SetsAuto (on : Bool) (h : Homing) (entry : List Float) (r : Homing) (a : Result (Unit {0}) Refusal) (exit : List Float) :
+    Type 0 where
   pub answered : says a ≡ answer (asks (length entry) (call.SetAutoFollow on) (state_of h entry)) (tt {0})
   pub called : Called (call.SetAutoFollow on) h entry r exit
 
 -- `observe`, lent the line
-pub record Observes (line : List Float) (x : Option Fix) (now : ℕ) (h : Homing) (entry : List Float) (r : Homing) (a : Result Event Refusal) (exit : List Float) :
+pub record Observes (line : List Float) (x : Option Fix) (now : ℕ) (h : Homing) (entry : List Float) (r : Homing) (a : Result Event Refusal)
+    (exit : List Float) :
     Type 0 where
   pub answered : says a
       ≡ answer (asks (length entry) (call.Observe line x now) (state_of h entry))
@@ -60,12 +63,14 @@ pub record Observes (line : List Float) (x : Option Fix) (now : ℕ) (h : Homing
   pub called : Called (call.Observe line x now) h entry r exit
 
 -- `replay`
-pub record Replays (x : Fix) (now : ℕ) (h : Homing) (entry : List Float) (r : Homing) (a : Result (Unit {0}) Refusal) (exit : List Float) : Type 0 where
+pub record Replays (x : Fix) (now : ℕ) (h : Homing) (entry : List Float) (r : Homing) (a : Result (Unit {0}) Refusal) (exit : List Float) :
+    Type 0 where
   pub answered : says a ≡ answer (asks (length entry) (call.Replay x now) (state_of h entry)) (tt {0})
   pub called : Called (call.Replay x now) h entry r exit
 
 -- `set_following`, lent the line
-pub record SetsFollowing (line : List Float) (on : Bool) (now : ℕ) (h : Homing) (entry : List Float) (r : Homing) (a : Result Bool Refusal) (exit : List Float) :
+pub record SetsFollowing (line : List Float) (on : Bool) (now : ℕ) (h : Homing) (entry : List Float) (r : Homing) (a : Result Bool Refusal)
+    (exit : List Float) :
     Type 0 where
   pub answered : says a
       ≡ answer (asks (length entry) (call.SetFollowing line on now) (state_of h entry))

@@ -51,7 +51,8 @@ under-half-metre = refl
 
 -- * Longitude −1,800,000,000 to 1,800,000,000: east 0. It is at most 0 in size, whatever the latitudes.
 pub half-round : (lat0 lat : ℤ) → nat_abs lat0 ≤ 900000000
-    → Within plus_zero (frame (record { lat = lat0; lon = negsuc 1799999999 }) (east_per_e7 lat0) (record { lat = lat; lon = pos 1800000000 })).east
+    → Within plus_zero
+    (frame (record { lat = lat0; lon = negsuc 1799999999 }) (east_per_e7 lat0) (record { lat = lat; lon = pos 1800000000 })).east
 unfolding frame wrapped mul of_int
 half-round lat0 lat h =
     mul-within binary32 plus_zero (frac 5) plus_zero plus_zero (east_per_e7 lat0) tt (within-refl plus_zero tt) (east-factor lat0 h)

@@ -27,8 +27,10 @@ rest true true line q4 passed = refl
 module _ (size : ℕ) (b : List Float) (s : State) where
   pub both-no : asks_crumbs size s ≢ 0 → asks_crumbs size s ≡ asks_both size b s
   unfolding asks_crumbs asks_both
-  both-no refused = first (question1 size) (state_fits s && held_fits (capacity size) s) (line_fits b s.course) (question4 (length b) 0) refused
+  both-no refused =
+      first (question1 size) (state_fits s && held_fits (capacity size) s) (line_fits b s.course) (question4 (length b) 0) refused
 
   pub both-line : asks_crumbs size s ≡ 0 → asks_both size b s ≡ (unless (line_fits b s.course) 10 or_else unless (question4 (length b) 0) 4)
   unfolding asks_crumbs asks_both
-  both-line passed = rest (question1 size) (state_fits s && held_fits (capacity size) s) (line_fits b s.course) (question4 (length b) 0) passed
+  both-line passed =
+      rest (question1 size) (state_fits s && held_fits (capacity size) s) (line_fits b s.course) (question4 (length b) 0) passed

@@ -1,5 +1,5 @@
-// The questions put to a call. Each `asks` refuses by the first one that says no. What they ask of less than the whole state is in `limits`,
-// `counts` and `globe`.
+// The questions put to a call. Each `asks` refuses by the first one that says no. What they ask of less than the whole state is in
+// `limits`, `counts` and `globe`.
 #![tactic(auto)]
 
 pub mod counts;

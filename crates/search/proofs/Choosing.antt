@@ -40,7 +40,8 @@ module _ (line : List Crumb) (p : Point) (cost : ℕ → Option Float) (earlier 
   Chosen done None = (e : ℕ) (c : Float) → done e → cost e ≡ Some c → ⊥
   Chosen done (Some (near, least)) = Leads done near least
 
-  chosen-same : (done done' : ℕ → Type 0) → ((e : ℕ) → done e → done' e) → ((e : ℕ) → done' e → done e) → (best : Option (Nearest × Float)) → Chosen done best
+  chosen-same : (done done' : ℕ → Type 0) → ((e : ℕ) → done e → done' e) → ((e : ℕ) → done' e → done e) → (best : Option (Nearest × Float))
+      → Chosen done best
       → Chosen done' best
   chosen-same done done' to from None h = λ e c d. h e c (from e d)
   chosen-same done done' to from (Some (near, least)) h =

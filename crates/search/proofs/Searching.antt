@@ -14,12 +14,14 @@ use Rattle.segments.specs.Segment.{considered, cost_within, found}
 use Rattle.search.specs.Search.{rising, falling, count, anywhere, nearest_on_breadcrumb}
 
 -- ends rise: those from `end` on are left
-pub record Rises (consider : ℕ → Option (Nearest × Float) → Option (Nearest × Float)) (ends : Range) (best : Option (Nearest × Float)) (end : ℕ) : Type 0 where
+pub record Rises (consider : ℕ → Option (Nearest × Float) → Option (Nearest × Float)) (ends : Range) (best : Option (Nearest × Float))
+    (end : ℕ) : Type 0 where
   pub same : rising consider (ends.to + 1 - end) end best ≡ rising consider (count ends) ends.from None
   pub from : ends.from ≤ end
 
 -- ends fall: those from `end` down are left
-pub record Falls (consider : ℕ → Option (Nearest × Float) → Option (Nearest × Float)) (ends : Range) (best : Option (Nearest × Float)) (end : ℕ) : Type 0 where
+pub record Falls (consider : ℕ → Option (Nearest × Float) → Option (Nearest × Float)) (ends : Range) (best : Option (Nearest × Float))
+    (end : ℕ) : Type 0 where
   pub same : falling consider (end + 1 - ends.from) end best ≡ falling consider (count ends) ends.to None
   pub upto : end ≤ ends.to
 
@@ -52,7 +54,8 @@ module _ {consider : ℕ → Option (Nearest × Float) → Option (Nearest × Fl
         let n : ends.to + 1 - end ≡ zero = omega arith in
         sym (ap (λ k. rising consider k end best) n) ∙ v.same
 
-    pub falls-on : {next : Option (Nearest × Float)} → Falls consider ends best end → 1 ≤ ends.from → ends.from ≤ end → next ≡ consider end best
+    pub falls-on : {next : Option (Nearest × Float)} → Falls consider ends best end → 1 ≤ ends.from → ends.from ≤ end
+        → next ≡ consider end best
         → Falls consider ends next (end - 1)
     unfolding falling
     falls-on v first more e =

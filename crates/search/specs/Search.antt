@@ -11,12 +11,14 @@ use Rattle.segments.specs.declared.Stretch.{Stretch}
 use Rattle.segments.specs.Segment.{considered, cost_within, found}
 
 -- `left` ends considered one after the other, from `end` up
-unfoldable pub rising : (ℕ → Option (Nearest × Float) → Option (Nearest × Float)) → ℕ → ℕ → Option (Nearest × Float) → Option (Nearest × Float)
+unfoldable pub rising : (ℕ → Option (Nearest × Float) → Option (Nearest × Float)) → ℕ → ℕ → Option (Nearest × Float)
+    → Option (Nearest × Float)
 rising consider zero end best = best
 rising consider (suc left) end best = rising consider left (end + 1) (consider end best)
 
 -- and from `end` down
-unfoldable pub falling : (ℕ → Option (Nearest × Float) → Option (Nearest × Float)) → ℕ → ℕ → Option (Nearest × Float) → Option (Nearest × Float)
+unfoldable pub falling : (ℕ → Option (Nearest × Float) → Option (Nearest × Float)) → ℕ → ℕ → Option (Nearest × Float)
+    → Option (Nearest × Float)
 falling consider zero end best = best
 falling consider (suc left) end best = falling consider left (end - 1) (consider end best)
 

@@ -57,7 +57,8 @@ table =
       half-metre = refl;
       under-half = refl;
       under-half-bits = refl;
-      half-round = λ lat0 lat h. zero-within (frame (westernmost lat0) (east_per_e7 lat0) (easternmost lat)).east (plane.half-round lat0 lat h);
+      half-round =
+          λ lat0 lat h. zero-within (frame (westernmost lat0) (east_per_e7 lat0) (easternmost lat)).east (plane.half-round lat0 lat h);
       one-pass = refl;
       not-armed = λ moving. refl;
       stays_on = refl;

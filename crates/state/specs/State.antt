@@ -28,7 +28,8 @@ pub record State : Type 0 where
   pub guide : Option Guide
 
 -- the state of these groups
-abbrev pub state_with : Track → Frame → Option Fix → Option Point → ℕ → Motion → Follow → Course → Bool → Bool → Lap → ℕ → Option Guide → State
+abbrev pub state_with : Track → Frame → Option Fix → Option Point → ℕ → Motion → Follow → Course → Bool → Bool → Lap → ℕ → Option Guide
+    → State
 state_with track frame fed here here_ms motion follow course auto_follow arrived lap updated_ms guide =
     record {
       track = track;

@@ -41,7 +41,8 @@ says-left (Err q) k d p e = let z : ◌≡◌ {A = ℕ} 0 1 = cc in absurd (omeg
 module _ {n : ℕ} {t : Float} {entry exit : List Float} {r : Result Thinned Refusal} (f : ThinDone n t entry exit r) where
   -- a call that passes question 9 is not refused
   pub answered-left : question9 (length entry) n t ≡ true
-      → r ≡ Ok (record { len = length (thinned n t entry).left; tolerance = (thinned n t entry).tolerance; passes = (thinned n t entry).passes })
+      → r ≡ Ok
+      (record { len = length (thinned n t entry).left; tolerance = (thinned n t entry).tolerance; passes = (thinned n t entry).passes })
   answered-left a =
       says-left r (length (thinned n t entry).left) (thinned n t entry).tolerance (thinned n t entry).passes
       (f.answered ∙ answer-left (length entry) t (crumbs n entry) (thinned n t entry) (rw length-crumbs a) refl)
@@ -79,6 +80,7 @@ module _ {n : ℕ} {t : Float} {entry exit : List Float} {r : Result Thinned Ref
       by false a = let w : refused (number q) ≡ refused 9 = sym (ap says e) ∙ answered-refused a in (a, cc, f.refused a)
       by true a =
           let v = thinned n t entry in
-          let no : ◌≡◌ {A = Result Thinned Refusal} (Err q) (Ok (record { len = length v.left; tolerance = v.tolerance; passes = v.passes })) = sym e ∙ answered-left a in
+          let no : ◌≡◌ {A = Result Thinned Refusal} (Err q)
+          (Ok (record { len = length v.left; tolerance = v.tolerance; passes = v.passes })) = sym e ∙ answered-left a in
           let z : ◌≡◌ {A = ℕ} 0 1 = cc in
           absurd (omega arith)

@@ -12,8 +12,8 @@ use Rattle.thin.specs.Questions.{question9}
 pub record Stood (n : ℕ) (entry exit : List Float) : Type 0 where
   pub among : (i : ℕ) → i < n → (j : ℕ) × ((j < n) × (crumb_at exit i ≡ crumb_at entry j))
 
--- An answer of `thin` in document 01's terms: the number of the refusal, or how many crumbs are left, the tolerance of the last pass, and the
--- passes made.
+-- An answer of `thin` in document 01's terms: the number of the refusal, or how many crumbs are left, the tolerance of the last pass, and
+-- the passes made.
 pub data ThinAnswer : Type 0 where
   refused : ℕ → ThinAnswer
   left : ℕ → Float → ℕ → ThinAnswer

@@ -186,7 +186,8 @@ asked {t} {size} f =
     )
     f.tolerance
 
-module _ {t : Trail} {b b₁ : List Float} {r : Result Thinned Refusal} (f : TrailFit t (length b)) (done : ThinDone t.len t.tolerance b b₁ r) where
+module _ {t : Trail} {b b₁ : List Float} {r : Result Thinned Refusal} (f : TrailFit t (length b))
+    (done : ThinDone t.len t.tolerance b b₁ r) where
   pub taken : {q : Refusal} → r ≡ Err q → ⊥
   taken e = true-false (sym (asked f) ∙ (refused-is done e).0)
 

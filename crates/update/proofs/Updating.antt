@@ -199,12 +199,14 @@ module _ (h : Homing) (b : List Float) (course : List Crumb) (p : Point) (now : 
         updates-as rule (λ C. still) h b _ b (is told)
         (updates-still still h b _ fit (tells still h b _ _ refl refl (c.same b) c.trail))
 
-    pub ends : {event : Event} (line : List Float) → course ≡ course_of h line → o ≡ Ends event → (n : Homing) → Changes (begun p now) h n → (r : Told) (exit : List Float)
+    pub ends : {event : Event} (line : List Float) → course ≡ course_of h line → o ≡ Ends event → (n : Homing) → Changes (begun p now) h n
+        → (r : Told) (exit : List Float)
         → Updates (λ C. ended_with event C (course_of n line) p now) n b r exit → Updates rule h b r exit
     unfolding comes_to
     ends {event} line P told n c r exit u =
         let ending : ℕ → State → Done Event = λ C. ended_with event C course p now in
-        let here = subst (λ (l : List Crumb). Updates (λ C. ended_with event C l p now) n b r exit) (course-begun p now h n 0 0 c line ∙ sym P) u in
+        let here = subst (λ (l : List Crumb). Updates (λ C. ended_with event C l p now) n b r exit)
+        (course-begun p now h n 0 0 c line ∙ sym P) u in
         updates-as rule (λ C s. ending C (begun p now s)) h b r exit (is told) (updates-from (begun p now) ending h n b r exit c here)
 
     pub goes_on : {near : Nearest} → trail.TrailFit h.trail (length b) → o ≡ GoesOn near → (d : Display)

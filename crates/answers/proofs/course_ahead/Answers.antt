@@ -8,4 +8,5 @@ use Rattle.answers.proofs.course_ahead.Goals as goal
 
 pub returns : goal.returns
 unfolding asks asks_lent rule.course_ahead
-returns c = record { said = λ b. ap says c.and.ensures ∙ told c.asks_state.result (c.asks_state.ensures b) (c.ahead_on.ensures.course refl) }
+returns c =
+    record { said = λ b. ap says c.and.ensures ∙ told c.asks_state.result (c.asks_state.ensures b) (c.ahead_on.ensures.course refl) }

@@ -23,6 +23,8 @@ pub returns : goal.returns
 returns c =
     let l = crumbs c.args.len c.args.crumbs.now in
     let p = c.in_ok-p.p in
-    let direct = c.as_u32.ensures ∙ ap as_u32 (c.distance-direct.ensures ∙ ap (λ (q : Point). distance p q) (rw c.new-held.ensures at c.start.ensures)) in
+    let direct = c.as_u32.ensures
+    ∙ ap as_u32 (c.distance-direct.ensures ∙ ap (λ (q : Point). distance p q) (rw c.new-held.ensures at c.start.ensures)) in
     let track = c.as_u32-2.ensures ∙ ap as_u32 (rw c.new-held.ensures at c.recorded_m-track.ensures) in
-    back-held p c.args.len c.args.crumbs.now c.if-len-eq0.false _ _ direct track ∙ sym (ap (λ (x : Option Point). way_back_from x l) c.in_ok-p.was)
+    back-held p c.args.len c.args.crumbs.now c.if-len-eq0.false _ _ direct track
+    ∙ sym (ap (λ (x : Option Point). way_back_from x l) c.in_ok-p.was)

@@ -79,7 +79,8 @@ module _ (line : List Crumb) (p : Point) where
   abbrev near : ℕ → Nearest
   near end = nearest_on line p end
 
-  one_on : (k : ℕ) (best : Option (Nearest × Float)) → shown (falling rule (suc k) (suc k) best) ≡ shown (falling rule k k (rule (suc k) best))
+  one_on : (k : ℕ) (best : Option (Nearest × Float))
+      → shown (falling rule (suc k) (suc k) best) ≡ shown (falling rule k k (rule (suc k) best))
   unfolding falling
   one_on k best = let e : suc k - 1 ≡ k = omega arith in ap (λ (n : ℕ). shown (falling rule k n (rule (suc k) best))) e
 

@@ -29,5 +29,6 @@ returns c =
     let told = c.in_ok-asks_crumbs.ensures in
     record {
       answered = yes told refl;
-      called = takes-rule (call.SetAutoFollow g.on) g.h.now k.result g.crumbs.now k.new.crumbs (set_auto_follow g.on) (sym told) refl k.ensures;
+      called =
+          takes-rule (call.SetAutoFollow g.on) g.h.now k.result g.crumbs.now k.new.crumbs (set_auto_follow g.on) (sym told) refl k.ensures;
     }

@@ -34,7 +34,8 @@ module _ (l : List Crumb) (heading : ℕ) (best : Option Nearest) where
         → against_near l heading best ≡ (b && backwards heading (at l (near.end - 1)) (at l near.end))
     unfolding against_near
     tested b t =
-        ap (λ (x : Option Nearest). against_near l heading x) e ∙ ap (λ (x : Bool). x && backwards heading (at l (near.end - 1)) (at l near.end)) t
+        ap (λ (x : Option Nearest). against_near l heading x) e
+        ∙ ap (λ (x : Bool). x && backwards heading (at l (near.end - 1)) (at l near.end)) t
 
     pub near-against : lt near.off retrace_m ≡ true
         → backwards heading (at l (near.end - 1)) (at l near.end) ≡ against_near l heading best

@@ -125,7 +125,8 @@ module _ (p : Point) (ends : Range) (len : ℕ) (low : 1 ≤ ends.from) (high : 
   nearest_in_line line.Nothing course s = met-in s.track.crumbs _ (breadcrumb-met s.track.crumbs p ends)
   nearest_in_line line.Breadcrumb course s = met-in s.track.crumbs _ (breadcrumb-met s.track.crumbs p ends)
 
-nearer-in : (len : ℕ) (near : Nearest) (best : Option Nearest) → InLine len (Some near) → InLine len best → InLine len (Some (nearer near best))
+nearer-in : (len : ℕ) (near : Nearest) (best : Option Nearest) → InLine len (Some near) → InLine len best
+    → InLine len (Some (nearer near best))
 unfolding nearer
 nearer-in len near None on in-line = on
 nearer-in len near (Some other) on in-line = by (lt other.off near.off)

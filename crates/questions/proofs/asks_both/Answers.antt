@@ -8,7 +8,8 @@ use Rattle.questions.proofs.asks_both.Goals as goal
 
 pub returns-in_err-asks_crumbs : goal.returns-in_err-asks_crumbs
 returns-in_err-asks_crumbs c =
-    let a : asked c.from_residual.result ≡ asks_crumbs (length c.args.crumbs.now) (state_of c.args.h.now c.args.crumbs.now) = search rules in
+    let a : asked c.from_residual.result ≡ asks_crumbs (length c.args.crumbs.now) (state_of c.args.h.now c.args.crumbs.now) =
+    search rules in
     let ne : asks_crumbs (length c.args.crumbs.now) (state_of c.args.h.now c.args.crumbs.now) ≢ 0 = search rules in
     a ∙ both-no _ _ _ ne
 

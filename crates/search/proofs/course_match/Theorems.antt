@@ -23,7 +23,8 @@ module _ (line : List Crumb) (p : Point) (ends : Range) (first : 1 ≤ ends.from
   unfolding on_near
   near-met = within-met line p ends first _ _
 
-  either-met : (best other : Option Nearest) → OnlyMet line p ends best → OnlyMet line p ends other → OnlyMet line p ends (first_found best other)
+  either-met : (best other : Option Nearest) → OnlyMet line p ends best → OnlyMet line p ends other
+      → OnlyMet line p ends (first_found best other)
   unfolding first_found
   either-met (Some near) other f o = f
   either-met None other f o = o

@@ -71,7 +71,8 @@ module _ (line : List Crumb) (p : Point) where
 
   later : (near : Nearest) (cost : Float) (end : ℕ) (lead : Lead) (b : Bool) → eqb lead.best 0 ≡ b → 0 < end
       → Tracks (Some (near, cost)) lead
-      → Tracks (cond (lt (nearest_on line p end).off cost) (Some ((nearest_on line p end), (nearest_on line p end).off)) (Some (near, cost)))
+      → Tracks
+      (cond (lt (nearest_on line p end).off cost) (Some ((nearest_on line p end), (nearest_on line p end).off)) (Some (near, cost)))
       (cond b (record { best = end; least = square_on line p end; before = lead.before })
       (cond (lt (square_on line p end) lead.least) (record { best = end; least = square_on line p end; before = lead.least }) lead))
   later near cost end lead true e E t = let z = eqb-true lead.best 0 e in let g = t.0 in absurd (omega arith)

@@ -41,7 +41,8 @@ returns-in-Straight c = λ w.
     let b = g.crumbs.now in
     let i = followed-here h b c.new-held.ensures c.followed_by-f.ensures in
     let shows = c.direct.ensures _ (record { follow = refl; arrived = refl; heading = refl; crumbs = c.new-held.ensures }) in
-    rw (← c.new-placed.ensures) (goes-straight h b c.new-placed.result g.p g.now_ms i c.outcome_at.ensures (c.requires w).trail c.in-Straight.is
+    rw (← c.new-placed.ensures)
+    (goes-straight h b c.new-placed.result g.p g.now_ms i c.outcome_at.ensures (c.requires w).trail c.in-Straight.is
     c.direct.result shows (told_in c.shown.result w) (c.shown.ensures b w))
 
 pub returns-in-Stays : goal.returns-in-Stays
@@ -60,7 +61,8 @@ returns-in-Ends c = λ w.
     let b = g.crumbs.now in
     let i = followed-here h b c.new-held.ensures c.followed_by-f.ensures in
     let ended = c.ended_with in
-    rw (← c.new-placed.ensures) (ends h b c.new-placed.result g.p g.now_ms i c.outcome_at.ensures g.line.now c.new-placed.ensures c.in-Ends.is
+    rw (← c.new-placed.ensures)
+    (ends h b c.new-placed.result g.p g.now_ms i c.outcome_at.ensures g.line.now c.new-placed.ensures c.in-Ends.is
     (whole c.begun-in-Ends.result w) (c.begun-in-Ends.ensures w) (told_in ended.result w) ended.new.crumbs (ended.ensures w))
 
 pub returns-in-GoesOn : goal.returns-in-GoesOn

@@ -10,7 +10,8 @@ use Rattle.lap.specs.Pass.{Stepped, stepped, pass_arm_m, pass_m, pass_end_m, fro
 use Rattle.lap.proofs.StartPass.step.Goals as goal
 
 -- what comes of a stage comes of the pass that is at it
-module _ (p : StartPass) (d : Float) (moving : Bool) {k : Stage} (is : p.stage ≡ k) {l : Stage} {b : Bool} (comes : from_stage k d moving ≡ stepped l b) where
+module _ (p : StartPass) (d : Float) (moving : Bool) {k : Stage} (is : p.stage ≡ k) {l : Stage} {b : Bool}
+    (comes : from_stage k d moving ≡ stepped l b) where
   told : step_of p d moving ≡ stepped l b
   unfolding step_of
   told = ap (λ (s : Stage). from_stage s d moving) is ∙ comes

@@ -22,7 +22,9 @@ returns-in_err-asks_fix c =
     let x : SFits w32 c.in-Some.field-0-0.now = search rules in
     let y : SFits w32 c.in-Some.field-0-1.now = search rules in
     let no : asked c.from_residual.result ≡ number c.in_err-asks_fix.field-0.0 = search rules in
-    asking-no {xs' = iter_rest (zip_first c.next.new.self)} {ys' = iter_rest (zip_second c.next.new.self)} c.loop-lat.invariant (search rules) (search rules) (no ∙ fix-handed _ _ x y c.in_err-asks_fix.ensures) (search rules)
+    asking-no {xs' = iter_rest (zip_first c.next.new.self)} {ys' = iter_rest (zip_second c.next.new.self)} c.loop-lat.invariant
+    (search rules) (search rules) (no ∙ fix-handed _ _ x y c.in_err-asks_fix.ensures) (search rules)
 
 pub returns : goal.returns
-returns c = asking-end c.loop-lat.invariant (either_empty_from_Zip c.loop-lat.lat-iterator c.next.new.self c.next.result c.in-None.is c.next.ensures.steps)
+returns c = asking-end c.loop-lat.invariant
+    (either_empty_from_Zip c.loop-lat.lat-iterator c.next.new.self c.next.result c.in-None.is c.next.ensures.steps)

@@ -9,7 +9,8 @@ use Rattle.stored.proofs.fields.within.Goals as goal
 pub returns-then-most-words : goal.returns-then-most-words
 returns-then-most-words c =
     all_from_yields_List (λ (p : ℕ × ℕ). leb p.1 p.0) c.all.new.self _ _ c.all.ensures.ran
-    (YieldsList-from_zip {s = c.zip.result} (YieldsList-from_slice c.args.most.now cc) (YieldsList-from_slice c.args.words.now cc)) (λ x b q k. search rules)
+    (YieldsList-from_zip {s = c.zip.result} (YieldsList-from_slice c.args.most.now cc) (YieldsList-from_slice c.args.words.now cc))
+    (λ x b q k. search rules)
     ∙ within-all _ _ c.if-most-words.true
 
 pub returns-else-most-words : goal.returns-else-most-words

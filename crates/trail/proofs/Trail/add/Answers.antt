@@ -18,7 +18,8 @@ end-anchor-requires c = rw (c.new.ensures, length-crumbs) (omega arith)
 pub returns-then-distance : goal.returns-then-distance
 unfolding min_step_m constant round of_bits
 returns-then-distance c =
-    adds-near c.args.self.now _ _ c.args.p (omega (arith, c.if-self-eq0.false)) (rw c.new.ensures at c.end-anchor.ensures) c.last.ensures c.requires
+    adds-near c.args.self.now _ _ c.args.p (omega (arith, c.if-self-eq0.false))
+    (rw c.new.ensures at c.end-anchor.ensures) c.last.ensures c.requires
     (rw c.distance.ensures at c.if-distance.true)
 
 pub returns : goal.returns

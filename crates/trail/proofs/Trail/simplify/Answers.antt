@@ -30,5 +30,6 @@ pub returns : goal.returns
 returns c =
     let a = c.args in
     simplifies-straight a.self.now _ _ a.anchor a.p c.requires
-    (straight a.self.now _ _ a.anchor a.p c.strays.ensures c.if-strays.false (ne_eqb a.self.now.window_len window_places c.if-self-eq-WINDOW.false))
+    (straight a.self.now _ _ a.anchor a.p c.strays.ensures c.if-strays.false
+    (ne_eqb a.self.now.window_len window_places c.if-self-eq-WINDOW.false))
     c.wait-2.ensures
