@@ -8,7 +8,6 @@ use Rattle.ride_log.specs.Questions.{asks_file}
 use Rattle.rebuild.specs.Made.{Made, effect}
 use Rattle.rebuild.specs.Rebuild.{new_rebuild, step, is_decided, caught_up}
 use Rattle.retelling.specs.Text.{rebuilt_text, refused_text}
-use Rattle.retelling.specs.Writing.{text_most}
 
 -- "with 512 crumbs"
 abbrev pub room : ℕ
@@ -33,6 +32,10 @@ retold file =
       | true ↦ rebuilt_text (held_after file) (rebuilt file).rebuild.clock_ms (is_decided (rebuilt file).rebuild.stage)
       | false ↦ refused_text (asks_file file)
     ]
+
+-- a text of so many bytes has room for all that is printed
+abbrev pub text_most : ℕ
+text_most = 16384
 
 -- ---- what `retell` promises
 -- `retell` writes to the front of a lent text, and r is how many bytes it wrote.

@@ -1,6 +1,7 @@
--- What a function that writes to a lent text promises.
+-- For the functions inside: what a function that writes to a lent text promises.
 use Rattle.std.specs.Prelude.{ℕ, ◌≤◌, ◌≡◌, List, ◌++◌, length, take, drop}
 use Rattle.retelling.specs.declared.lines.Writer.{Writer}
+use Rattle.retelling.specs.Retold.{text_most}
 
 -- The bytes `l` are written from place `at` of a text on, and r is the place behind them: what stood before is followed by as many of them
 -- as there is room for. What stands behind is unchanged.
@@ -10,10 +11,6 @@ pub record Writes (l entry : List ℕ) (at : ℕ) (exit : List ℕ) (r : ℕ) : 
   pub on : at ≤ r
   pub inside : at ≤ length entry → r ≤ length entry
   pub behind : drop r exit ≡ drop r entry
-
--- a text of so many bytes has room for all that is printed
-abbrev pub text_most : ℕ
-text_most = 16384
 
 -- A writer has written the bytes `l`, to the text that it held.
 pub record Puts (l : List ℕ) (entry exit : Writer) : Type 0 where

@@ -14,7 +14,8 @@ use Rattle.crumbs.specs.Crumb.{crumbs}
 use Rattle.crumbs.proofs.Crumbs.{length-crumbs}
 use Rattle.retelling.specs.Text.{decimal, capitals, pattern, crumb_line, crumb_lines}
 use Rattle.retelling.specs.Text.{stage_text, first_line, rebuilt_text, refused_text}
-use Rattle.retelling.specs.Writing.{Puts, text_most, PutsWhole}
+use Rattle.retelling.specs.Retold.{text_most}
+use Rattle.retelling.specs.Writing.{Puts, PutsWhole}
 use Rattle.retelling.specs.declared.lines.Writer.{Writer}
 use Rattle.retelling.proofs.lines.Numbers.{decimal-one, decimal-more, puts-rebuilt}
 
