@@ -168,3 +168,23 @@ pub fn read_end(input: &mut impl Read) -> Result<(), Fault> {
     }
     Ok(())
 }
+
+#[cfg(test)]
+mod tests {
+    use super::*;
+    use crate::comparing;
+
+    // What asks for memory succeeds where there is some: three bytes, and the pattern of 1.0 behind them.
+    #[test]
+    fn reads_bytes_and_patterns(rt: HostRuntime) {
+        let mut input: &[u8] = &[7, 8, 9, 0, 0, 0x80, 0x3f];
+        let bytes = read_bytes(rt.alloc(), &mut input, 3);
+        assert!(rt;
+            bytes.is_ok_and(|bytes| bytes.as_slice() == [7, 8, 9].as_slice()),
+            "three bytes"
+        );
+        let at = Moment::End(0);
+        let same = comparing::compare_numbers(rt.alloc(), &mut input, at, "numbers", &[1.0]);
+        assert!(rt; same.is_ok(), "a number");
+    }
+}
