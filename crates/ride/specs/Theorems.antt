@@ -79,6 +79,7 @@ IsCall (call.Replay fix at_ms) = IsFix fix × Fits w64 at_ms
 IsCall (call.SetFollowing line follow now_ms) = IsLine line.now × Fits w64 now_ms
 
 -- a slice of references that says the calls cs, as `ride` is given it, beside a working line of `room` f32
+-- Where a reference lies is left open: what `ride` promises sees only what it points to.
 pub record Written (cs : List rule.Call) : Type 0 where
   pub room : ℕ
   pub roomy : room * 4 < 2 ^ 63
