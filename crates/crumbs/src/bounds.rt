@@ -7,16 +7,17 @@ ghost use Rattle.crumbs.specs.Bounds.{row_length, RowOf, RowBetween, Leading};
 
 use crate::Crumb;
 
-// The crumbs of a row, and their numbers.
+// The crumbs of a row.
 const ROW: usize = 16;
 
-const NUMBERS: usize = 48;
+// The numbers of a row.
+const NUMBERS: usize = crate::STRIDE * ROW;
 
 // A row of crumbs that are all `c`.
-fn row_of(c: Crumb) -> [f32; 48]
+fn row_of(c: Crumb) -> [f32; NUMBERS]
     ensures { RowOf c result }
 {
-    let mut row = [0.0; 48];
+    let mut row = [0.0; NUMBERS];
     for i in 0..ROW {
         crate::put(&mut row, i, c);
     }
@@ -24,12 +25,13 @@ fn row_of(c: Crumb) -> [f32; 48]
 }
 
 // Whether no number of the row from the crumb at place `i` on is below the one that stands there in `least`, or above that in `most`.
-fn row_between(buf: &[f32], i: usize, least: &[f32; 48], most: &[f32; 48]) -> bool
+fn row_between(buf: &[f32], i: usize, least: &[f32; NUMBERS], most: &[f32; NUMBERS]) -> bool
     requires { i + row_length ≤ capacity (length buf.now) }
     ensures { result ≡ true → RowBetween least.now most.now buf.now i }
 {
     let at = crate::STRIDE * i;
     let mut ok = true;
+    // By `k`: two `zip`s would hold a number and its bounds as a pair in a pair, and be no shorter.
     for k in 0..NUMBERS {
         let x = buf[at + k];
         ok = ok & (least[k] <= x) & (x <= most[k]);
@@ -37,7 +39,6 @@ fn row_between(buf: &[f32], i: usize, least: &[f32; 48], most: &[f32; 48]) -> bo
     ok
 }
 
-// The place of the row where it stops is the answer, so the loop counts.
 // How many of the first `len` crumbs, by rows, have no number below that of `least` or above that of `most`.
 pub fn leading(buf: &[f32], len: usize, least: Crumb, most: Crumb) -> usize
     requires { len ≤ capacity (length buf.now) }
@@ -46,6 +47,7 @@ pub fn leading(buf: &[f32], len: usize, least: Crumb, most: Crumb) -> usize
     let low = row_of(least);
     let high = row_of(most);
     let mut i = 0;
+    // By `while`: `position` would count rows, and need a product where one stops, and another where none does.
     while ROW <= len - i {
         if !row_between(buf, i, &low, &high) {
             return i;

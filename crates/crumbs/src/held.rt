@@ -82,19 +82,13 @@ impl<'a> Crumbs<'a> {
     pub fn start(&self, p: Point) -> Point
         ensures { result ≡ start_of self.now p }
     {
-        match self.first() {
-            Some(a) => crate::point(a),
-            None => p,
-        }
+        self.first().map_or(p, crate::point)
     }
 
     // How long the line is from the start to `p`.
     pub fn recorded_m(&self, p: Point) -> f32
         ensures { result ≡ recorded_m self.now p }
     {
-        match self.last() {
-            Some(a) => along::along_to(a, p),
-            None => 0.0,
-        }
+        self.last().map_or(0.0, |a| along::along_to(a, p))
     }
 }

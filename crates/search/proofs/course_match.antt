@@ -1,2 +1,3 @@
 -- Facts that the functions' proofs share.
+pub mod Gaps
 pub mod Theorems

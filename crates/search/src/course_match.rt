@@ -11,10 +11,10 @@ use plane::Point;
 use segments::costs::{Nearest, Ranking};
 use segments::{Stretch, costs, turns};
 
-// The match moves at most this far on towards the course's end in one fix,
+// The match moves at most this far on towards the course's end in one fix.
 const JUMP_M: f32 = 500.0;
 
-// and back only this far behind where it was.
+// The match moves back only this far behind where it was.
 const BACK_M: f32 = 25.0;
 
 // The stretch this little on from where the rider was is matched first.
@@ -37,10 +37,7 @@ pub struct Progress {
 fn after_gap(fix: Option<Point>, p: Point) -> bool
     ensures { result ≡ after_gap fix p }
 {
-    let Some(last) = fix else {
-        return true;
-    };
-    plane::distance(last, p) > HOP_M
+    fix.is_none_or(|last| plane::distance(last, p) > HOP_M)
 }
 
 // From `on` metres ahead of a place on the course to `BACK_M` behind it.

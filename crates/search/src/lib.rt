@@ -18,17 +18,8 @@ use plane::{Point, squares};
 use segments::costs::{Nearest, Ranking};
 use segments::{Stretch, costs, turns};
 
-// Rust's `f32::MAX`,
-const LARGEST: f32 = 340282346638528859811704183484516925440.0;
-
-// and `f32::MIN`.
-const LOWEST: f32 = -340282346638528859811704183484516925440.0;
-
-// A rider less than this off the course, and riding its way, joins it,
+// A rider less than this off the course, and riding its way, joins it.
 const JOIN_M: f32 = 25.0;
-
-// and this is a square whose root is above that.
-const JOIN_FAR: f32 = 626.0;
 
 // The ends that a search tries, both included.
 #[derive(Clone, Copy)]
@@ -42,8 +33,8 @@ fn anywhere() -> Stretch
     ensures { result ≡ anywhere }
 {
     Stretch {
-        floor: LOWEST,
-        ceiling: LARGEST,
+        floor: f32::MIN,
+        ceiling: f32::MAX,
     }
 }
 
@@ -53,16 +44,13 @@ pub fn nearest_on_breadcrumb(line: &Crumbs, p: Point, ends: Range) -> Option<Nea
     ensures { result ≡ nearest_on_breadcrumb line.now p ends }
 {
     let within = anywhere();
-    // A line is counted by a usize, so no sum below leaves one.
+    // That the length fits a usize bounds the sum below.
     let _ = line.len();
     let mut best = None;
-    let mut end = ends.from;
-    // By `while`: a `for` over an inclusive range leaves from two places, and the last step is proved twice.
-    while end <= ends.to {
+    for end in ends.from..ends.to + 1 {
         let a = line.crumb(end - 1);
         let b = line.crumb(end);
         best = segments::consider(a, b, p, within, Ranking::Plain, end, best);
-        end += 1;
     }
     segments::found(best)
 }
@@ -78,16 +66,15 @@ pub fn nearest_within(
     requires { (1 ≤ ends.from) × (ends.to < length line.now) }
     ensures { result ≡ nearest_within line.now p ends within by }
 {
+    // That the length fits a usize bounds the sum below.
+    let _ = line.len();
     let mut best = None;
-    let mut end = ends.to;
-    // By `while`: a `for` over an inclusive range leaves from two places, and the last step is proved twice.
-    while ends.from <= end {
+    for end in (ends.from..ends.to + 1).rev() {
         let a = line.crumb(end - 1);
         let b = line.crumb(end);
         if segments::may_cost(a, b, p, within, by) {
             best = segments::consider(a, b, p, within, by, end, best);
         }
-        end -= 1;
     }
     segments::found(best)
 }
@@ -117,7 +104,7 @@ fn joins(p: Point, heading: u16, a: Crumb, b: Crumb) -> bool
 {
     let from = crumbs::point(a);
     let to = crumbs::point(b);
-    if !(squares::off_square(p, from, to) < JOIN_FAR) {
+    if !(squares::off_square(p, from, to) < costs::FAR) {
         return false;
     }
     if plane::off_segment(p, from, to) < JOIN_M {

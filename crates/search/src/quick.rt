@@ -81,7 +81,7 @@ pub fn nearest_on_breadcrumb(line: &Crumbs, p: Point, ends: Range) -> Option<Nea
     let mut lead = Lead {
         best: 0,
         least: 0.0,
-        before: crate::LARGEST,
+        before: f32::MAX,
     };
     let mut end = ends.from;
     // By `while`: a `for` over an inclusive range leaves from two places, and the last step is proved twice.
@@ -163,7 +163,7 @@ fn plainly_within(line: &Crumbs, p: Point, ends: Range, within: Stretch) -> Opti
     let none = Lead {
         best: 0,
         least: 0.0,
-        before: crate::LARGEST,
+        before: f32::MAX,
     };
     let passed = over_rows(line, p, within, ends, none);
     let mut lead = passed.lead;

@@ -23,13 +23,13 @@ struct Front {
 }
 
 // The squares of how far `p` is off the segments of a row, from segment `first` of the line on.
-fn squares_from(line: &Crumbs, p: Point, first: usize) -> [f32; 16]
+fn squares_from(line: &Crumbs, p: Point, first: usize) -> [f32; ROW]
     requires { (1 ≤ first) × (first + row_length ≤ length line.now) }
     ensures { SquaresFrom line.now p first result }
 {
-    // A line is counted by a usize, so no sum below leaves one.
+    // That the length fits a usize bounds the sum below.
     let _ = line.len();
-    let mut row = [0.0; 16];
+    let mut row = [0.0; ROW];
     for k in 0..ROW {
         row[k] = segments::square_on(line, p, first + k);
     }
@@ -47,7 +47,7 @@ fn lesser(x: f32, bar: f32) -> f32
 }
 
 // The least of `bar` and the numbers of a row. What is not a number counts for nothing.
-fn least_of(row: &[f32; 16], bar: f32) -> f32
+fn least_of(row: &[f32; ROW], bar: f32) -> f32
     ensures { LeastSoFar bar row.now row_length result }
 {
     let mut least = bar;
@@ -85,11 +85,7 @@ fn row_at(end: usize, to: usize) -> usize
     requires { row_length ≤ to + 1 }
     ensures { result ≡ min end (to + 1 - row_length) }
 {
-    let last = to - (ROW - 1);
-    if end < last {
-        return end;
-    }
-    last
+    end.min(to - (ROW - 1))
 }
 
 // The row in front of all rows of a range.
@@ -98,12 +94,12 @@ fn front_row(line: &Crumbs, p: Point, ends: Range) -> Front
     requires row_length_bound { ends.from + row_length ≤ ends.to + 1 }
     ensures { InFront line.now p ends row_length (ends.to + 1) result }
 {
-    // A line is counted by a usize, so no sum below leaves one.
+    // That the length fits a usize bounds the sum below.
     let _ = line.len();
     let mut front = Front {
         first: ends.from,
-        least: crate::LARGEST,
-        before: crate::LARGEST,
+        least: f32::MAX,
+        before: f32::MAX,
     };
     let mut end = ends.from;
     while end <= ends.to {
@@ -120,7 +116,7 @@ fn front_segment(line: &Crumbs, p: Point, front: Front) -> Front
     ensures { (ends : Range) → InFront line.now p ends row_length (ends.to + 1) front
         → InFront line.now p ends 1 (ends.to + 1) result }
 {
-    // A line is counted by a usize, so no sum below leaves one.
+    // That the length fits a usize bounds the sum below.
     let _ = line.len();
     let row = squares_from(line, p, front.first);
     let mut before = front.before;

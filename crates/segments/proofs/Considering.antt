@@ -1,7 +1,7 @@
 -- The cases of a segment that is considered. Assumes nothing.
 use Prim.Native.Nat.{ℕ, ◌-◌}
 use mathlib.Core.Path.{◌≡◌, sym, ap, ◌∙◌}
-use mathlib.Core.Bool.{true, false}
+use mathlib.Core.Bool.{Bool, true, false, ◌||◌}
 use mathlib.Core.List.{List}
 use lib.Ieee.{lt}
 use Rattle.plane.specs.declared.Point.{Point}
@@ -24,30 +24,26 @@ module _ (line : List Crumb) (p : Point) (within : Stretch) (by : Ranking) (end 
   stays e = sym (ap (cheaper best (nearest_on line p end)) e)
 
   module _ {a b : Crumb} (A : a ≡ at line (end - 1)) (B : b ≡ at line end) where
-    pub ends-before : lt b.along within.floor ≡ true → best ≡ considered line p cost end best
-    unfolding cost_within
-    ends-before t = let low = rw B at t in stays (rw (low, cost_within))
+    module _ {m : Bool} (M : m ≡ (lt b.along within.floor || lt within.ceiling a.along)) where
+      missed : m ≡ (lt (at line end).along within.floor || lt within.ceiling (at line (end - 1)).along)
+      missed = rw (← A, ← B) M
 
-    module _ (reaches : lt b.along within.floor ≡ false) where
-      pub begins-past : lt within.ceiling a.along ≡ true → best ≡ considered line p cost end best
+      pub lies-out : m ≡ true → best ≡ considered line p cost end best
       unfolding cost_within
-      begins-past t = let low = rw B at reaches in let high = rw A at t in stays (rw (low, high, cost_within))
+      lies-out t = let e = sym missed ∙ t in stays (rw (e, cost_within))
 
-      pub lies-far : lt within.ceiling a.along ≡ false → ((e : ℕ) → cost_of by (meets a b p e) a b ≡ None)
-          → best ≡ considered line p cost end best
-      unfolding considered cost_within nearest_on
-      lies-far t h =
-          let low = rw B at reaches in
-          let high = rw A at t in
-          let c : cost end ≡ cost_of by (nearest_on line p end) (at line (end - 1)) (at line end) = rw (low, high, cost_within) in
-          let o : cost_of by (nearest_on line p end) (at line (end - 1)) (at line end) ≡ None = rw (← A, ← B) (h end) in
-          stays (c ∙ o)
+      module _ (t : m ≡ false) where
+        within-is : cost end ≡ cost_of by (nearest_on line p end) (at line (end - 1)) (at line end)
+        unfolding cost_within
+        within-is = let e = sym missed ∙ t in rw (e, cost_within)
 
-      pub lies_in : {near : Nearest} {own : Option Float} {next : Option (Nearest × Float)} → lt within.ceiling a.along ≡ false
-          → near ≡ meets a b p end → own ≡ cost_of by near a b → next ≡ cheaper best near own → next ≡ considered line p cost end best
-      unfolding considered cost_within nearest_on
-      lies_in {near} {own} {next} t N O e =
-          let low = rw B at reaches in
-          let high = rw A at t in
-          let c : cost end ≡ cost_of by (nearest_on line p end) (at line (end - 1)) (at line end) = rw (low, high, cost_within) in
-          cc
+        pub lies-far : ((e : ℕ) → cost_of by (meets a b p e) a b ≡ None) → best ≡ considered line p cost end best
+        unfolding nearest_on
+        lies-far h =
+            let o : cost_of by (nearest_on line p end) (at line (end - 1)) (at line end) ≡ None = rw (← A, ← B) (h end) in
+            stays (within-is ∙ o)
+
+        pub lies_in : {near : Nearest} {own : Option Float} {next : Option (Nearest × Float)} → near ≡ meets a b p end
+            → own ≡ cost_of by near a b → next ≡ cheaper best near own → next ≡ considered line p cost end best
+        unfolding considered nearest_on
+        lies_in {near} {own} {next} N O e = let c = within-is in cc

@@ -7,16 +7,16 @@ use crate::turns;
 use crumbs::Crumb;
 use plane::Point;
 
-// Where the rider is matched first, a segment further off than this is not searched,
+// Where the rider is matched first, a segment further off than this is not searched.
 pub const SEARCH_M: f32 = 25.0;
 
-// and this is a square whose root is above that.
+// A square whose root is above 25 m.
 pub const FAR: f32 = 626.0;
 
-// A place more than this behind the furthest the rider has been counts there as that much farther off,
+// A place more than this behind the furthest the rider has been counts as that much farther off.
 pub const SLIP_M: f32 = 10.0;
 
-// and one against the rider's way as this much farther.
+// A segment against the rider's way counts as this much farther off.
 pub const AGAINST_M: f32 = 5.0;
 
 // Where a position meets a segment.

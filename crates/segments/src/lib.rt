@@ -6,7 +6,8 @@
 pub mod costs;
 pub mod turns;
 
-ghost use Rattle.std.specs.Prelude.{◌≡◌, ℕ, ◌-◌, ◌≤◌, ◌<◌, length, List, true, false, Option, Float};
+ghost use Rattle.std.specs.Prelude.{◌≡◌, ℕ, ◌-◌, ◌≤◌, ◌<◌, length, List, true, false, ◌||◌, Option, Float};
+ghost use Rattle.std.specs.Float.Ieee.{lt};
 ghost use Rattle.plane.specs.Square.{off_square};
 ghost use Rattle.crumbs.specs.declared.Crumb.{Crumb};
 ghost use Rattle.crumbs.specs.Crumb.{point};
@@ -25,6 +26,15 @@ use plane::{Point, squares};
 pub struct Stretch {
     pub floor: f32,
     pub ceiling: f32,
+}
+
+impl Stretch {
+    // Whether the segment from `a` to `b` ends before the stretch or begins past it.
+    fn misses(self, a: Crumb, b: Crumb) -> bool
+        ensures { result ≡ (lt b.along self.floor || lt self.ceiling a.along) }
+    {
+        b.along < self.floor || a.along > self.ceiling
+    }
 }
 
 // Where `p` meets segment `end` of a line.
@@ -67,13 +77,7 @@ pub fn may_cost(a: Crumb, b: Crumb, p: Point, within: Stretch, by: Ranking) -> b
     ensures { result ≡ false → (line : List Crumb) (end : ℕ) (best : Option (Nearest × Float)) → a ≡ at line (end - 1) → b ≡ at line end
         → best ≡ considered line p (cost_within line p within by) end best }
 {
-    if b.along < within.floor {
-        return false;
-    }
-    if a.along > within.ceiling {
-        return false;
-    }
-    !too_far(by, p, a, b)
+    !within.misses(a, b) && !too_far(by, p, a, b)
 }
 
 // Where `p` meets the segment from `a` to `b`, whose far end is `end`.
@@ -123,10 +127,7 @@ pub fn consider(
     ensures { (line : List Crumb) → a ≡ at line (end - 1) → b ≡ at line end
         → result ≡ considered line p (cost_within line p within by) end best }
 {
-    if b.along < within.floor {
-        return best;
-    }
-    if a.along > within.ceiling {
+    if within.misses(a, b) {
         return best;
     }
     let near = meets(a, b, p, end);

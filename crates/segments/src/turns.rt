@@ -29,14 +29,10 @@ pub fn turned_from(heading: u16, from: Crumb, to: Crumb) -> u16
 pub fn against(heading: Option<u16>, a: Crumb, b: Crumb) -> bool
     ensures { result ≡ against heading a b }
 {
-    let Some(known) = heading else {
-        return false;
-    };
-    let turn = turned_from(known, b, a);
-    if turn < TURN / 4 {
-        return false;
-    }
-    turn <= TURN * 3 / 4
+    heading.is_some_and(|known| {
+        let turn = turned_from(known, b, a);
+        TURN / 4 <= turn && turn <= TURN * 3 / 4
+    })
 }
 
 // Whether the course from `b` to `a` runs the rider's way, within an eighth of a turn.
@@ -44,8 +40,5 @@ pub fn same_way(heading: u16, a: Crumb, b: Crumb) -> bool
     ensures { result ≡ same_way heading a b }
 {
     let turn = turned_from(heading, b, a);
-    if turn < TURN / 8 {
-        return true;
-    }
-    TURN * 7 / 8 < turn
+    turn < TURN / 8 || TURN * 7 / 8 < turn
 }

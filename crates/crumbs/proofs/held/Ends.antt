@@ -1,10 +1,10 @@
 -- The first and the last crumb of a list, and what is measured from them. Assumes nothing.
-use Prim.Native.Nat.{ℕ, suc, ◌-◌, ◌<◌}
+use Prim.Native.Nat.{suc, ◌-◌, ◌<◌}
 use mathlib.Core.Path.{◌≡◌, refl, sym, ap, ◌∙◌}
 use mathlib.Core.List.{List, [], ◌∷◌}
 use native.Mathlib.Omega.{arith}
 use lib.ListN.{length}
-use Rattle.std.specs.Prelude.{Some, None}
+use Rattle.std.proofs.Common.{Option, Some, None, MatchOption, Float}
 use Rattle.binary32.specs.Limits.{plus_zero}
 use Rattle.plane.specs.declared.Point.{Point}
 use Rattle.crumbs.specs.declared.Crumb.{Crumb}
@@ -34,20 +34,17 @@ pub no-last : (l : List Crumb) → length l ≡ 0 → last l ≡ None
 no-last [] h = refl
 no-last (a ∷ l) h = absurd (omega arith)
 
-pub starts-there : (l : List Crumb) (p : Point) {a : Crumb} → first l ≡ Some a → start_of l p ≡ point a
+pub starts-is : (l : List Crumb) (p : Point) {a : Option Crumb} {r : Point} → a ≡ first l → MatchOption a (r ≡ p) (λ c. r ≡ point c)
+    → r ≡ start_of l p
 unfolding start_of
-starts-there [] p {a} e = let z : ◌≡◌ {A = ℕ} 0 1 = cc in absurd (omega arith)
-starts-there (b ∷ l) p {a} e = let f : b ≡ a = cc in ap point f
+starts-is [] p e h = rw e at h
+starts-is (b ∷ l) p e h = rw e at h
 
-pub starts-here : (l : List Crumb) (p : Point) → first l ≡ None → start_of l p ≡ p
-unfolding start_of
-starts-here [] p e = refl
-starts-here (b ∷ l) p e = let z : ◌≡◌ {A = ℕ} 0 1 = cc in absurd (omega arith)
-
-pub recorded-some : (l : List Crumb) (p : Point) {a : Crumb} → last l ≡ Some a → recorded_m l p ≡ along_to a p
+pub recorded-is : (l : List Crumb) (p : Point) {a : Option Crumb} {r : Float} {P : Crumb → Type 0} → a ≡ last l
+    → MatchOption a (r ≡ plus_zero) P → ((c : Crumb) → P c → r ≡ along_to c p) → r ≡ recorded_m l p
 unfolding recorded_m along_behind
-recorded-some l p e = rw e
-
-pub recorded-none : (l : List Crumb) (p : Point) → last l ≡ None → recorded_m l p ≡ plus_zero
-unfolding recorded_m along_behind
-recorded-none l p e = rw e
+recorded-is l p {a} {r} {P} e h f = at-case a h ∙ ap (λ o. along_behind o p) e
+  where
+    at-case : (o : Option Crumb) → MatchOption o (r ≡ plus_zero) P → r ≡ along_behind o p
+    at-case None k = k
+    at-case (Some c) k = f c k

@@ -8,26 +8,18 @@ use Rattle.search.proofs.nearest_on_breadcrumb.Goals as goal
 pub loop-end-init : goal.loop-end-init
 loop-end-init c = rises-start
 
-pub overflow_sub-end : goal.overflow_sub-end
-overflow_sub-end c = omega arith
-
 pub crumb-a-requires : goal.crumb-a-requires
-crumb-a-requires c = omega arith
+crumb-a-requires c = omega (arith, c.loop-end.invariant.from)
 
 pub crumb-b-requires : goal.crumb-b-requires
-crumb-b-requires c = omega arith
-
-pub overflow_add-end : goal.overflow_add-end
-overflow_add-end c = omega arith
-
-pub loop-end-smaller : goal.loop-end-smaller
-loop-end-smaller c = omega arith
+crumb-b-requires c = omega (arith, c.loop-end.invariant.from)
 
 pub loop-end-preserved : goal.loop-end-preserved
 loop-end-preserved c =
-    rises-on c.loop-end.invariant c.loop-end-test.true
+    rises-on c.loop-end.invariant (omega arith)
     (c.consider-best.ensures _ c.crumb-a.ensures c.crumb-b.ensures)
 
 pub returns : goal.returns
 returns c =
-    breadcrumb-is _ _ _ (c.found.ensures ∙ ap found (rises-out c.loop-end.invariant c.loop-end-test.false)) c.anywhere-within.ensures
+    breadcrumb-is _ _ _ (c.found.ensures ∙ ap found (rises-out c.loop-end.invariant (omega (arith, c.loop-end.invariant.from))))
+    c.anywhere-within.ensures
