@@ -38,7 +38,8 @@ fn anywhere() -> Stretch
     }
 }
 
-// The nearest segment of the breadcrumb; on a tie the one nearer home.
+// The nearest segment of the breadcrumb; on a tie the one nearer home. The first segment ends at crumb 1, so each search asks for ends from
+// 1 on: as an invariant of `Range` it would leave half of the clause, which bounds the ends by the line.
 pub fn nearest_on_breadcrumb(line: &Crumbs, p: Point, ends: Range) -> Option<Nearest>
     requires { (1 ≤ ends.from) × (ends.to < length line.now) }
     ensures { result ≡ nearest_on_breadcrumb line.now p ends }
@@ -146,19 +147,20 @@ fn point_along(a: Crumb, b: Crumb, along: f32) -> Point
     }
 }
 
-// A line `along` metres from its first crumb, at or before segment `end`. The place where the loop stops is what is read, so it counts.
+// The place `along` metres from the first crumb of a line, at or before segment `end`.
 pub fn at_along(line: &Crumbs, end: usize, along: f32) -> Point
     requires { (1 ≤ end) × (end < length line.now) }
     ensures { result ≡ at_along line.now end along }
 {
     let mut i = end - 1;
+    // By `while`: `find` needs the test the other way round, with a `!` since a NaN stops here, and `unwrap_or(0)` behind it.
     while i > 0 && line.crumb(i).along > along {
         i -= 1;
     }
     point_along(line.crumb(i), line.crumb(i + 1), along)
 }
 
-// How many leading crumbs of the breadcrumb lie at most `limit` metres along. The count itself is asked for.
+// How many leading crumbs of the breadcrumb lie at most `limit` metres along.
 pub fn ends(line: &Crumbs, limit: f32) -> usize
     ensures { result ≡ ends line.now limit }
 {

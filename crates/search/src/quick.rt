@@ -15,8 +15,8 @@ use plane::Point;
 use segments::Stretch;
 use segments::costs::{Nearest, Ranking};
 
-// The segment with the least square so far, 0 where there is none, that square, and the least of those tried before it. No segment is
-// named 0, and an Option would hold all three only where the loop over squares asks for one of them.
+// The segment with the least square so far, that square, and the least of those tried before it. No segment is named 0, so `best` is that
+// where there is none: an `Option` beside `before`, which is there from the start, would be looked into at each segment, and is no plainer.
 #[derive(Clone, Copy)]
 struct Lead {
     best: usize,
@@ -31,7 +31,7 @@ struct Passed {
     end: usize,
 }
 
-// Whether the segment from `a` to `b` reaches into the stretch.
+// Whether the segment from `a` to `b` reaches into the stretch. By `|`, unlike the same test in `segments`: a row takes no branch.
 pub fn reaches(a: Crumb, b: Crumb, within: Stretch) -> bool
     ensures { (line : List Crumb) (end : ℕ) → a ≡ at line (end - 1) → b ≡ at line end → result ≡ reaches line within end }
 {
@@ -76,24 +76,22 @@ pub fn nearest_on_breadcrumb(line: &Crumbs, p: Point, ends: Range) -> Option<Nea
     ensures { result ≡ nearest_on_breadcrumb line.now p ends }
 {
     let within = crate::anywhere();
-    // A line is counted by a usize, so no sum below leaves one.
+    // That the length fits a usize bounds the sum below.
     let _ = line.len();
     let mut lead = Lead {
         best: 0,
         least: 0.0,
         before: f32::MAX,
     };
-    let mut end = ends.from;
-    // By `while`: a `for` over an inclusive range leaves from two places, and the last step is proved twice.
-    while end <= ends.to {
+    for end in ends.from..ends.to + 1 {
         let a = line.crumb(end - 1);
         let b = line.crumb(end);
         lead = consider(a, b, p, within, end, lead);
-        end += 1;
     }
     if lead.best == 0 {
         return None;
     }
+    // These tests stand again in `plainly_within`: since the roots may not decide, one function would answer an `Option` of an `Option`.
     if binary32::sqrtf(lead.least) < binary32::sqrtf(lead.before) {
         let near = segments::nearest_on(line, p, lead.best);
         return Some(near);
@@ -166,14 +164,13 @@ fn plainly_within(line: &Crumbs, p: Point, ends: Range, within: Stretch) -> Opti
         before: f32::MAX,
     };
     let passed = over_rows(line, p, within, ends, none);
+    // That the length fits a usize bounds the sum below.
+    let _ = line.len();
     let mut lead = passed.lead;
-    let mut end = passed.end;
-    // By `while`: a `for` over an inclusive range leaves from two places, and the last step is proved twice.
-    while ends.from <= end {
+    for end in (ends.from..passed.end + 1).rev() {
         let a = line.crumb(end - 1);
         let b = line.crumb(end);
         lead = consider(a, b, p, within, end, lead);
-        end -= 1;
     }
     if lead.best == 0 {
         return None;

@@ -30,13 +30,14 @@ fn squares_from(line: &Crumbs, p: Point, first: usize) -> [f32; ROW]
     // That the length fits a usize bounds the sum below.
     let _ = line.len();
     let mut row = [0.0; ROW];
+    // By `k`, here and in `least_of`: a loop over a row is measured in this form, and no branch may come into it.
     for k in 0..ROW {
         row[k] = segments::square_on(line, p, first + k);
     }
     row
 }
 
-// `x` where it is less than `bar`, else that.
+// `x` where it is less than `bar`, else that. `f32::min` leaves open which of two zeros it gives.
 fn lesser(x: f32, bar: f32) -> f32
     ensures { result ≡ lesser x bar }
 {
@@ -102,6 +103,7 @@ fn front_row(line: &Crumbs, p: Point, ends: Range) -> Front
         before: f32::MAX,
     };
     let mut end = ends.from;
+    // By `while`: the last row begins before `end`, so that no fixed step leads from row to row.
     while end <= ends.to {
         let first = row_at(end, ends.to);
         front = pass_row(line, p, first, front);
@@ -121,6 +123,7 @@ fn front_segment(line: &Crumbs, p: Point, front: Front) -> Front
     let row = squares_from(line, p, front.first);
     let mut before = front.before;
     let mut k = 0;
+    // By `while`: `position` would find `k`, and a second loop up to it would be needed for `before`.
     while k < ROW - 1 && !(row[k] <= front.least) {
         before = lesser(row[k], before);
         k += 1;

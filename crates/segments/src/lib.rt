@@ -114,7 +114,8 @@ pub fn cheaper(
     best
 }
 
-// The best so far, or the segment from `a` to `b`, whose far end is `end`, where it reaches into the stretch and costs less.
+// The best so far, or the segment from `a` to `b`, whose far end is `end`, where it reaches into the stretch and costs less. Here and above
+// two crumbs go by value without their line, for what is promised holds on every line that has them there.
 pub fn consider(
     a: Crumb,
     b: Crumb,
