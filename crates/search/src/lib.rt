@@ -165,6 +165,7 @@ pub fn ends(line: &Crumbs, limit: f32) -> usize
     ensures { result ≡ ends line.now limit }
 {
     let mut n = 0;
+    // By `while`: as `take_while(..).count()` over the places it was tried, and the proof did not close.
     while n < line.len() && line.crumb(n).along <= limit {
         n += 1;
     }

@@ -24,6 +24,13 @@ struct Lead {
     before: f32,
 }
 
+// The lead before any segment is tried.
+const NO_LEAD: Lead = Lead {
+    best: 0,
+    least: 0.0,
+    before: f32::MAX,
+};
+
 // The lead behind the segments of a range above `end`.
 #[derive(Clone, Copy)]
 struct Passed {
@@ -78,11 +85,7 @@ pub fn nearest_on_breadcrumb(line: &Crumbs, p: Point, ends: Range) -> Option<Nea
     let within = crate::anywhere();
     // That the length fits a usize bounds the sum below.
     let _ = line.len();
-    let mut lead = Lead {
-        best: 0,
-        least: 0.0,
-        before: f32::MAX,
-    };
+    let mut lead = NO_LEAD;
     for end in ends.from..ends.to + 1 {
         let a = line.crumb(end - 1);
         let b = line.crumb(end);
@@ -158,12 +161,7 @@ fn plainly_within(line: &Crumbs, p: Point, ends: Range, within: Stretch) -> Opti
     requires { (1 ≤ ends.from) × (ends.to < length line.now) }
     ensures { result ≡ nearest_within line.now p ends within Plain }
 {
-    let none = Lead {
-        best: 0,
-        least: 0.0,
-        before: f32::MAX,
-    };
-    let passed = over_rows(line, p, within, ends, none);
+    let passed = over_rows(line, p, within, ends, NO_LEAD);
     // That the length fits a usize bounds the sum below.
     let _ = line.len();
     let mut lead = passed.lead;
