@@ -44,7 +44,7 @@ fn no_origin(f: Frame) -> bool
     f.origin.is_none()
 }
 
-// How many points a course has: those with both a latitude and a longitude.
+// How many points a course has: those with both a latitude and a longitude. The C interface lends two slices.
 pub fn count(lats: &[i32], lons: &[i32]) -> usize
     ensures { result ≡ length (fixes lats.now lons.now) }
 {
@@ -55,10 +55,7 @@ pub fn count(lats: &[i32], lons: &[i32]) -> usize
 pub fn waits(f: Frame, lats: &[i32], lons: &[i32]) -> bool
     ensures { result ≡ waits f (fixes lats.now lons.now) }
 {
-    if count(lats, lons) < FEWEST {
-        return false;
-    }
-    no_origin(f)
+    count(lats, lons) >= FEWEST && no_origin(f)
 }
 
 // Place the points last first, each behind the one before it, and say how many they are.

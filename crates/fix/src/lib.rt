@@ -150,7 +150,7 @@ pub fn end_replay(h: Homing) -> Homing
     let motion = Motion {
         from: None,
         heading: None,
-        heading_ms: h.motion.heading_ms,
+        ..h.motion
     };
     let mut next = h;
     next.motion = motion;

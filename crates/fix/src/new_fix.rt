@@ -13,6 +13,7 @@ use plane::Point;
 use state::{Guided, Line};
 use update::Updated;
 
+// What a fix is handed stays apart: each callee takes another part of it, and borrows the window and the crumbs anew.
 // Whether the fix runs back over the breadcrumb, where following may begin by itself.
 fn may_retrace(
     h: Guided,

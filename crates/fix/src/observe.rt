@@ -53,6 +53,7 @@ fn still_at(
     update::update(on, crumbs, line, p, now_ms)
 }
 
+// `Ready` is said of the state and two buffers that the C interface lends for a call.
 // The fix is the new place, seen now, in the frame that the ride's first fix gave, and the heading goes by it.
 fn new_fix(
     h: Guided,

@@ -20,10 +20,9 @@ fn left(f: Follow) -> Follow
             segment: 0,
             matched: None,
             off: false,
-            reminded_ms: f.reminded_ms,
+            ..f
         },
-        Line::Nothing => f,
-        Line::Course => f,
+        Line::Nothing | Line::Course => f,
     }
 }
 
@@ -42,10 +41,9 @@ pub fn stopped(f: Follow, matched: Option<Point>) -> Follow
 {
     Follow {
         line: Line::Nothing,
-        segment: f.segment,
         matched,
         off: false,
-        reminded_ms: f.reminded_ms,
+        ..f
     }
 }
 

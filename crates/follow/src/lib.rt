@@ -23,7 +23,7 @@ pub struct Answered {
     pub yes: bool,
 }
 
-// The state without its window, and a yes or no beside it.
+// The state without its window, and a yes or no beside it. Not one type with `Answered`: the promises name each state.
 #[derive(Clone, Copy)]
 pub struct Decided {
     pub guided: Guided,
@@ -32,6 +32,7 @@ pub struct Decided {
 
 // ---- the breadcrumb
 
+// Three bodies: each hands the trail other things, and a closure for that one line would be no shorter.
 pub fn keep(h: Guided, crumbs: &mut [f32], p: Point) -> Guided
     requires { trail.TrailFit h.trail (length crumbs.old) }
     ensures { (w : List Float) → Follows (λ C. keep_in C p) (whole h w) crumbs.old (whole result w) crumbs.new }
@@ -66,7 +67,7 @@ pub fn flush(h: Guided, window: &[f32; 96], crumbs: &mut [f32]) -> Guided
 
 // ---- following begins
 
-// Follow a line from its segment `end`.
+// Follow a line from its segment `end`. The line is lent by the C interface for a call, so its length is said to fit it here.
 pub fn engage_at(h: Guided, line: &[f32], on: Line, end: usize, now_ms: u64) -> Guided
     requires { h.course.line_len ≤ capacity (length line.now) }
     ensures { (w : List Float)

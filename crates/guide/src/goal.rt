@@ -74,7 +74,7 @@ fn lies_near(line: &Crumbs, p: Point, end: usize) -> bool
     false
 }
 
-// Whether some segment of the course does.
+// Whether some segment of the course lies within `distances::DROP_M`.
 fn some_near(line: &Crumbs, p: Point) -> bool
     ensures { result ≡ some_near line.now p (length line.now - 1) }
 {
@@ -86,7 +86,7 @@ fn some_near(line: &Crumbs, p: Point) -> bool
     false
 }
 
-// Whether the course's nearest segment does: some segment, and the first tried is no NaN away.
+// Whether the course's nearest segment lies within `distances::DROP_M`: some segment does, and the first tried is no NaN away.
 fn found_near(line: &Crumbs, p: Point) -> bool
     ensures { result ≡ found_any (course_near line.now p drop_m) }
 {
@@ -95,7 +95,7 @@ fn found_near(line: &Crumbs, p: Point) -> bool
         return false;
     }
     let first = segments::square_on(line, p, len - 1);
-    if first == first {
+    if !first.is_nan() {
         return some_near(line, p);
     }
     false
@@ -107,7 +107,6 @@ pub fn near_course(on: Line, line: &Crumbs, p: Point) -> bool
 {
     match on {
         Line::Nothing => found_near(line, p),
-        Line::Breadcrumb => false,
-        Line::Course => false,
+        Line::Breadcrumb | Line::Course => false,
     }
 }

@@ -18,7 +18,7 @@ pub const ARRIVE_M: f32 = 30.0;
 
 const LEAVE_M: f32 = 80.0;
 
-// A state, and what the fix changed.
+// A state, and what the fix changed. `update::Updated` has the state without its window: the promises of each name its own state.
 #[derive(Clone, Copy)]
 pub struct Told {
     pub homing: Homing,

@@ -21,6 +21,7 @@ pub struct Joined {
     pub yes: bool,
 }
 
+// Not one type with `Joined`: the promises of each name its own group of the state.
 // The breadcrumb's counts after a fix, and whether enough fixes in a row ran back along it.
 #[derive(Clone, Copy)]
 pub struct Retraced {
@@ -58,13 +59,7 @@ fn join_on(c: Course, join: Option<usize>) -> Joined
 fn may_join(auto_follow: bool, c: Course) -> bool
     ensures { result ≡ auto_follow && not c.held && leb 2 c.line_len }
 {
-    if auto_follow {
-        if c.held {
-            return false;
-        }
-        return 2 <= c.line_len;
-    }
-    false
+    auto_follow && !c.held && 2 <= c.line_len
 }
 
 fn join_with(
@@ -78,9 +73,7 @@ fn join_with(
     ensures { (s : State) → result ≡ join_with heading (held c.line_len line.now) p
         (with_course c (with_auto_follow auto_follow s)) }
 {
-    let Some(known) = heading else {
-        return None;
-    };
+    let known = heading?;
     if may_join(auto_follow, c) {
         return search::joined(&Crumbs::new(line, c.line_len), p, known);
     }

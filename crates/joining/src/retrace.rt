@@ -22,10 +22,7 @@ fn backwards(heading: u16, a: Crumb, b: Crumb) -> bool
     ensures { result ≡ backwards heading a b }
 {
     let turn = turns::turned_from(heading, a, b);
-    if plane::TURN * 3 / 8 < turn {
-        return turn < plane::TURN * 5 / 8;
-    }
-    false
+    plane::TURN * 3 / 8 < turn && turn < plane::TURN * 5 / 8
 }
 
 // The breadcrumb's nearest segment to p among those up to the crumb `n`.

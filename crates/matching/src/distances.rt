@@ -1,9 +1,9 @@
 // How far from the line that is followed a rider is off it, is on it again and leaves it, and how far ahead on it they are led.
 
-// Off the line beyond this,
+// A rider further from the line than this is off it.
 pub const OFF_M: f32 = 50.0;
 
-// and back on it within this.
+// A rider this near the line, or nearer, is on it again.
 pub const ON_M: f32 = 25.0;
 
 // Following steers to the line this far ahead.

@@ -50,7 +50,7 @@ pub fn off_now(was: bool, off: f32) -> bool
     off > distances::OFF_M
 }
 
-// The smaller of two; of a number and a NaN the number.
+// The smaller of two, and the first of equals; of a number and a NaN the number. `f32::min` leaves open which of two equal zeros it gives.
 fn smaller(a: f32, b: f32) -> f32
     ensures { result ≡ minimum a b }
 {
@@ -118,11 +118,11 @@ pub fn follow_matched(near: Nearest, off: bool, e: Event, now_ms: u64, f: Follow
 {
     let reminded_ms = reminded_at(e, now_ms, f.reminded_ms);
     Follow {
-        line: f.line,
         segment: near.end,
         matched: Some(near.point),
         off,
         reminded_ms,
+        ..f
     }
 }
 
@@ -141,10 +141,7 @@ pub fn course_matched(near: Nearest, p: Point, c: Course) -> Course
 pub fn search_from(segment: usize) -> usize
     ensures { result ≡ max (segment - search_back) 1 }
 {
-    if segment > SEARCH_BACK {
-        return segment - SEARCH_BACK;
-    }
-    1
+    segment.saturating_sub(SEARCH_BACK).max(1)
 }
 
 // The highest of those ahead.
@@ -152,31 +149,20 @@ pub fn search_to(segment: usize, len: usize) -> usize
     requires { segment < len }
     ensures { result ≡ min (segment + search_ahead) (len - 1) }
 {
-    if len - segment > SEARCH_AHEAD {
-        return segment + SEARCH_AHEAD;
-    }
-    len - 1
+    segment.saturating_add(SEARCH_AHEAD).min(len - 1)
 }
 
 // A match elsewhere on the line, if it is nearer.
 pub fn nearer(near: Nearest, best: Option<Nearest>) -> Nearest
     ensures { result ≡ nearer near best }
 {
-    let Some(anywhere) = best else {
-        return near;
-    };
-    if anywhere.off < near.off {
-        return anywhere;
-    }
-    near
+    best.filter(|anywhere| anywhere.off < near.off)
+        .unwrap_or(near)
 }
 
 // Off the line, or about to be.
 pub fn lost(was: bool, off: f32) -> bool
     ensures { result ≡ (was || lt off_m off) }
 {
-    if was {
-        return true;
-    }
-    distances::OFF_M < off
+    was || distances::OFF_M < off
 }

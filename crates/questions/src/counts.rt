@@ -97,6 +97,7 @@ pub fn retrace_fits(t: Trail) -> bool
 
 // ---- 10, then 4
 
+// Two answers of the rules, each yes or no, told in this order. An enum for the two would have to be made of both at each call.
 pub fn ten_then_four(ten: bool, four: bool) -> Result<(), Refusal>
     ensures { asked result ≡ (unless ten 10 or_else unless four 4) }
 {

@@ -52,8 +52,7 @@ fn follow_from(
             let best = way_home::near_here(h, line);
             follow_best(best, h, window, crumbs, line, now_ms)
         }
-        Line::Breadcrumb => way_home::brought(h, crumbs, line, now_ms),
-        Line::Course => way_home::brought(h, crumbs, line, now_ms),
+        Line::Breadcrumb | Line::Course => way_home::brought(h, crumbs, line, now_ms),
     }
 }
 

@@ -12,6 +12,7 @@ ghost use Rattle.course.specs.Course.{fixes};
 ghost use Rattle.calls.specs.Line.{no_lap, lined, awaiting, off_course};
 ghost use Rattle.steer.specs.View.{MadeNew, Resets, SetsLine};
 
+use follow::follow_parts;
 use lap::{Lap, Stage, StartPass};
 use motion::Motion;
 use plane::{Fix, Point};
@@ -34,6 +35,31 @@ fn no_lap() -> Lap
     }
 }
 
+const UNMOVED: Motion = Motion {
+    from: None,
+    heading: None,
+    heading_ms: 0,
+};
+
+const UNFOLLOWED: Follow = Follow {
+    line: Line::Nothing,
+    segment: 0,
+    matched: None,
+    off: false,
+    reminded_ms: 0,
+};
+
+const NO_COURSE: Course = Course {
+    line_len: 0,
+    unplaced: false,
+    held: false,
+    join_fixes: 0,
+    join_end: 0,
+    along: 0.0,
+    reached: 0.0,
+    fix: None,
+};
+
 // A guide that has recorded nothing, follows nothing and knows of no course.
 pub fn new() -> Homing
     ensures { MadeNew result }
@@ -42,28 +68,6 @@ pub fn new() -> Homing
     let frame = Frame {
         origin: None,
         east_per_e7: plane::M_PER_E7,
-    };
-    let motion = Motion {
-        from: None,
-        heading: None,
-        heading_ms: 0,
-    };
-    let follow = Follow {
-        line: Line::Nothing,
-        segment: 0,
-        matched: None,
-        off: false,
-        reminded_ms: 0,
-    };
-    let course = Course {
-        line_len: 0,
-        unplaced: false,
-        held: false,
-        join_fixes: 0,
-        join_end: 0,
-        along: 0.0,
-        reached: 0.0,
-        fix: None,
     };
     let lap = no_lap();
     let window = [0.0; 96];
@@ -74,9 +78,9 @@ pub fn new() -> Homing
         fed: None,
         here: None,
         here_ms: 0,
-        motion,
-        follow,
-        course,
+        motion: UNMOVED,
+        follow: UNFOLLOWED,
+        course: NO_COURSE,
         auto_follow: true,
         arrived: false,
         lap,
@@ -118,16 +122,12 @@ pub fn reset(h: Homing) -> Homing
         ..h.frame
     };
     let motion = Motion {
-        from: None,
-        heading: None,
-        ..h.motion
+        heading_ms: h.motion.heading_ms,
+        ..UNMOVED
     };
     let follow = Follow {
-        line: Line::Nothing,
-        segment: 0,
-        matched: None,
-        off: false,
-        ..h.follow
+        reminded_ms: h.follow.reminded_ms,
+        ..UNFOLLOWED
     };
     let course = awaiting(h.course);
     let lap = no_lap();
@@ -152,22 +152,14 @@ pub fn reset(h: Homing) -> Homing
 fn off_course(h: Homing) -> Homing
     ensures { Changes (off_course h.follow.line) h result }
 {
-    let f = h.follow;
-    match f.line {
+    match h.follow.line {
         Line::Course => {
-            let follow = Follow {
-                line: Line::Nothing,
-                matched: None,
-                off: false,
-                ..f
-            };
             let mut off = h;
-            off.follow = follow;
-            off.course.held = true;
+            off.follow = follow_parts::stopped(h.follow, None);
+            off.course = follow_parts::held_off(h.course);
             off
         }
-        Line::Nothing => h,
-        Line::Breadcrumb => h,
+        Line::Nothing | Line::Breadcrumb => h,
     }
 }
 

@@ -35,18 +35,16 @@ pub fn brought(h: Guided, crumbs: &mut [f32], line: &[f32], now_ms: u64) -> Deci
 }
 
 // A following that began is shown; where none did the answer is no.
-fn engaged_or(engaged: bool, h: Guided, crumbs: &mut [f32], line: &[f32], now_ms: u64) -> Decided
-    requires { GuidedFit h (length crumbs.old) (length line.now) }
-    ensures { (w : List Float) → Decides (λ C. engaged_or engaged C (course_of (whole h w) line.now) now_ms) (whole h w)
+fn engaged_or(e: Decided, crumbs: &mut [f32], line: &[f32], now_ms: u64) -> Decided
+    requires { GuidedFit e.guided (length crumbs.old) (length line.now) }
+    ensures { (w : List Float)
+        → Decides (λ C. engaged_or e.yes C (course_of (whole e.guided w) line.now) now_ms) (whole e.guided w)
         crumbs.old (decided_in result w) crumbs.new }
 {
-    if engaged {
-        return brought(h, crumbs, line, now_ms);
+    if e.yes {
+        return brought(e.guided, crumbs, line, now_ms);
     }
-    Decided {
-        guided: h,
-        yes: false,
-    }
+    e
 }
 
 // Follow the breadcrumb back: it ends where the rider turns round.
@@ -64,7 +62,7 @@ pub fn way_home(
 {
     let flushed = follow::flush(h, window, crumbs);
     let engaged = follow::engage(flushed, crumbs, line, now_ms);
-    engaged_or(engaged.yes, engaged.guided, crumbs, line, now_ms)
+    engaged_or(engaged, crumbs, line, now_ms)
 }
 
 // The course's nearest segment while the course is near.
@@ -72,9 +70,7 @@ pub fn near_here(h: Guided, line: &[f32]) -> Option<Nearest>
     requires { h.course.line_len ≤ capacity (length line.now) }
     ensures { (w : List Float) → result ≡ near_here h.here (course_of (whole h w) line.now) }
 {
-    let Some(p) = h.here else {
-        return None;
-    };
+    let p = h.here?;
     let course = Crumbs::new(line, h.course.line_len);
     search::course_near(&course, p, distances::DROP_M)
 }

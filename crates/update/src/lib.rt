@@ -24,7 +24,7 @@ use state::{Course, Event, Guide, Guided, Line};
 // A rider this near the course comes to its end there.
 const COURSE_END_M: f32 = 25.0;
 
-// The state after a fix without its window, and what the fix changed.
+// The state after a fix without its window, and what the fix changed. `guide::Told` has the whole state: the promises name each.
 #[derive(Clone, Copy)]
 pub struct Updated {
     pub guided: Guided,
@@ -50,12 +50,7 @@ enum Outcome {
 fn at_course_end(on: Line, near: Nearest) -> bool
     ensures { (s : State) → s.follow.line ≡ on → result ≡ at_course_end s near }
 {
-    if matching::on_course(on) {
-        if near.off <= COURSE_END_M {
-            return near.along < guide::ARRIVE_M;
-        }
-    }
-    false
+    matching::on_course(on) && near.off <= COURSE_END_M && near.along < guide::ARRIVE_M
 }
 
 // Dropped, at the course's end, or matched.
@@ -90,10 +85,7 @@ fn follow_on(f: &Followed, p: Point) -> Outcome
 fn leads_on(on: Line, line: &Crumbs) -> bool
     ensures { result ≡ (on_line on && leb 2 (length line.now)) }
 {
-    if matching::on_line(on) {
-        return 2 <= line.len();
-    }
-    false
+    matching::on_line(on) && 2 <= line.len()
 }
 
 // What becomes of a following at a fix at p.
@@ -159,7 +151,7 @@ fn shown(h: Guided, course: Course, p: Point, now_ms: u64, d: Display) -> Update
     }
 }
 
-// Following ends, and the guide is made anew without it.
+// Following ends, and the guide is made anew without it. That the state fits is said of two buffers that the C interface lends for a call.
 fn ended_with(
     e: Event,
     h: Guided,

@@ -5,10 +5,9 @@ use mathlib.Core.Path.{◌≡◌, refl, sym, ap, ◌∙◌, subst}
 use mathlib.Core.Bool.{Bool, true, false, ◌&&◌, ◌||◌, cond, true≢false}
 use mathlib.Core.List.{List}
 use native.Mathlib.Omega.{arith}
-use borrow.Author.Tests.{eq-eqb}
 use lib.Dec.{T}
 use lib.ListN.{length}
-use lib.Ieee.{Float, nan, inf, fin, binary32, of_bits, up, down, lt, le, eq}
+use lib.Ieee.{Float, nan, inf, fin, binary32, of_bits, up, down, lt, le, eq, is_nan}
 use lib.Ieee.Bits.{of_bits-fits}
 use Rattle.binary32.specs.Arithmetic.{constant}
 use Rattle.binary32.specs.Root.{root}
@@ -30,17 +29,15 @@ use Rattle.guide.specs.Goal.{found_any}
 use Rattle.guide.specs.Near.{lies_near, some_near}
 
 -- ---- NaNs
-no_number : (x : Float) → eq x x ≡ false → x ≡ nan
-unfolding eq
+no_number : (x : Float) → is_nan x ≡ true → x ≡ nan
+unfolding is_nan
 no_number nan h = refl
-no_number (inf true) h = absurd (true≢false h)
-no_number (inf false) h = absurd (true≢false h)
-no_number (fin true m e) h = let n = m * up e * down e in absurd (true≢false (sym (ap (λ (b : Bool). b && true) (eq-eqb n n refl)) ∙ h))
-no_number (fin false m e) h = let n = m * up e * down e in absurd (true≢false (sym (ap (λ (b : Bool). b && true) (eq-eqb n n refl)) ∙ h))
+no_number (inf s) h = absurd (true≢false (sym h))
+no_number (fin s m e) h = absurd (true≢false (sym h))
 
-number : (x : Float) → eq x x ≡ true → T (real x)
-unfolding eq
-number nan h = absurd (true≢false (sym h))
+number : (x : Float) → is_nan x ≡ false → T (real x)
+unfolding is_nan
+number nan h = absurd (true≢false h)
 number (inf s) h = tt
 number (fin s m e) h = tt
 
@@ -140,14 +137,14 @@ module _ (line : List Crumb) (p : Point) where
   begins : (k : ℕ) → shown (falling rule (suc k) (suc k) None) ≡ shown (falling rule k k (Some ((near (suc k)), (near (suc k)).off)))
   begins k = one_on k None ∙ ap (λ (b : Option (Nearest × Float)). shown (falling rule k k b)) (first k)
 
-  whole-lost : (k : ℕ) → eq (square_on line p (suc k)) (square_on line p (suc k)) ≡ false
+  whole-lost : (k : ℕ) → is_nan (square_on line p (suc k)) ≡ true
       → shown (falling rule (suc k) (suc k) None) ≡ false
   unfolding root
   whole-lost k h =
       let e : (near (suc k)).off ≡ nan = on-is line p (suc k) ∙ ap (root binary32) (no_number (square_on line p (suc k)) h) in
       begins k ∙ ap (λ (c : Float). shown (falling rule k k (Some ((near (suc k)), c)))) e ∙ stays-lost k (near (suc k)) e
 
-  whole : (k : ℕ) → eq (square_on line p (suc k)) (square_on line p (suc k)) ≡ true
+  whole : (k : ℕ) → is_nan (square_on line p (suc k)) ≡ false
       → shown (falling rule (suc k) (suc k) None) ≡ some_near line p (suc k)
   unfolding some_near lies_near
   whole k h = begins k ∙ go (le (near (suc k)).off drop_m) refl
@@ -173,21 +170,21 @@ module _ (line : List Crumb) (p : Point) where
     unfolding falling found closer found_any
     near_none h = let e : length line - 1 ≡ 0 = omega arith in sym (any-is ∙ ap (λ (n : ℕ). shown (falling rule n n None)) e)
 
-    pub near-lost : {s : Float} → 2 ≤ len → s ≡ square_on line p (len - 1) → eq s s ≡ false → false ≡ any
+    pub near-lost : {s : Float} → 2 ≤ len → s ≡ square_on line p (len - 1) → is_nan s ≡ true → false ≡ any
     near-lost {s} more S h =
         let e : length line - 1 ≡ suc (len - 2) = omega arith in
         let d : len - 1 ≡ suc (len - 2) = omega arith in
         let g = S ∙ ap (square_on line p) d in
-        sym (any-is ∙ ap (λ (n : ℕ). shown (falling rule n n None)) e ∙ whole-lost (len - 2) (subst (λ (z : Float). eq z z ≡ false) g h))
+        sym (any-is ∙ ap (λ (n : ℕ). shown (falling rule n n None)) e ∙ whole-lost (len - 2) (subst (λ (z : Float). is_nan z ≡ true) g h))
 
-    pub near-some : {s : Float} {r : Bool} → 2 ≤ len → s ≡ square_on line p (len - 1) → eq s s ≡ true → r ≡ some_near line p (len - 1)
+    pub near-some : {s : Float} {r : Bool} → 2 ≤ len → s ≡ square_on line p (len - 1) → is_nan s ≡ false → r ≡ some_near line p (len - 1)
         → r ≡ any
     near-some {s} {r} more S h R =
         let e : length line - 1 ≡ suc (len - 2) = omega arith in
         let d : len - 1 ≡ suc (len - 2) = omega arith in
         let g = S ∙ ap (square_on line p) d in
         R ∙ ap (some_near line p) d
-        ∙ sym (any-is ∙ ap (λ (n : ℕ). shown (falling rule n n None)) e ∙ whole (len - 2) (subst (λ (z : Float). eq z z ≡ true) g h))
+        ∙ sym (any-is ∙ ap (λ (n : ℕ). shown (falling rule n n None)) e ∙ whole (len - 2) (subst (λ (z : Float). is_nan z ≡ false) g h))
 
   -- ---- the loop
   module _ (end : ℕ) {b : Bool} (B : b ≡ lies_near line p end) (more : 0 < end) where

@@ -4,10 +4,6 @@ use Rattle.binary32.specs.Arithmetic.{constant}
 use Rattle.matching.specs.Distances.{off_m}
 use Rattle.matching.proofs.lost.Goals as goal
 
-pub returns-then-was : goal.returns-then-was
+pub returns-else-was : goal.returns-else-was
 unfolding off_m constant of_bits
-returns-then-was c = simp c.if-was.true
-
-pub returns : goal.returns
-unfolding off_m constant of_bits
-returns c = simp c.if-was.false
+returns-else-was c = simp c.if-was.false

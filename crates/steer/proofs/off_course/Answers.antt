@@ -1,4 +1,5 @@
 -- `steer::off_course` meets its contract.
+use mathlib.Core.Logic.{inl, inr}
 use mathlib.Core.Path.{refl}
 use Rattle.state.specs.declared.Line.TheVariants as line
 use Rattle.follow.specs.Parts.{stopped, held_off}
@@ -9,12 +10,12 @@ use Rattle.steer.proofs.off_course.Goals as goal
 
 pub returns-in-Course : goal.returns-in-Course
 unfolding off_course stop_course stopped held_off
-returns-in-Course c = off-by line.Course c.args.h _ c.in-Course.is (λ b. refl) refl
+returns-in-Course c = off-by line.Course c.args.h _ c.in-Course.is (λ b. simp (c.stopped-off.ensures, c.held_off-off.ensures)) refl
 
 pub returns-in-Nothing : goal.returns-in-Nothing
 unfolding off_course
-returns-in-Nothing c = off-by line.Nothing c.args.h _ c.in-Nothing.is (λ b. refl) refl
-
-pub returns-in-Breadcrumb : goal.returns-in-Breadcrumb
-unfolding off_course
-returns-in-Breadcrumb c = off-by line.Breadcrumb c.args.h _ c.in-Breadcrumb.is (λ b. refl) refl
+returns-in-Nothing c =
+    elim c.in-Nothing.is [
+      | inl e ↦ off-by line.Nothing c.args.h _ e (λ b. refl) refl
+      | inr e ↦ off-by line.Breadcrumb c.args.h _ e (λ b. refl) refl
+    ]

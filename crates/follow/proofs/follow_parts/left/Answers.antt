@@ -1,4 +1,5 @@
 -- `follow::follow_parts::left` meets its contract.
+use mathlib.Core.Logic.{inl, inr}
 use mathlib.Core.Path.{sym, ap}
 use Rattle.state.specs.declared.Line.{Line}
 use Rattle.follow.specs.Parts.{ended_by_thinning}
@@ -10,8 +11,4 @@ returns-in-Breadcrumb c = sym (ap (λ (l : Line). ended_by_thinning l c.args.f) 
 
 pub returns-in-Nothing : goal.returns-in-Nothing
 unfolding ended_by_thinning
-returns-in-Nothing c = sym (ap (λ (l : Line). ended_by_thinning l c.args.f) c.in-Nothing.is)
-
-pub returns-in-Course : goal.returns-in-Course
-unfolding ended_by_thinning
-returns-in-Course c = sym (ap (λ (l : Line). ended_by_thinning l c.args.f) c.in-Course.is)
+returns-in-Nothing c = elim c.in-Nothing.is [ inl e ↦ rw e | inr e ↦ rw e ]

@@ -9,10 +9,11 @@ use Rattle.guide.proofs.goal.found_near.Goals as goal
 pub returns-then-len-lt2 : goal.returns-then-len-lt2
 returns-then-len-lt2 c = near_none _ _ (sym c.len-len.ensures) (omega arith)
 
-pub returns-then-first : goal.returns-then-first
-returns-then-first c =
-    near-some _ _ (sym c.len-len.ensures) (omega arith) c.square_on-first.ensures c.if-first.true
+pub returns-then-not-is_nan : goal.returns-then-not-is_nan
+returns-then-not-is_nan c =
+    near-some _ _ (sym c.len-len.ensures) (omega arith) c.square_on-first.ensures (sym c.is_nan.ensures.value ∙ c.if-not-is_nan.true)
     (c.some_near.ensures ∙ ap (λ n. some_near c.args.line.now c.args.p (n - 1)) (sym c.len-len.ensures))
 
 pub returns : goal.returns
-returns c = near-lost _ _ (sym c.len-len.ensures) (omega arith) c.square_on-first.ensures c.if-first.false
+returns c =
+    near-lost _ _ (sym c.len-len.ensures) (omega arith) c.square_on-first.ensures (sym c.is_nan.ensures.value ∙ c.if-not-is_nan.false)

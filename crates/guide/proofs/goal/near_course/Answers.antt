@@ -1,4 +1,5 @@
 -- `guide::goal::near_course` meets its contract.
+use mathlib.Core.Logic.{inl, inr}
 use mathlib.Core.Path.{sym, ap, ◌∙◌}
 use Rattle.state.specs.declared.Line.{Line}
 use Rattle.guide.specs.Goal.{near_course}
@@ -12,8 +13,4 @@ returns-in-Nothing c =
 
 pub returns-in-Breadcrumb : goal.returns-in-Breadcrumb
 unfolding near_course
-returns-in-Breadcrumb c = rw c.in-Breadcrumb.is
-
-pub returns-in-Course : goal.returns-in-Course
-unfolding near_course
-returns-in-Course c = rw c.in-Course.is
+returns-in-Breadcrumb c = elim c.in-Breadcrumb.is [ inl e ↦ rw e | inr e ↦ rw e ]

@@ -7,6 +7,6 @@ pub returns-then-turn : goal.returns-then-turn
 unfolding backwards
 returns-then-turn c = simp (← c.turned_from-turn.ensures, lt-ltb _ _ c.if-turn.true)
 
-pub returns : goal.returns
+pub returns-else-turn : goal.returns-else-turn
 unfolding backwards
-returns c = simp (← c.turned_from-turn.ensures, le-ltb _ _ c.if-turn.false)
+returns-else-turn c = simp (← c.turned_from-turn.ensures, le-ltb _ _ c.if-turn.false)

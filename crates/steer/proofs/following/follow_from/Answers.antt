@@ -1,4 +1,5 @@
 -- `steer::following::follow_from` meets its contract.
+use mathlib.Core.Logic.{inl, inr}
 use mathlib.Core.Path.{sym, ap, ◌∙◌, subst}
 use mathlib.Core.List.{[]}
 use lib.ListN.{length}
@@ -57,20 +58,8 @@ returns-in-Breadcrumb c =
     let l = course_of h g.line.now in
     decides-as (λ C. follow_from g.h.follow.line C l g.now_ms) (λ C. brought C l g.now_ms) h g.crumbs.now
     (decided_in k.result w) k.new.crumbs
-    (ap (λ (x : Line). follow_from x (capacity (length g.crumbs.now)) l g.now_ms (state_of h g.crumbs.now))
-    c.in-Breadcrumb.is)
-    (k.ensures w)
-
-pub returns-in-Course : goal.returns-in-Course
-unfolding follow_from
-returns-in-Course c =
-    let g = c.args in
-    let k = c.brought-in-Course in
-    let w = g.window.now in
-    let h = whole g.h w in
-    let l = course_of h g.line.now in
-    decides-as (λ C. follow_from g.h.follow.line C l g.now_ms) (λ C. brought C l g.now_ms) h g.crumbs.now
-    (decided_in k.result w) k.new.crumbs
-    (ap (λ (x : Line). follow_from x (capacity (length g.crumbs.now)) l g.now_ms (state_of h g.crumbs.now))
-    c.in-Course.is)
+    (elim c.in-Breadcrumb.is [
+      | inl e ↦ ap (λ (x : Line). follow_from x (capacity (length g.crumbs.now)) l g.now_ms (state_of h g.crumbs.now)) e
+      | inr e ↦ ap (λ (x : Line). follow_from x (capacity (length g.crumbs.now)) l g.now_ms (state_of h g.crumbs.now)) e
+    ])
     (k.ensures w)

@@ -10,14 +10,15 @@ use Rattle.calls.specs.Follow.{near_here}
 use Rattle.state.specs.Guided.{whole}
 use Rattle.steer.proofs.way_home.near_here.Goals as goal
 
-pub returns-in_default : goal.returns-in_default
+pub returns-in_err-p : goal.returns-in_err-p
 unfolding near_here
-returns-in_default c = λ w. let g = c.args in
-    sym (ap (λ (x : Option Point). near_here x (course_of (whole g.h w) g.line.now)) c.in_default.is)
+returns-in_err-p c = λ w. let g = c.args in
+    c.from_residual.ensures
+    ∙ sym (ap (λ (x : Option Point). near_here x (course_of (whole g.h w) g.line.now)) c.in_err-p.was)
 
 pub returns : goal.returns
 unfolding near_here drop_m constant of_bits
 returns c = λ w.
     let g = c.args in
     rw c.new-course.ensures at c.course_near.ensures
-    ∙ sym (ap (λ (x : Option Point). near_here x (course_of (whole g.h w) g.line.now)) c.in-Some.is)
+    ∙ sym (ap (λ (x : Option Point). near_here x (course_of (whole g.h w) g.line.now)) c.in_ok-p.was)
