@@ -1,7 +1,8 @@
 -- An answer by the number of the first question that says no, and the rules by what the program holds. Assumes nothing.
-use Rattle.std.proofs.Common.{ℕ, zero, suc, ◌≡◌, ◌≢◌, ◌==◌, refl, sym, ap, ap₂, ◌∙◌, subst, false, List, [], length, Float, Option, Some}
-use Rattle.std.proofs.Common.{None, Result, Ok, Err, Bor}
+use Rattle.std.proofs.Common.{ℕ, ◌≡◌, ◌≢◌, ◌==◌, refl, sym, ap, ap₂, ◌∙◌, subst, false, List, [], ◌∷◌, length}
+use Rattle.std.proofs.Common.{Float, Option, Some, None, Result, Ok, Err, Bor}
 use borrow.Author.Tests.{eq-eqb}
+use Rattle.std.proofs.Math.Nat.{suc-ne-zero}
 use lib.Dec.{T}
 use Rattle.refusal.specs.declared.Refusal.{Refusal}
 use Rattle.refusal.specs.declared.Refusal.TheVariants as refusal
@@ -10,7 +11,7 @@ use Rattle.refusal.specs.Refusal.{number, asked}
 use Rattle.binary32.specs.Casts.{as_u32}
 use Rattle.plane.specs.declared.Point.{Point}
 use Rattle.plane.specs.Plane.{distance}
-use Rattle.crumbs.specs.Crumb.{crumbs}
+use Rattle.crumbs.specs.declared.Crumb.{Crumb}
 use Rattle.crumbs.specs.Inner.{Front}
 use Rattle.crumbs.proofs.Crumbs.{length-crumbs}
 use Rattle.crumbs.specs.Along.{recorded_m, start_of}
@@ -60,23 +61,24 @@ unfolding len track
 len-held h b = sym (length-crumbs h.trail.len b)
 
 -- ---- the way back
-pub back-empty : (p : Point) (n : ℕ) (b : List Float) → n ≡ 0 → None ≡ way_back_from (Some p) (crumbs n b)
-unfolding way_back_from crumbs
-back-empty p n b e = rw e
+pub back-empty : (p : Point) (l : List Crumb) → length l ≡ 0 → None ≡ way_back_from (Some p) l
+unfolding way_back_from
+back-empty p [] e = refl
+back-empty p (a ∷ l) e = absurd (suc-ne-zero _ e)
 
 abbrev metres : ℕ → ℕ → Option Back
 metres direct track = Some (record { direct = direct; track = track })
 
-held : (p : Point) (n : ℕ) (b : List Float) → n ≢ 0
-    → metres (as_u32 (distance p (start_of (crumbs n b) p))) (as_u32 (recorded_m (crumbs n b) p)) ≡ way_back_from (Some p) (crumbs n b)
-unfolding way_back_from crumbs
-held p zero b ne = absurd (ne refl)
-held p (suc n) b ne = refl
+held : (p : Point) (l : List Crumb) → length l ≢ 0
+    → metres (as_u32 (distance p (start_of l p))) (as_u32 (recorded_m l p)) ≡ way_back_from (Some p) l
+unfolding way_back_from
+held p [] ne = absurd (ne refl)
+held p (a ∷ l) ne = refl
 
-pub back-held : (p : Point) (n : ℕ) (b : List Float) → n ≢ 0 → (direct track : ℕ)
-    → direct ≡ as_u32 (distance p (start_of (crumbs n b) p)) → track ≡ as_u32 (recorded_m (crumbs n b) p)
-    → Some (record { direct = direct; track = track }) ≡ way_back_from (Some p) (crumbs n b)
-back-held p n b ne direct track d t = ap₂ metres d t ∙ held p n b ne
+pub back-held : (p : Point) (l : List Crumb) → length l ≢ 0 → (direct track : ℕ)
+    → direct ≡ as_u32 (distance p (start_of l p)) → track ≡ as_u32 (recorded_m l p)
+    → Some (record { direct = direct; track = track }) ≡ way_back_from (Some p) l
+back-held p l ne direct track d t = ap₂ metres d t ∙ held p l ne
 
 -- ---- a part that is returned
 module _ (h : Homing) (b : List Float) where

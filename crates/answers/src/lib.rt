@@ -1,8 +1,7 @@
 // The guide's calls that only answer. Each puts its questions first, and is refused where one says no.
 #![tactic(auto)]
 
-ghost use Rattle.std.specs.Prelude.{◌≡◌, ◌≤◌, length};
-ghost use Rattle.crumbs.specs.Crumb.{capacity, crumbs as held_crumbs};
+ghost use Rattle.std.specs.Prelude.{◌≡◌};
 ghost use Rattle.state.specs.declared.Line.TheVariants as followed;
 ghost use Rattle.calls.specs.Ask.{course_ahead_on, route_home_on, way_back_from};
 ghost use Rattle.answers.specs.Promises.{AnswersLen, AnswersFollowing, AnswersFollowingCourse, AnswersCourseAhead, AnswersRouteHome};
@@ -41,10 +40,7 @@ fn ahead_on(line: Line, f: Follow) -> Option<Ahead>
     ensures course { line ≡ followed.Course → result ≡ course_ahead_on f.line f }
     ensures home { line ≡ followed.Breadcrumb → result ≡ route_home_on f.line f }
 {
-    if f.line != line {
-        return None;
-    }
-    Some(Ahead {
+    (f.line == line).then_some(Ahead {
         end: f.segment,
         point: f.matched,
     })
@@ -80,16 +76,15 @@ pub fn guide(h: &Homing) -> Result<Option<Guide>, Refusal>
 
 // ---- of the state and a lent buffer
 
-// The way back from where the rider is, over the first `len` crumbs.
-fn way_back_from(here: Option<Point>, crumbs: &[f32], len: usize) -> Option<Back>
-    requires { len ≤ capacity (length crumbs.now) }
-    ensures { result ≡ way_back_from here (held_crumbs len crumbs.now) }
+// The way back from where the rider is, over the crumbs that are held.
+fn way_back_from(here: Option<Point>, held: &Crumbs<'_>) -> Option<Back>
+    ensures { result ≡ way_back_from here held.now }
 {
     let p = here?;
+    let len = held.len();
     if len == 0 {
         return None;
     }
-    let held = Crumbs::new(crumbs, len);
     let direct = plane::distance(p, held.start(p));
     let track = held.recorded_m(p);
     Some(Back {
@@ -104,7 +99,8 @@ pub fn way_back(h: &Homing, crumbs: &[f32]) -> Result<Option<Back>, Refusal>
     ensures { AnswersWayBack h.now crumbs.now result }
 {
     questions::asks_crumbs(h, crumbs)?;
-    Ok(way_back_from(h.here, crumbs, h.trail.len))
+    let held = Crumbs::new(crumbs, h.trail.len);
+    Ok(way_back_from(h.here, &held))
 }
 
 // The kept crumbs, oldest first: the front part of the buffer.

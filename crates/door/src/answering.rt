@@ -26,7 +26,7 @@ const GUIDE: usize = 10;
 // The most that a mode's word may be, and a bearing's or a heading's.
 const MODE_MOST: u32 = 3;
 
-const ANGLE_MOST: u32 = 0xFFFF;
+const ANGLE_MOST: u32 = u16::MAX as u32;
 
 // ---- of the state alone
 
@@ -126,7 +126,8 @@ pub fn cittumay_course_ahead(
     put_ahead(answer, known, count, matched, east, north)
 }
 
-// The same of the breadcrumb.
+// `known` becomes 1 where the breadcrumb is followed: `count` crumbs of it are on the way home, and behind them, where `matched` becomes
+// 1, the point where the rider is. Where `known` or `matched` becomes 0, what it speaks of stays as it was.
 pub fn cittumay_route_home(
     words: &[u64],
     numbers: &[f32],
@@ -191,9 +192,9 @@ fn put_guide(g: Guide, words: &mut [u32])
     words[..GUIDE].copy_from_slice(&fields);
 }
 
-// `guide` has room for ten words, else the call is refused with 10: mode, following, course, course_near,
-// direct_m, track_m, off_m, bearing, whether a heading is known, and the heading, 0 where it is not. They
-// stay as they were where `shown` becomes 0.
+// Ten words are written to `guide`: mode, following, course, course_near, direct_m, track_m, off_m, bearing, whether a heading is known,
+// and the heading, 0 where it is not. They stay as they were where `shown` becomes 0. Where `guide` has no room for ten words, the call
+// is refused with 10.
 pub fn cittumay_guide(words: &[u64], numbers: &[f32], shown: &mut u8, guide: &mut [u32]) -> u8
     ensures { Answers
         (with_room guide.old (stored words.now numbers.now)) no_state AnswersGuide showing result
@@ -310,6 +311,7 @@ fn are_guide(words: &[u32]) -> bool
     (words[0] <= MODE_MOST) & flags & angles
 }
 
+// `are_guide` asks all words, and this reads them: with both in one, each field would be an Option to take apart.
 fn guide_at(words: &[u32]) -> Guide
     requires long { guide_size ≤ length words.now }
     requires angles { (word_at words.now 7 ≤ most16) × (word_at words.now 9 ≤ most16) }

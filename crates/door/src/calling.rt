@@ -19,7 +19,7 @@ fn number_of_event(event: Event) -> u8
 
 // ---- the state kept
 
-// Keeps the state that a call gave where no question refused it.
+// Keeps the state that a call gave where no question refused it: where `number`, which the C interface answers, is 0.
 fn keep(number: u8, h: Homing, words: &mut [u64], numbers: &mut [f32]) -> u8
     requires { (word_count ≤ length words.old) × (number_count ≤ length numbers.old) }
     ensures value { result ≡ number }

@@ -1,4 +1,4 @@
-// Answers as numbers.
+// Answers as numbers: the C interface answers the number of the question that refused a call, and 0 where none did.
 
 ghost use Rattle.std.specs.Prelude.{◌≡◌};
 ghost use Rattle.refusal.specs.Refusal.{asked};
@@ -31,8 +31,8 @@ pub fn number_of(answer: Result<(), Refusal>) -> u8
     }
 }
 
-// Writes what a call answers where no question refused it, and gives its number. Answers of several values are written where they are
-// matched: of a closure that is passed in, no contract says what it writes to what it borrows.
+// Writes what a call answers where no question refused it, and gives its number. An answer of several values is written by the call
+// that lends them: its contract names each value.
 pub fn put<T: Copy>(answer: Result<T, Refusal>, to: &mut T) -> u8
     ensures value { result ≡ asked answer }
     ensures written { to.new ≡ values_of itself answer to.old }

@@ -40,7 +40,7 @@ pub fn cittumay_rebuild_caught_up(rebuild: &[u64], upper: usize, yes: &mut u8) -
 
 // ---- the rebuild and the guide
 
-// Keeps what a call gave where no question refused it.
+// Keeps what a call gave where no question refused it: where `number`, which the C interface answers, is 0.
 fn keep_both(
     number: u8,
     r: Rebuild,

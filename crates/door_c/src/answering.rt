@@ -57,7 +57,8 @@ pub extern "C" fn cittumay_course_ahead(
     answering::cittumay_course_ahead(words, numbers, known, count, matched, east, north)
 }
 
-// The same of the breadcrumb.
+// `known` becomes 1 where the breadcrumb is followed: `count` crumbs of it are on the way home, and behind them, where `matched` becomes
+// 1, the point where the rider is. Where `known` or `matched` becomes 0, what it speaks of stays as it was.
 #[unsafe(no_mangle)]
 pub extern "C" fn cittumay_route_home(
     words: &[u64],
@@ -89,9 +90,9 @@ pub extern "C" fn cittumay_heading(
     answering::cittumay_heading(words, numbers, known, heading)
 }
 
-// `guide` has room for ten words, else the call is refused with 10: mode, following, course, course_near,
-// direct_m, track_m, off_m, bearing, whether a heading is known, and the heading, 0 where it is not. They
-// stay as they were where `shown` becomes 0.
+// Ten words are written to `guide`: mode, following, course, course_near, direct_m, track_m, off_m, bearing, whether a heading is known,
+// and the heading, 0 where it is not. They stay as they were where `shown` becomes 0. Where `guide` has no room for ten words, the call
+// is refused with 10.
 #[unsafe(no_mangle)]
 pub extern "C" fn cittumay_guide(
     words: &[u64],

@@ -65,8 +65,8 @@ struct Heard {
     place: Option<Fix>,
 }
 
-// Read ride `recovered` and the ride after it back from a log whose slots below `_upper` are written. The
-// walk begins at slot 0, however many are.
+// Read ride `recovered` and the ride after it back from a log whose slots below `_upper` are written. The walk begins at slot 0,
+// however many are: `_upper` is there because the C interface and the call's rule have it.
 #[tactic(auto, unfolding(crate::specs::Rebuild::new_rebuild))]
 pub fn new(recovered: u32, _upper: usize) -> Rebuild
     ensures { result ≡ new_rebuild recovered }
@@ -85,10 +85,8 @@ pub fn new(recovered: u32, _upper: usize) -> Rebuild
 fn carries_on(last: Option<u64>, first: Option<u64>) -> bool
     ensures { result ≡ carries_on last first }
 {
-    match (last, first) {
-        (Some(a), Some(b)) => a.abs_diff(b) <= CONTINUE_MS,
-        _ => false,
-    }
+    last.zip(first)
+        .is_some_and(|(a, b)| a.abs_diff(b) <= CONTINUE_MS)
 }
 
 // Whether a fix makes the breadcrumb start again: the later ride's first, where that ride does not
@@ -179,8 +177,8 @@ fn replay_heard(x: Heard, g: Ridden, window: &mut [f32; 96], crumbs: &mut [f32])
 
 // ---- an entry
 
-// Of the four samples the first `count`. On the way `parts` has the groups of the guide that a fix changes; where the guide starts
-// anew they are put into the whole of it first.
+// Of the four samples the first `count`, which question 5 holds to 4. On the way `parts` has the groups of the guide that a fix changes;
+// where the guide starts anew they are put into the whole of it first.
 fn visit_samples(r: &mut Rebuild, h: &mut Homing, crumbs: &mut [f32], e: Entry)
     requires trail_fit { trail.TrailFit h.old.trail (length crumbs.old) }
     requires count_bound { e.count ≤ 4 }

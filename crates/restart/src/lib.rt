@@ -34,6 +34,8 @@ pub fn caught_up(r: Rebuild, upper: usize) -> bool
 
 // ---- the walk over the slots
 
+// Two walks from record to record: one only counts, and one ends with `stop` where the chain ends. An iterator would be no shorter.
+
 // The index of the record at slot `slot`, 0 where the chain ends before it.
 fn record_at(file: &[u8], slot: usize) -> u32
     requires { asks_file file.now ≡ 0 }

@@ -34,6 +34,7 @@ fn complain(rt: &impl Eprint, what: &str) {
     let _ = rt.eprint(what);
 }
 
+// File and text are arrays: memory is fixed, and neither can be longer than they are.
 fn main(rt: HostRuntime) {
     let mut file = [0u8; KEPT];
     let Ok(kept) = read_input(&mut rt.reader(), &mut file) else {

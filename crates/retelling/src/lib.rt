@@ -54,8 +54,8 @@ fn rebuild_chain(file: &[u8], crumbs: &mut [f32]) -> Result<Rebuilt, Refusal>
     })
 }
 
-// Write what the program prints of a chain file to the front of the text, and answer how many bytes
-// those are. A text of 16,384 bytes has room for all of them.
+// Write what the program prints of a chain file to the front of the text, and answer how many bytes those are: memory is fixed, so no
+// String, and the clause names each byte. A text of 16,384 bytes has room for all of them.
 pub fn retell(file: &[u8], text: &mut [u8]) -> usize
     ensures { Retells file.now text.old text.new result }
 {

@@ -8,7 +8,8 @@ ghost use Rattle.retelling.specs.Writing.{Puts, PutsWhole};
 
 use crumbs::Crumb;
 
-// Writes to a text that the caller lends, from place `at` on, as far as there is room.
+// Writes to a text that the caller lends, from place `at` on, as far as there is room. Clauses name each byte and where it goes, which
+// those of a formatter don't, so digits are made here.
 #[derive(Drop)]
 pub struct Writer<'a> {
     pub text: &'a mut [u8],

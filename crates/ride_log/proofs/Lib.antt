@@ -1,3 +1,2 @@
 pub mod Numbers
 mod KindNumbers
-mod Samples

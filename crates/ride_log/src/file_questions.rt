@@ -24,13 +24,10 @@ const MOST: usize = 682;
 fn asks_place(place: Option<Fix>) -> Result<(), Refusal>
     ensures { asked result ≡ asks_place place }
 {
-    match place {
-        Some(fix) => globe::asks_fix(fix),
-        None => Ok(()),
-    }
+    place.map_or(Ok(()), globe::asks_fix)
 }
 
-// The places of the samples that are used.
+// The places of the samples that are used. A count of at most 4, asked before, keeps each sample within its record.
 fn asks_used(file: &[u8], index: u32, count: u8) -> Result<(), Refusal>
     requires { (count ≡ count_of file.now index) × (count ≤ 4) }
     ensures { asked result ≡ asks_samples (used (entry_at file.now index)) }
@@ -55,6 +52,9 @@ fn asks_entry(file: &[u8], index: u32) -> Result<(), Refusal>
 }
 
 // ---- the questions put to a file
+
+// Here and in crate `restart` the chain is walked by `next_of`, from record to record: each walk has answers of its own where the chain
+// ends, where it leads outside the file and where it comes back, which an iterator over records would have to give as well.
 
 #[tactic(auto, unfolding(crate::specs::Questions::question6))]
 fn question6(size: usize) -> bool

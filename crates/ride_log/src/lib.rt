@@ -30,7 +30,7 @@ pub struct Sample {
     pub utc: Option<u64>,
 }
 
-// An entry carries four samples, of which `count` are used.
+// An entry carries four samples, of which `count` are used: the form in which the file has it. Memory is fixed, so no list of them.
 #[derive(Clone, Copy)]
 pub struct Entry {
     pub ride: u32,
@@ -72,6 +72,7 @@ fn u32_at(file: &[u8], at: usize) -> u32
     ])
 }
 
+// Two numbers of 32 bits, as the rule has it: of eight bytes for `from_le_bytes` each would need its own test for the file's end.
 #[tactic(auto, unfolding(crate::specs::Entry::u64_at))]
 fn u64_at(file: &[u8], at: usize) -> u64
     requires { at < 2 ^ 41 }
@@ -90,6 +91,8 @@ fn i32_at(file: &[u8], at: usize) -> i32
 }
 
 // ---- records
+
+// A record is named by the file that C lends and its index. Both in one struct, each clause would take them out of it again.
 
 fn start_of(index: u32) -> usize
     ensures { result ≡ 96 * index }
@@ -127,7 +130,7 @@ fn count_of(file: &[u8], index: u32) -> u8
     byte_at(file, start_of(index) + 9)
 }
 
-// A number of no kind is refused by question 8 before, and read as `Full`.
+// The rule reads a number of no kind as `Full`, so this is a From, which can't fail. Question 8 refuses a file with such a number.
 impl From<u8> for Kind {
     ghost from_gives = { λ number kind. kind ≡ kind_of number };
 
@@ -149,18 +152,17 @@ impl From<u8> for Kind {
 
 // ---- samples
 
+// A sample begins below 2^40, since an index has 32 bits, so no place in it leaves a usize.
+
 #[tactic(auto, unfolding(crate::specs::Entry::place_at, crate::specs::Entry::has_place))]
 fn place_at(file: &[u8], at: usize) -> Option<Fix>
     requires { at < 2 ^ 40 }
     ensures { result ≡ place_at (has_place (byte_at file.now at)) file.now at }
 {
-    if byte_at(file, at) % 2 == 1 {
-        return Some(Fix {
-            lat: i32_at(file, at + 4),
-            lon: i32_at(file, at + 8),
-        });
-    }
-    None
+    (byte_at(file, at) % 2 == 1).then(|| Fix {
+        lat: i32_at(file, at + 4),
+        lon: i32_at(file, at + 8),
+    })
 }
 
 #[tactic(auto, unfolding(crate::specs::Entry::utc_at, crate::specs::Entry::has_utc))]
@@ -168,10 +170,7 @@ fn utc_at(file: &[u8], at: usize) -> Option<u64>
     requires { at < 2 ^ 40 }
     ensures { result ≡ utc_at (has_utc (byte_at file.now at)) file.now at }
 {
-    if byte_at(file, at) / 2 % 2 == 1 {
-        return Some(u64_at(file, at + 12));
-    }
-    None
+    (byte_at(file, at) / 2 % 2 == 1).then(|| u64_at(file, at + 12))
 }
 
 #[tactic(auto, unfolding(crate::specs::Entry::sample_at))]

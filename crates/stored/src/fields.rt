@@ -10,13 +10,13 @@ use plane::{Fix, Point};
 use state::{Line, Mode};
 
 // The most that a word may be, by its field's type.
-pub const U64: u64 = 0xFFFF_FFFF_FFFF_FFFF;
+pub const U64: u64 = u64::MAX;
 
-pub const U32: u64 = 0xFFFF_FFFF;
+pub const U32: u64 = u32::MAX as u64;
 
-pub const U16: u64 = 0xFFFF;
+pub const U16: u64 = u16::MAX as u64;
 
-pub const U8: u64 = 0xFF;
+pub const U8: u64 = u8::MAX as u64;
 
 // Each of the words in front is at most what `most` says, and there are as many.
 pub fn within(most: &[u64], words: &[u64]) -> bool
@@ -78,6 +78,8 @@ pub fn place_at(words: &[u64], i: usize) -> Option<Fix>
 }
 
 // ---- tags
+
+// The enums are other crates', and the rules read a number of no case as the first one, so these are functions, and none can fail.
 
 pub fn line_of(tag: u64) -> Line
     ensures { result ≡ line_of_tag tag }

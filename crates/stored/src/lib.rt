@@ -22,7 +22,7 @@ pub const WORDS: usize = 45;
 pub const NUMBERS: usize = 110;
 
 // The most that each word may be, by its field's type.
-const MOST: [u64; 45] = [
+const MOST: [u64; WORDS] = [
     state_words::MARK,
     fields::U64,
     fields::U64,
@@ -70,6 +70,7 @@ const MOST: [u64; 45] = [
     fields::U16,
 ];
 
+// `holds` asks all words, and this reads them, as the rule has it: with both in one, each field would be an Option to take apart.
 fn homing_at(words: &[u64], numbers: &[f32]) -> Homing
     requires { (word_count ≤ length words.now) × (number_count ≤ length numbers.now) }
     ensures { result ≡ homing_at words.now numbers.now }
@@ -123,7 +124,7 @@ pub fn load(words: &[u64], numbers: &[f32]) -> Option<Homing>
 // ---- the state, written
 
 // The numbers before the window.
-fn head_of(h: Homing) -> [f32; 14]
+fn head_of(h: Homing) -> [f32; layout::WINDOW]
     ensures { result ≡ head_of h }
 {
     let here = fields::point_in(h.here);

@@ -1,5 +1,7 @@
 // The parts of a guide's state, read from slices that the caller lends and written as words. Where each stands is
-// the table in crates/stored/specs/Stored.antt. The C interface lends words and numbers as two slices, and they are read where they lie.
+// the table in crates/stored/specs/Stored.antt. The C interface lends words and numbers as two slices of any
+// length, and they are read where they lie: an array of the words in front would ask for the same two lines in each contract, since
+// the rules name places of a slice.
 
 ghost use Rattle.std.specs.Prelude.{◌≡◌, true, [], ◌+◌, ◌≤◌, length, take, drop};
 ghost use Rattle.stored.specs.Fields.{within};

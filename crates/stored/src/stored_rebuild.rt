@@ -14,7 +14,7 @@ pub const REBUILD_WORDS: usize = 7;
 const REBUILD_MARK: u64 = 4848499195026162002;
 
 // The most that each word may be.
-const REBUILD_MOST: [u64; 7] = [
+const REBUILD_MOST: [u64; REBUILD_WORDS] = [
     REBUILD_MARK,
     fields::U32,
     fields::U64,
@@ -35,6 +35,7 @@ fn stage_at(words: &[u64]) -> Stage
     Stage::Decided
 }
 
+// `holds_rebuild` asks all words, and this reads them: with both in one, each field would be an Option to take apart.
 fn rebuild_at(words: &[u64]) -> Rebuild
     requires { rebuild_count ≤ length words.now }
     ensures { result ≡ rebuild_at words.now }
@@ -79,7 +80,7 @@ fn pending_in(s: Stage) -> Option<u64>
     }
 }
 
-fn rebuild_words(r: Rebuild) -> [u64; 7]
+fn rebuild_words(r: Rebuild) -> [u64; REBUILD_WORDS]
     ensures { (result ≡ rebuild_words r) × (within rebuild_mosts (rebuild_words r) ≡ true) }
 {
     let last = pending_in(r.stage);

@@ -13,11 +13,11 @@ returns-in_err-asks_crumbs c =
     let e : c.from_residual.result ≡ Err c.in_err-asks_crumbs.field-0.0 = search rules in
     record { said = no e c.in_err-asks_crumbs.ensures _ }
 
-pub way_back_from-requires : goal.way_back_from-requires
-way_back_from-requires c =
+pub new-held-requires : goal.new-held-requires
+new-held-requires c =
     let b = c.args.crumbs.now in
     (crumbs-given (length b) c.args.h.now b (sym c.in_ok-asks_crumbs.ensures)).trail.held
 
 pub returns : goal.returns
 unfolding asks asks_lent way_back track
-returns c = record { said = yes c.in_ok-asks_crumbs.ensures c.way_back_from.ensures }
+returns c = record { said = yes c.in_ok-asks_crumbs.ensures (rw c.new-held.ensures at c.way_back_from.ensures) }
