@@ -44,7 +44,8 @@ fn no_origin(f: Frame) -> bool
     f.origin.is_none()
 }
 
-// How many points a course has: those with both a latitude and a longitude. The C interface lends two slices.
+// How many points a course has: those with both a latitude and a longitude. The C interface lends two slices,
+// and there is no memory to join them in.
 pub fn count(lats: &[i32], lons: &[i32]) -> usize
     ensures { result ≡ length (fixes lats.now lons.now) }
 {
@@ -59,6 +60,7 @@ pub fn waits(f: Frame, lats: &[i32], lons: &[i32]) -> bool
 }
 
 // Place the points last first, each behind the one before it, and say how many they are.
+// The loop counts: with `(0..n).rev().enumerate()` the proof that each place is in both slices didn't close.
 fn place_all(f: Frame, lats: &[i32], lons: &[i32], line: &mut [f32]) -> usize
     requires { length (fixes lats.now lons.now) ≤ capacity (length line.old) }
     ensures { Places (placed f (fixes lats.now lons.now)) line.old result line.new }
