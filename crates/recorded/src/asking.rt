@@ -47,31 +47,6 @@ const ALL: [Question; 8] = [
     Question::WayBack,
 ];
 
-// The way ahead.
-#[derive(Clone, Copy, Default)]
-struct Ahead {
-    known: u8,
-    end: usize,
-    matched: u8,
-    east: f32,
-    north: f32,
-}
-
-impl Ahead {
-    fn tell(&self, fields: [Field; 5], told: &mut Answers) {
-        let numbers = [
-            u64::from(self.known),
-            self.end as u64,
-            u64::from(self.matched),
-            u64::from(binary32::pattern(self.east)),
-            u64::from(binary32::pattern(self.north)),
-        ];
-        for (field, number) in fields.iter().zip(numbers) {
-            told.tell(*field, number);
-        }
-    }
-}
-
 // Each asks a question, tells the answer, and gives the number of the refusal.
 impl State {
     fn len(&self, told: &mut Answers) -> u8 {
@@ -81,47 +56,54 @@ impl State {
         refused
     }
 
-    fn following(&self, told: &mut Answers) -> u8 {
+    // What is answered yes or no.
+    fn flag<F: Fn(&[u64], &[f32], &mut u8) -> u8>(
+        &self,
+        asked: F,
+        field: Field,
+        told: &mut Answers,
+    ) -> u8
+        requires { F.IsAlwaysCallable asked }
+    {
         let mut yes = 0;
-        let refused = answering::cittumay_following(&self.words, &self.numbers, &mut yes);
-        told.tell(Field::Following, u64::from(yes));
+        let refused = asked(&self.words, &self.numbers, &mut yes);
+        told.tell(field, u64::from(yes));
         refused
     }
 
-    fn following_course(&self, told: &mut Answers) -> u8 {
-        let mut yes = 0;
-        let refused = answering::cittumay_following_course(&self.words, &self.numbers, &mut yes);
-        told.tell(Field::FollowingCourse, u64::from(yes));
-        refused
-    }
-
-    fn course_ahead(&self, told: &mut Answers) -> u8 {
-        let mut ahead = Ahead::default();
-        let refused = answering::cittumay_course_ahead(
+    // A way ahead.
+    fn ahead<F: Fn(&[u64], &[f32], &mut u8, &mut usize, &mut u8, &mut f32, &mut f32) -> u8>(
+        &self,
+        asked: F,
+        fields: [Field; 5],
+        told: &mut Answers,
+    ) -> u8
+        requires { F.IsAlwaysCallable asked }
+    {
+        let mut known = 0;
+        let mut end = 0;
+        let mut matched = 0;
+        let mut east = 0.0;
+        let mut north = 0.0;
+        let refused = asked(
             &self.words,
             &self.numbers,
-            &mut ahead.known,
-            &mut ahead.end,
-            &mut ahead.matched,
-            &mut ahead.east,
-            &mut ahead.north,
+            &mut known,
+            &mut end,
+            &mut matched,
+            &mut east,
+            &mut north,
         );
-        ahead.tell(COURSE_AHEAD, told);
-        refused
-    }
-
-    fn route_home(&self, told: &mut Answers) -> u8 {
-        let mut ahead = Ahead::default();
-        let refused = answering::cittumay_route_home(
-            &self.words,
-            &self.numbers,
-            &mut ahead.known,
-            &mut ahead.end,
-            &mut ahead.matched,
-            &mut ahead.east,
-            &mut ahead.north,
-        );
-        ahead.tell(ROUTE_HOME, told);
+        let numbers = [
+            u64::from(known),
+            end as u64,
+            u64::from(matched),
+            u64::from(binary32::pattern(east)),
+            u64::from(binary32::pattern(north)),
+        ];
+        for (field, number) in fields.iter().zip(numbers) {
+            told.tell(*field, number);
+        }
         refused
     }
 
@@ -175,42 +157,52 @@ impl State {
         refused
     }
 
-    fn crumbs(&self, crumbs: &[f32], told: &mut Answers) -> u8 {
+    // How many crumbs a part of a buffer has.
+    fn part<F: Fn(&[u64], &[f32], &[f32], &mut usize) -> u8>(
+        &self,
+        asked: F,
+        buffer: &[f32],
+        field: Field,
+        told: &mut Answers,
+    ) -> u8
+        requires { F.IsAlwaysCallable asked }
+    {
         let mut len = 0;
-        let refused = answering::cittumay_crumbs(&self.words, &self.numbers, crumbs, &mut len);
-        told.tell(Field::Crumbs, len as u64);
-        refused
-    }
-
-    fn course(&self, line: &[f32], told: &mut Answers) -> u8 {
-        let mut len = 0;
-        let refused = answering::cittumay_course(&self.words, &self.numbers, line, &mut len);
-        told.tell(Field::Course, len as u64);
+        let refused = asked(&self.words, &self.numbers, buffer, &mut len);
+        told.tell(field, len as u64);
         refused
     }
 
     pub fn ask(&self, question: Question, crumbs: &[f32], line: &[f32], told: &mut Answers) -> u8 {
         match question {
             Question::Len => self.len(told),
-            Question::Following => self.following(told),
-            Question::FollowingCourse => self.following_course(told),
-            Question::CourseAhead => self.course_ahead(told),
-            Question::RouteHome => self.route_home(told),
+            Question::Following => self.flag(answering::cittumay_following, Field::Following, told),
+            Question::FollowingCourse => self.flag(
+                answering::cittumay_following_course,
+                Field::FollowingCourse,
+                told,
+            ),
+            Question::CourseAhead => self.ahead(
+                answering::cittumay_course_ahead,
+                COURSE_AHEAD,
+                told,
+            ),
+            Question::RouteHome => self.ahead(answering::cittumay_route_home, ROUTE_HOME, told),
             Question::Heading => self.heading(told),
             Question::Guide => self.guide(told),
             Question::WayBack => self.way_back(crumbs, told),
-            Question::Crumbs => self.crumbs(crumbs, told),
-            Question::Course => self.course(line, told),
+            Question::Crumbs => self.part(answering::cittumay_crumbs, crumbs, Field::Crumbs, told),
+            Question::Course => self.part(answering::cittumay_course, line, Field::Course, told),
         }
     }
 
     // Both parts of a buffer. The first refusal ends it.
     pub fn ask_parts(&self, crumbs: &[f32], line: &[f32], told: &mut Answers) -> u8 {
-        let refused = self.crumbs(crumbs, told);
+        let refused = self.ask(Question::Crumbs, crumbs, line, told);
         if refused != 0 {
             return refused;
         }
-        self.course(line, told)
+        self.ask(Question::Course, crumbs, line, told)
     }
 
     // The crumbs that are held, none where that is refused.

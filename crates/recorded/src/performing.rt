@@ -70,7 +70,7 @@ impl State {
         self.numbers = left.numbers;
     }
 
-    // Performs a call, tells its event or flag, and gives its refusal's number.
+    // Performs a call, tells its event or flag, and gives its refusal's number. Long by what the calls are lent: each has one arm.
     pub fn change(
         &mut self,
         alloc: Global,
@@ -152,7 +152,7 @@ impl State {
         refused
     }
 
-    // Thins the held crumbs, as many as there is room for, in a buffer of their own.
+    // Thins the held crumbs, as many as there is room for, in a buffer of their own, and gives the number of the refusal.
     pub fn thin(
         &self,
         crumbs: &[f32],
@@ -160,7 +160,7 @@ impl State {
         len: usize,
         tolerance: f32,
         told: &mut Answers,
-    ) {
+    ) -> u8 {
         for (number, held) in thinned.iter_mut().zip(self.held(crumbs)) {
             *number = *held;
         }
@@ -168,11 +168,11 @@ impl State {
         let mut passes = 0;
         let mut refused = 0;
         let left = thinning::cittumay_thin(thinned, len, &mut last, &mut passes, &mut refused);
-        told.tell(Field::Refused, u64::from(refused));
         if refused == 0 {
             told.tell(Field::Crumbs, left as u64);
             told.tell(Field::Tolerance, u64::from(binary32::pattern(last)));
             told.tell(Field::Passes, passes as u64);
         }
+        refused
     }
 }

@@ -74,26 +74,12 @@ impl Ride {
         given: &[u8],
     ) -> Result<(), Fault> {
         let mut told = Answers::none();
-        if let Call::Thin {
-            size,
-            len,
-            tolerance,
-        } = record.call
-        {
-            let mut thinned = vec![in alloc; 0.0f32; size]?;
-            self.lent(record).thin(
-                front(&self.crumbs, record.crumbs_lent),
-                &mut thinned,
-                len,
-                tolerance,
-                &mut told,
-            );
-            comparing::compare(at, &told, &record.stored)?;
-            return compare_parts(alloc, input, at, &told, &thinned, &self.line);
-        }
-        self.tell(alloc, record, given, &mut told)?;
+        let thinned = self.tell(alloc, record, given, &mut told)?;
         comparing::compare(at, &told, &record.stored)?;
-        compare_parts(alloc, input, at, &told, &self.crumbs, &self.line)
+        match &thinned {
+            Some(thinned) => compare_parts(alloc, input, at, &told, thinned, &self.line),
+            None => compare_parts(alloc, input, at, &told, &self.crumbs, &self.line),
+        }
     }
 
     // The state with what the record replaces.
@@ -103,17 +89,18 @@ impl Ride {
         state
     }
 
-    // Performs a call but `thin`, and tells what it answers.
+    // Performs a call, and tells what it answers. Some: the buffer that it thinned.
     fn tell(
         &mut self,
         alloc: Global,
         record: &Record,
         given: &[u8],
         told: &mut Answers,
-    ) -> Result<(), AllocError> {
+    ) -> Result<Option<Vec<f32>>, AllocError> {
         let mut lent = self.lent(record);
         let crumbs = front_mut(&mut self.crumbs, record.crumbs_lent);
         let line = front_mut(&mut self.line, record.line_lent);
+        let mut thinned = None;
         let refused = match record.call {
             Call::Change(change) => {
                 let refused = lent.change(alloc, change, given, crumbs, line, told)?;
@@ -123,10 +110,20 @@ impl Ride {
             }
             Call::CaughtUp { upper } => lent.caught_up(upper, told),
             Call::Ask(question) => lent.ask(question, crumbs, line, told),
-            _ => lent.ask_parts(crumbs, line, told),
+            Call::Thin {
+                size,
+                len,
+                tolerance,
+            } => {
+                let mut own = vec![in alloc; 0.0f32; size]?;
+                let refused = lent.thin(crumbs, &mut own, len, tolerance, told);
+                thinned = Some(own);
+                refused
+            }
+            Call::Dump | Call::End => lent.ask_parts(crumbs, line, told),
         };
         told.tell(Field::Refused, u64::from(refused));
-        Ok(())
+        Ok(thinned)
     }
 }
 

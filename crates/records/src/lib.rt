@@ -27,7 +27,7 @@ pub struct Header {
 }
 
 // Two words of the state that are replaced, and a number: the place of each, and what stands there instead. A place behind the state
-// replaces nothing.
+// replaces nothing. No Options: a place would be held to the state's size all the same where it is used as an index.
 #[derive(Clone, Copy)]
 pub struct Replaced {
     pub words: [(usize, u64); 2],
@@ -49,7 +49,7 @@ pub struct Record {
 // The f32 with this pattern.
 pub fn float(pattern: u32) -> f32 {
     if pattern % 0x8000_0000 > 0x7f80_0000 {
-        return 0.0 / 0.0;
+        return f32::NAN;
     }
     f32::from_bits(pattern)
 }

@@ -120,7 +120,8 @@ pub struct Follow {
 #[derive(Clone, Copy)]
 pub struct Homing {
     pub trail: Trail,
-    // The places that wait, as numbers: place i at 2i and 2i + 1.
+    // The places that wait, as numbers: place i at 2i and 2i + 1. The C interface lends the state as numbers, and these 96 are copied
+    // from there and back as they stand.
     pub window: [f32; 96],
     pub frame: Frame,
     // The fix last acted on.
@@ -138,7 +139,9 @@ pub struct Homing {
     pub guide: Option<Guide>,
 }
 
-// The state without the window: it goes by value on the way of a fix, and the window is lent beside it.
+// The state without the window: it goes by value on the way of a fix, and the window is lent beside it, so that its 384 bytes are not
+// copied from function to function: an `observe` copies 5.5 KB this way, and 10 KB with the window. The fields of `Homing` stand here
+// once more, and are copied one by one, since the rules name each as a field of it.
 #[derive(Clone, Copy)]
 pub struct Guided {
     pub trail: Trail,

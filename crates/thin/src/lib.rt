@@ -46,7 +46,7 @@ fn reach(buf: &[f32], len: usize, anchor: usize, bounds: Bounds) -> usize
     end - 1
 }
 
-// Where a pass goes on from `anchor`.
+// Where a pass goes on from `anchor`. Whether it halves is a flag, as in the rules: an enum of two would be turned into it at each call.
 fn next(buf: &[f32], len: usize, anchor: usize, bounds: Bounds, halve: bool) -> usize
     requires { (anchor + 2 < len) × (len ≤ capacity (length buf.now)) }
     ensures { result ≡ anchor + step_by halve bounds.tolerance (crumb_at buf.now anchor)

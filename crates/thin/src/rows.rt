@@ -18,7 +18,7 @@ fn near(buf: &[f32], i: usize, a: Point, b: Point, lo: f32) -> bool
     squares::off_square(crumbs::point_at(buf, i), a, b) <= lo
 }
 
-// Whether each of the four crumbs from `first` on is.
+// Whether each of the four crumbs from `first` on is off the segment a-b by a square of at most `lo`.
 fn four_near(buf: &[f32], first: usize, a: Point, b: Point, lo: f32) -> bool
     requires { first + 4 ≤ capacity (length buf.now) }
     ensures { result ≡ true → Each (near buf.now a b lo) first (first + 4) }
@@ -30,8 +30,9 @@ fn four_near(buf: &[f32], first: usize, a: Point, b: Point, lo: f32) -> bool
     one & two & three & four
 }
 
-// A crumb from `from` on, before which each one is: by fours, as far as they go before `end`. Counted by hand: a `step_by` would
-// begin a row that ends behind `end`.
+// A crumb from `from` on, before which each is off the segment a-b by a square of at most `lo`: by fours, as far as they go before
+// `end`. Counted by hand: a `position` over the fours tells which of them fails, and the crumb would be counted from it, and anew
+// where none does.
 pub(crate) fn near_from(buf: &[f32], from: usize, end: usize, a: Point, b: Point, lo: f32) -> usize
     requires { (from ≤ end) × (end ≤ capacity (length buf.now)) }
     ensures { (from ≤ result) × (result ≤ end) × Each (near buf.now a b lo) from result }
@@ -57,7 +58,7 @@ fn far(buf: &[f32], i: usize, hi: f32) -> bool
     hi <= squares::off_square(p, a, b)
 }
 
-// Whether that holds of each of the sixteen crumbs from `first` on.
+// Whether `far` says yes of each of the sixteen crumbs from `first` on.
 fn sixteen_far(buf: &[f32], first: usize, hi: f32) -> bool
     requires { first + 18 ≤ capacity (length buf.now) }
     ensures { result ≡ true → Each (far buf.now hi) first (first + 16) }
@@ -69,7 +70,8 @@ fn sixteen_far(buf: &[f32], first: usize, hi: f32) -> bool
     all
 }
 
-// A crumb of the first `len`, before which it holds of each one: by sixteens, as far as they go. Counted by hand for the same reason.
+// A crumb of the first `len`, before which `far` says yes of each: by sixteens, as far as they go. Counted by hand: a `position` over
+// the rows tells which row fails, and the crumb would be counted from it, and anew where none does.
 pub(crate) fn far_from_start(buf: &[f32], len: usize, hi: f32) -> usize
     requires { (2 ≤ len) × (len ≤ capacity (length buf.now)) }
     ensures { (result + 2 ≤ len) × Each (far buf.now hi) 0 result }

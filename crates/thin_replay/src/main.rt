@@ -10,7 +10,6 @@
 ghost use Rattle.std.specs.Prelude.{◌≤◌, length};
 ghost use Rattle.crumbs.specs.Crumb.{capacity};
 
-use crumbs::Crumb;
 use std::alloc::Global;
 use std::io;
 use std::io::{BufReader, Read};
@@ -18,6 +17,7 @@ use std::io::{BufReader, Read};
 // The most crumbs that a buffer has room for.
 const MOST: usize = 4096;
 
+// No `to_digit`: it takes small letters too, which no word has.
 fn digit(b: u8) -> u32 {
     match b {
         b'0'..=b'9' => u32::from(b - b'0'),
@@ -41,28 +41,21 @@ fn words<R: Read, const N: usize>(input: &mut R) -> io::Result<Option<[u32; N]>>
     Ok(Some(words))
 }
 
-// Puts the crumbs that come next to the front of the buffer. False: the input ends before.
-fn fill(input: &mut impl Read, buf: &mut [f32], len: usize) -> io::Result<bool>
-    requires { len ≤ capacity (length buf.old) }
-{
-    for i in 0..len {
-        let Some(words) = words::<_, 3>(input)? else {
+// Fills the line with the crumbs that come next. False: the input ends before.
+fn fill(input: &mut impl Read, line: &mut [f32]) -> io::Result<bool> {
+    for crumb in line.as_chunks_mut::<3>().0 {
+        let Some(words) = words(input)? else {
             return Ok(false);
         };
-        let [east, north, along] = words.map(records::float);
-        crumbs::put(buf, i, Crumb { east, north, along });
+        *crumb = words.map(records::float);
     }
     Ok(true)
 }
 
-// Whether the first crumbs of the buffer are those that come next.
-fn holds(input: &mut impl Read, buf: &[f32], len: usize) -> io::Result<bool>
-    requires { len ≤ capacity (length buf.now) }
-{
-    for i in 0..len {
-        let c = crumbs::crumb_at(buf, i);
-        let patterns = [c.east, c.north, c.along].map(binary32::pattern);
-        if words(input)? != Some(patterns) {
+// Whether the line's crumbs are those that come next.
+fn holds(input: &mut impl Read, line: &[f32]) -> io::Result<bool> {
+    for crumb in line.as_chunks::<3>().0 {
+        if words(input)? != Some(crumb.map(binary32::pattern)) {
             return Ok(false);
         }
     }
@@ -73,7 +66,7 @@ fn holds(input: &mut impl Read, buf: &[f32], len: usize) -> io::Result<bool>
 fn agrees(input: &mut impl Read, buf: &mut [f32], len: usize, tolerance: f32) -> io::Result<bool>
     requires { len ≤ capacity (length buf.old) }
 {
-    if !fill(input, buf, len)? {
+    if !fill(input, &mut buf[..crumbs::STRIDE * len])? {
         return Ok(false);
     }
     let Ok(left) = thin::thin(buf, len, tolerance) else {
@@ -88,7 +81,7 @@ fn agrees(input: &mut impl Read, buf: &mut [f32], len: usize, tolerance: f32) ->
     {
         return Ok(false);
     }
-    holds(input, buf, left.len)
+    holds(input, &buf[..crumbs::STRIDE * left.len])
 }
 
 // Whether the next case agrees. None: there is none.

@@ -26,7 +26,8 @@ pub const WINDOW: usize = 48;
 pub const RETRACE_FIXES: u8 = 8;
 
 // The breadcrumb's state beside the window and the buffer that holds its crumbs. The window has the
-// places since the last kept crumb, oldest first: place i at 2i and 2i + 1, since C and Rust are handed the state as numbers.
+// places since the last kept crumb, oldest first: place i at 2i and 2i + 1. It is an array of numbers, two for each of the 48 places:
+// the C interface lends the state as numbers, and the window is copied from there and back as it stands.
 #[derive(Clone, Copy)]
 pub struct Trail {
     // Crumbs held.
