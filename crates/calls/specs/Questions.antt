@@ -3,6 +3,7 @@ use Rattle.std.specs.Prelude.{ℕ, ◌*◌, ◌^◌, Bool, true, false, ◌&&◌
 use Rattle.std.specs.Prelude.{Float}
 use Rattle.std.specs.Float.{nan, inf, fin}
 use Rattle.std.specs.Float.Ieee.{up, down, le}
+pub use Rattle.refusal.specs.Refusal.{unless}
 use Rattle.binary32.specs.Limits.{plus_zero, size_of}
 use Rattle.plane.specs.declared.Point.{Point}
 use Rattle.std.specs.Prelude.{Option, Some, None}
@@ -136,10 +137,6 @@ asks_fix x = cond (latitude_fits x.lat) (cond (longitude_fits x.lon) 0 3) 2
 infixr 3 ◌or_else◌
 abbrev pub ◌or_else◌ : ℕ → ℕ → ℕ
 ◌or_else◌ a b = cond (eqb a 0) b a
-
--- a question's number where it says no
-abbrev pub unless : Bool → ℕ → ℕ
-unless b n = cond b 0 n
 
 unfoldable pub asks_fixes : List Fix → ℕ
 asks_fixes [] = 0

@@ -31,7 +31,7 @@ pub window-counted : (t : Trail) (f : Follow) (line_len : ℕ) → counted t f l
 window-counted t f line_len e = leb-true t.window_len window_places ((and-eq-true_iff _ _).0 ((and-eq-true_iff _ _).0 e).0).0
 
 -- the held crumbs'
-pub held-counted : (C : ℕ) (h : Homing) (b : List Float)
+pub held_counted : (C : ℕ) (h : Homing) (b : List Float)
     → held_fits C (state_of h b) ≡ (leb h.trail.len C && crumbs_fit (crumbs h.trail.len b))
 unfolding held_fits track
-held-counted C h b = ap (λ n. leb n C && crumbs_fit (crumbs h.trail.len b)) (length-crumbs h.trail.len b)
+held_counted C h b = ap (λ n. leb n C && crumbs_fit (crumbs h.trail.len b)) (length-crumbs h.trail.len b)

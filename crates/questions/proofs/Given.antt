@@ -32,7 +32,7 @@ use Rattle.calls.specs.Questions.{latitude_fits}
 use Rattle.calls.specs.Questions.{longitude_fits, asks_state, asks_crumbs, asks_line, asks_both, asks_guide, asks_fix, asks_fixes, unless}
 use Rattle.calls.specs.Questions.{◌or_else◌}
 use Rattle.questions.specs.Counted.{turned}
-use Rattle.questions.proofs.Counted.{counts-counted, held-counted}
+use Rattle.questions.proofs.Counted.{counts-counted, held_counted}
 
 -- ---- a question that says yes, and the next
 pub passed : (b : Bool) (n : ℕ) → unless b (suc n) ≡ 0 → b ≡ true
@@ -157,7 +157,7 @@ held-given : (size : ℕ) (h : Homing) (b : List Float) → question1 size ≡ t
 held-given size h b one ten =
     let buffer = buffer-given size one in
     let both = (and-eq-true_iff (state_fits (state_of h b)) (held_fits (capacity size) (state_of h b))).0 ten in
-    let own = sym (held-counted (capacity size) h b) ∙ both.1 in
+    let own = sym (held_counted (capacity size) h b) ∙ both.1 in
     let held = (and-eq-true_iff (leb h.trail.len (capacity size)) (crumbs_fit (crumbs h.trail.len b))).0 own in
     let counted = state-fits h b both.0 in
     record {
@@ -215,7 +215,7 @@ line-given line n h b e =
 pub record Lent (h : Homing) (size line_size : ℕ) : Type 0 where
   pub held : Held h size
   pub lined : Lined h line_size 0
-  pub fit : follow.HomingFit h size line_size
+  pub fit : follow.HomingFit h size h.course.line_len
 
 pub both-given : (size : ℕ) (line : List Float) (h : Homing) (b : List Float) → asks_both size line (state_of h b) ≡ 0
     → Lent h size (length line)
@@ -232,7 +232,7 @@ both-given size line h b e =
     record {
       held = held;
       lined = lined;
-      fit = record { trail = held.trail; course = lined.placed; on_trail = held.counted.on_trail; on_course = held.counted.on_course };
+      fit = record { trail = held.trail; on_trail = held.counted.on_trail; on_course = held.counted.on_course };
     }
 
 pub guide-given : (g : Guide) → asks_guide g ≡ 0 → Pointed g

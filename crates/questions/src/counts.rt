@@ -2,22 +2,18 @@
 // tested before anything is read by it, and the numbers behind what is held are never read.
 
 ghost use Rattle.std.specs.Prelude.{◌≡◌, ◌&&◌, ◌≤◌, leb, length};
-ghost use Rattle.refusal.specs.Refusal.{asked};
 ghost use Rattle.crumbs.specs.Crumb.{capacity, crumbs as held_crumbs};
 ghost use Rattle.trail.specs.Trail.{window_places};
 ghost use Rattle.trail.specs.View.{places};
-ghost use Rattle.calls.specs.Questions.{question1, places_fit, crumbs_fit, segment_fits, follow_fits, question4, unless, ◌or_else◌};
+ghost use Rattle.calls.specs.Questions.{question1, places_fit, crumbs_fit, segment_fits, follow_fits, question4};
 ghost use Rattle.questions.specs.Counted.{turned};
 
 use crate::limits;
-use refusal::Refusal;
 use state::Line;
 use trail::Trail;
 
-// The least and the most crumbs that a crumb buffer may have room for.
+// The least crumbs that a crumb buffer may have room for.
 const LEAST: usize = 8;
-
-const MOST: usize = 4096;
 
 // ---- 1 and 4: the buffers
 
@@ -25,7 +21,7 @@ pub fn question1(size: usize) -> bool
     ensures { result ≡ question1 size }
 {
     let room = crumbs::capacity(size);
-    crumbs::whole(size) & (LEAST <= room) & (room <= MOST)
+    crumbs::whole(size) & (LEAST <= room) & (room <= crumbs::MOST)
 }
 
 pub fn question4(size: usize, n: usize) -> bool
@@ -37,7 +33,7 @@ pub fn question4(size: usize, n: usize) -> bool
 
 // ---- 10: what is held. Every one is looked at, so that the loops have no branch.
 
-pub fn window_fits(window: &[f32; 96], window_len: usize) -> bool
+pub fn window_fits(window: &[f32; trail::NUMBERS], window_len: usize) -> bool
     requires { window_len ≤ window_places }
     ensures { result ≡ places_fit (places window_len window.now) }
 {
@@ -93,19 +89,4 @@ pub fn retrace_fits(t: Trail) -> bool
     ensures { result ≡ turned t }
 {
     (t.retrace < trail::RETRACE_FIXES) & ((t.retrace == 0) | (t.retrace_len <= t.len))
-}
-
-// ---- 10, then 4
-
-// Two answers of the rules, each yes or no, told in this order. An enum for the two would have to be made of both at each call.
-pub fn ten_then_four(ten: bool, four: bool) -> Result<(), Refusal>
-    ensures { asked result ≡ (unless ten 10 or_else unless four 4) }
-{
-    if !ten {
-        return Err(Refusal::State);
-    }
-    if !four {
-        return Err(Refusal::LineBuffer);
-    }
-    Ok(())
 }

@@ -59,43 +59,37 @@ fn state_fits(h: &Homing) -> bool
 // ---- the questions a call is asked, by what it is given
 
 // The state alone.
+#[tactic(auto, unfolding(calls::specs::Questions::asks_state))]
 pub fn asks_state(h: &Homing) -> Result<(), Refusal>
     ensures { (b : List Float) → asked result ≡ asks_state (state_of h.now b) }
 {
-    if state_fits(h) {
-        return Ok(());
-    }
-    Err(Refusal::State)
+    Refusal::State.unless(state_fits(h))
 }
 
 // The state and a crumb buffer.
+#[tactic(auto, using(crate::proofs::Counted::held_counted), unfolding(calls::specs::Questions::asks_crumbs))]
 pub fn asks_crumbs(h: &Homing, crumbs: &[f32]) -> Result<(), Refusal>
     ensures { asked result ≡ asks_crumbs (length crumbs.now) (state_of h.now crumbs.now) }
 {
-    if !counts::question1(crumbs.len()) {
-        return Err(Refusal::CrumbBuffer);
-    }
-    if state_fits(h) & counts::held_fits(crumbs, h.trail.len) {
-        return Ok(());
-    }
-    Err(Refusal::State)
+    Refusal::CrumbBuffer.unless(counts::question1(crumbs.len()))?;
+    Refusal::State.unless(state_fits(h) & counts::held_fits(crumbs, h.trail.len))
 }
 
 // The state and a lent line, and `n` points for it.
+#[tactic(auto, unfolding(calls::specs::Questions::asks_line, calls::specs::Questions::line_fits))]
 pub fn asks_line(h: &Homing, line: &[f32], n: usize) -> Result<(), Refusal>
     ensures { (b : List Float) → asked result ≡ asks_line line.now n (state_of h.now b) }
 {
-    let ten = state_fits(h) & counts::held_fits(line, h.course.line_len);
-    let four = counts::question4(line.len(), n);
-    counts::ten_then_four(ten, four)
+    Refusal::State.unless(state_fits(h) & counts::held_fits(line, h.course.line_len))?;
+    Refusal::LineBuffer.unless(counts::question4(line.len(), n))
 }
 
 // The state, a crumb buffer and a lent line.
+#[tactic(auto, using(crate::proofs::Asking::both_split), unfolding(calls::specs::Questions::line_fits))]
 pub fn asks_both(h: &Homing, crumbs: &[f32], line: &[f32]) -> Result<(), Refusal>
     ensures { asked result ≡ asks_both (length crumbs.now) line.now (state_of h.now crumbs.now) }
 {
     asks_crumbs(h, crumbs)?;
-    let ten = counts::held_fits(line, h.course.line_len);
-    let four = counts::question4(line.len(), 0);
-    counts::ten_then_four(ten, four)
+    Refusal::State.unless(counts::held_fits(line, h.course.line_len))?;
+    Refusal::LineBuffer.unless(counts::question4(line.len(), 0))
 }

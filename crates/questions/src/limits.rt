@@ -76,7 +76,7 @@ pub fn spot_fits(spot: Option<Point>) -> bool
 pub fn crumb_fits(c: Crumb) -> bool
     ensures { result ≡ crumb_fits c }
 {
-    place_fits(crumbs::point(c)) & along_fits(c.along)
+    place_fits(Point::from(c)) & along_fits(c.along)
 }
 
 // ---- two crumbs: one that has no number below that of the least, or above that of the most, surely fits
@@ -116,11 +116,9 @@ pub fn shown_fits(shown: Option<Guide>) -> bool
 }
 
 // A guide's own bearing and heading.
+#[tactic(auto, unfolding(calls::specs::Questions::asks_guide))]
 pub fn asks_guide(g: Guide) -> Result<(), Refusal>
     ensures { asked result ≡ asks_guide g }
 {
-    if guide_fits(g) {
-        return Ok(());
-    }
-    Err(Refusal::State)
+    Refusal::State.unless(guide_fits(g))
 }

@@ -1,5 +1,5 @@
 -- The numbers of the questions. Document 01, "Questions put to a call, first no wins".
-use Rattle.std.specs.Prelude.{ℕ, Result, Ok, Err}
+use Rattle.std.specs.Prelude.{ℕ, Bool, cond, Result, Ok, Err}
 use Rattle.refusal.specs.declared.Refusal.{Refusal}
 use Rattle.refusal.specs.declared.Refusal.TheVariants as refusal
 
@@ -19,3 +19,7 @@ number refusal.State = 10
 abbrev pub asked : {A : Type 0} → Result A Refusal → ℕ
 asked (Ok x) = 0
 asked (Err q) = number q
+
+-- a question's number where it says no
+abbrev pub unless : Bool → ℕ → ℕ
+unless b n = cond b 0 n

@@ -2,7 +2,7 @@
 #![tactic(auto)]
 
 ghost use Rattle.std.specs.Prelude.{◌≡◌};
-ghost use Rattle.refusal.specs.Refusal.{number};
+ghost use Rattle.refusal.specs.Refusal.{number, asked, unless};
 
 #[derive(Clone, Copy, PartialEq, Eq)]
 pub enum Refusal {
@@ -31,5 +31,15 @@ impl Refusal {
         ensures { result ≡ number self }
     {
         self as u8
+    }
+
+    // Refuses where the question's answer is no.
+    pub fn unless(self, ok: bool) -> Result<(), Refusal>
+        ensures { asked result ≡ unless ok (number self) }
+    {
+        if ok {
+            return Ok(());
+        }
+        Err(self)
     }
 }

@@ -4,4 +4,4 @@ use Rattle.questions.proofs.limits.crumb_fits.Goals as goal
 
 pub returns : goal.returns
 unfolding crumb_fits
-returns c = simp (← c.point.ensures, ← c.place_fits.ensures, ← c.along_fits.ensures)
+returns c = simp (← c.from.ensures, ← c.place_fits.ensures, ← c.along_fits.ensures)
