@@ -44,8 +44,8 @@ fn no_origin(f: Frame) -> bool
     f.origin.is_none()
 }
 
-// How many points a course has: those with both a latitude and a longitude. The C interface lends two slices,
-// and there is no memory to join them in.
+// How many points a course has: those with both a latitude and a longitude. The C interface lends two slices, and there is no memory to
+// join them in; both in one struct would be taken apart at each point again.
 pub fn count(lats: &[i32], lons: &[i32]) -> usize
     ensures { result ≡ length (fixes lats.now lons.now) }
 {

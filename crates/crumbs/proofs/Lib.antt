@@ -1,2 +1,4 @@
 pub mod Crumbs
 pub mod Choices
+pub mod Fronts
+pub mod Lengths

@@ -2,5 +2,6 @@ pub mod Crumb
 pub mod Line
 pub mod Choice
 pub mod Along
+pub mod Length
 pub mod Inner
 pub mod Bounds

@@ -12,7 +12,7 @@ use plane::Point;
 pub(crate) fn along_to(a: Crumb, p: Point) -> f32
     ensures { result ≡ along_to a p }
 {
-    a.along + plane::distance(crate::point(a), p)
+    a.along + plane::distance(Point::from(a), p)
 }
 
 // Distances along follow the thinned line.

@@ -1,5 +1,5 @@
 // Crumbs from the front of a buffer none of whose numbers is out of bounds. A row of sixteen is looked at number by number, with
-// no branch in it.
+// no branch in it: so it is given the buffer, and not the line that its numbers make.
 
 ghost use Rattle.std.specs.Prelude.{◌≡◌, true, ◌+◌, ◌≤◌, length};
 ghost use Rattle.crumbs.specs.Crumb.{capacity};
@@ -46,13 +46,9 @@ pub fn leading(buf: &[f32], len: usize, least: Crumb, most: Crumb) -> usize
 {
     let low = row_of(least);
     let high = row_of(most);
-    let mut i = 0;
-    // By `while`: `position` would count rows, and need a product where one stops, and another where none does.
-    while ROW <= len - i {
-        if !row_between(buf, i, &low, &high) {
-            return i;
-        }
-        i += ROW;
-    }
-    i
+    let rows = len / ROW;
+    let passed = (0..rows)
+        .position(|k| !row_between(buf, ROW * k, &low, &high))
+        .unwrap_or(rows);
+    ROW * passed
 }

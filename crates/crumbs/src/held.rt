@@ -5,6 +5,7 @@ ghost use Rattle.crumbs.specs.Crumb.{capacity, point, crumbs};
 ghost use Rattle.crumbs.specs.Line.{at};
 ghost use Rattle.crumbs.specs.Choice.{first, last};
 ghost use Rattle.crumbs.specs.Along.{start_of, recorded_m};
+ghost use Rattle.crumbs.specs.Length.{length_m};
 
 use crate::{Crumb, along};
 use plane::Point;
@@ -70,19 +71,30 @@ impl<'a> Crumbs<'a> {
         Some(self.crumb(len - 1))
     }
 
+    // How far along the last crumb lies, where the line has a segment.
+    pub fn length_m(&self) -> Option<f32>
+        ensures { result ≡ length_m self.now }
+    {
+        let len = self.len();
+        if len < 2 {
+            return None;
+        }
+        Some(self.crumb(len - 1).along)
+    }
+
     // Where the line ends: at its last crumb.
     pub fn end(&self) -> Point
         requires { 0 < length self.now }
         ensures { Some result ≡ option_map point (last self.now) }
     {
-        crate::point(self.crumb(self.len() - 1))
+        Point::from(self.crumb(self.len() - 1))
     }
 
     // Where the ride began: at its first crumb, or `p` where none is held.
     pub fn start(&self, p: Point) -> Point
         ensures { result ≡ start_of self.now p }
     {
-        self.first().map_or(p, crate::point)
+        self.first().map_or(p, Point::from)
     }
 
     // How long the line is from the start to `p`.

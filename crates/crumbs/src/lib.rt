@@ -14,6 +14,9 @@ use plane::Point;
 // How many numbers of a buffer a crumb takes.
 pub const STRIDE: usize = 3;
 
+// The most crumbs that a buffer may have room for.
+pub const MOST: usize = 4096;
+
 // A place in metres, and how far along the line it lies.
 #[derive(Clone, Copy)]
 pub struct Crumb {
@@ -23,12 +26,16 @@ pub struct Crumb {
 }
 
 // Where a crumb lies.
-pub fn point(c: Crumb) -> Point
-    ensures { result ≡ point c }
-{
-    Point {
-        east: c.east,
-        north: c.north,
+impl From<Crumb> for Point {
+    ghost from_gives = { λ c p. p ≡ point c };
+
+    fn from(c: Crumb) -> Point
+        ensures { result ≡ point c }
+    {
+        Point {
+            east: c.east,
+            north: c.north,
+        }
     }
 }
 
@@ -64,7 +71,7 @@ pub fn point_at(buf: &[f32], i: usize) -> Point
     requires { i < capacity (length buf.now) }
     ensures { result ≡ point (crumb_at buf.now i) }
 {
-    point(crumb_at(buf, i))
+    Point::from(crumb_at(buf, i))
 }
 
 // Write a crumb to place `i` of the buffer.

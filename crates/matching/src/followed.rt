@@ -14,7 +14,7 @@ use plane::Point;
 use search::course_match::Progress;
 use search::{Range, course_match, rows};
 use segments::costs::Nearest;
-use state::{Course, Follow, Line, Mode};
+use state::{Homing, Line, Mode};
 
 // What is followed: which line, and its crumbs, the segment last matched, whether the rider was off the line, and how far on the course.
 #[derive(Clone, Copy)]
@@ -45,26 +45,20 @@ fn followed_on<'a>(on: Line, course: &'a Crumbs<'a>, crumbs: &'a Crumbs<'a>) -> 
     }
 }
 
-// What is followed, by the groups of the state and its two lines.
-pub fn followed_by<'a>(
-    f: Follow,
-    c: Course,
-    heading: Option<u16>,
-    course: &'a Crumbs<'a>,
-    crumbs: &'a Crumbs<'a>,
-) -> Followed<'a>
-    ensures { IsFollowedBy f c heading course.now crumbs.now result }
+// What is followed in a state, with its two lines.
+pub fn followed_by<'a>(h: &Homing, course: &'a Crumbs<'a>, crumbs: &'a Crumbs<'a>) -> Followed<'a>
+    ensures { IsFollowedBy h.now.follow h.now.course h.now.motion.heading course.now crumbs.now result }
 {
     Followed {
-        on: f.line,
-        line: followed_on(f.line, course, crumbs),
-        segment: f.segment,
-        off: f.off,
+        on: h.follow.line,
+        line: followed_on(h.follow.line, course, crumbs),
+        segment: h.follow.segment,
+        off: h.follow.off,
         was: Progress {
-            along: c.along,
-            reached: c.reached,
-            fix: c.fix,
-            heading,
+            along: h.course.along,
+            reached: h.course.reached,
+            fix: h.course.fix,
+            heading: h.motion.heading,
         },
     }
 }

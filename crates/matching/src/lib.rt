@@ -104,12 +104,12 @@ fn reminded_at(e: Event, now_ms: u64, was_ms: u64) -> u64
 {
     match e {
         Event::OffTrack => now_ms,
-        Event::Nothing => was_ms,
-        Event::Following => was_ms,
-        Event::OnTrack => was_ms,
-        Event::Dropped => was_ms,
-        Event::Arrived => was_ms,
-        Event::CourseEnd => was_ms,
+        Event::Nothing
+        | Event::Following
+        | Event::OnTrack
+        | Event::Dropped
+        | Event::Arrived
+        | Event::CourseEnd => was_ms,
     }
 }
 

@@ -57,7 +57,8 @@ pub fn project(p: Point, a: Point, b: Point) -> Projection
     }
 }
 
-fn at_share(a: Point, b: Point, t: f32) -> Projection
+// The point at the share `t` of the way from `a` to `b`.
+pub fn at_share(a: Point, b: Point, t: f32) -> Projection
     ensures { result ≡ at_share a b t }
 {
     let point = Point {

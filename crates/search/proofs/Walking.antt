@@ -1,7 +1,7 @@
 -- The steps of the searches that stop at their first answer. Assumes nothing.
 use Prim.Native.Nat.{ℕ, zero, suc, ◌+◌, ◌-◌, ◌≤◌, ◌<◌}
 use mathlib.Core.Path.{◌≡◌, refl, sym, ap, ◌∙◌}
-use mathlib.Core.Bool.{Bool, true, false}
+use mathlib.Core.Bool.{Bool, true, false, cond}
 use mathlib.Core.List.{List, ◌∷◌}
 use native.Mathlib.Omega.{arith}
 use native.Mathlib.Numerals.{add-one}
@@ -11,6 +11,7 @@ use lib.Ieee.{Float, lt, le}
 use Rattle.plane.specs.declared.Point.{Point}
 use Rattle.crumbs.specs.declared.Crumb.{Crumb}
 use Rattle.std.specs.Prelude.{Some, None}
+use Rattle.std.specs.List.{range_with_len, prefix_len}
 use Rattle.crumbs.specs.Line.{no_crumb, at}
 use Rattle.search.specs.Course.{joins, joined_from}
 use Rattle.search.specs.Along.{place_before, point_along, at_along, ends}
@@ -100,3 +101,17 @@ module _ (line : List Crumb) (limit : Float) (n : ℕ) where
         let u = rw C at t in
         let e : ends (drop n line) limit ≡ suc (ends (drop (n + 1) line) limit) = ap (λ l. ends l limit) split ∙ rw (u, ends) in
         omega arith
+
+-- of the m places from n on, those in front that hold a crumb within the limit
+pub ends-taken : (line : List Crumb) (limit : Float) (m n : ℕ) → n + m ≡ length line
+    → n + prefix_len (λ k. le (at line k).along limit) (range_with_len n m) ≡ n + ends (drop n line) limit
+ends-taken line limit zero n e = let h = ends-out line limit n (omega arith) in omega (arith, h)
+ends-taken line limit (suc m) n e = by (le (at line n).along limit) refl (ends-taken line limit m (n + 1) (omega arith))
+  where
+    rest : ℕ
+    rest = prefix_len (λ k. le (at line k).along limit) (range_with_len (n + 1) m)
+
+    by : (b : Bool) → le (at line n).along limit ≡ b → n + 1 + rest ≡ n + 1 + ends (drop (n + 1) line) limit
+        → n + cond b (1 + rest) 0 ≡ n + ends (drop n line) limit
+    by false t l = let h = ends-here line limit n (omega arith) refl t in omega (arith, h)
+    by true t l = let h = ends_on line limit n (omega arith) refl t in omega (arith, h, l)

@@ -39,16 +39,15 @@ fn anywhere() -> Stretch
 }
 
 // The nearest segment of the breadcrumb; on a tie the one nearer home. The first segment ends at crumb 1, so each search asks for ends from
-// 1 on: as an invariant of `Range` it would leave half of the clause, which bounds the ends by the line.
+// 1 on. As an invariant of `Range` that would leave half of the clause, which bounds the ends by the line; and a struct of a line and its
+// ends each caller would build for one search, which would take it apart again.
 pub fn nearest_on_breadcrumb(line: &Crumbs, p: Point, ends: Range) -> Option<Nearest>
     requires { (1 ≤ ends.from) × (ends.to < length line.now) }
     ensures { result ≡ nearest_on_breadcrumb line.now p ends }
 {
     let within = anywhere();
-    // That the length fits a usize bounds the sum below.
-    let _ = line.len();
     let mut best = None;
-    for end in ends.from..ends.to + 1 {
+    for end in ends.from..=ends.to {
         let a = line.crumb(end - 1);
         let b = line.crumb(end);
         best = segments::consider(a, b, p, within, Ranking::Plain, end, best);
@@ -70,6 +69,7 @@ pub fn nearest_within(
     // That the length fits a usize bounds the sum below.
     let _ = line.len();
     let mut best = None;
+    // Not by `..=`: downwards its step takes four instructions more, 42 for 38 where the segment may not cost.
     for end in (ends.from..ends.to + 1).rev() {
         let a = line.crumb(end - 1);
         let b = line.crumb(end);
@@ -103,8 +103,8 @@ fn closer(most: f32, best: Option<Nearest>) -> Option<Nearest>
 fn joins(p: Point, heading: u16, a: Crumb, b: Crumb) -> bool
     ensures { result ≡ joins p heading a b }
 {
-    let from = crumbs::point(a);
-    let to = crumbs::point(b);
+    let from = Point::from(a);
+    let to = Point::from(b);
     if !(squares::off_square(p, from, to) < costs::FAR) {
         return false;
     }
@@ -141,10 +141,7 @@ fn point_along(a: Crumb, b: Crumb, along: f32) -> Point
     ensures { result ≡ point_along a b along }
 {
     let t = share_along(a, b, along);
-    Point {
-        east: a.east + t * (b.east - a.east),
-        north: a.north + t * (b.north - a.north),
-    }
+    plane::at_share(Point::from(a), Point::from(b), t).point
 }
 
 // The place `along` metres from the first crumb of a line, at or before segment `end`.
@@ -164,10 +161,7 @@ pub fn at_along(line: &Crumbs, end: usize, along: f32) -> Point
 pub fn ends(line: &Crumbs, limit: f32) -> usize
     ensures { result ≡ ends line.now limit }
 {
-    let mut n = 0;
-    // By `while`: as `take_while(..).count()` over the places it was tried, and the proof did not close.
-    while n < line.len() && line.crumb(n).along <= limit {
-        n += 1;
-    }
-    n
+    (0..line.len())
+        .take_while(|n| line.crumb(*n).along <= limit)
+        .count()
 }

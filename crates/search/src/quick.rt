@@ -16,7 +16,8 @@ use segments::Stretch;
 use segments::costs::{Nearest, Ranking};
 
 // The segment with the least square so far, that square, and the least of those tried before it. No segment is named 0, so `best` is that
-// where there is none: an `Option` beside `before`, which is there from the start, would be looked into at each segment, and is no plainer.
+// where there is none: an `Option` of it and its square would leave out `before`, which is there from the start, and be made anew at each
+// segment.
 #[derive(Clone, Copy)]
 struct Lead {
     best: usize,
@@ -83,10 +84,8 @@ pub fn nearest_on_breadcrumb(line: &Crumbs, p: Point, ends: Range) -> Option<Nea
     ensures { result ≡ nearest_on_breadcrumb line.now p ends }
 {
     let within = crate::anywhere();
-    // That the length fits a usize bounds the sum below.
-    let _ = line.len();
     let mut lead = NO_LEAD;
-    for end in ends.from..ends.to + 1 {
+    for end in ends.from..=ends.to {
         let a = line.crumb(end - 1);
         let b = line.crumb(end);
         lead = consider(a, b, p, within, end, lead);
@@ -165,6 +164,7 @@ fn plainly_within(line: &Crumbs, p: Point, ends: Range, within: Stretch) -> Opti
     // That the length fits a usize bounds the sum below.
     let _ = line.len();
     let mut lead = passed.lead;
+    // Not by `..=`, as in `search::nearest_within`.
     for end in (ends.from..passed.end + 1).rev() {
         let a = line.crumb(end - 1);
         let b = line.crumb(end);

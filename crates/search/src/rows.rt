@@ -30,7 +30,7 @@ fn squares_from(line: &Crumbs, p: Point, first: usize) -> [f32; ROW]
     // That the length fits a usize bounds the sum below.
     let _ = line.len();
     let mut row = [0.0; ROW];
-    // By `k`, here and in `least_of`: a loop over a row is measured in this form, and no branch may come into it.
+    // By `k`: a closure for `from_fn` would capture the line, and promises nothing then.
     for k in 0..ROW {
         row[k] = segments::square_on(line, p, first + k);
     }
@@ -52,8 +52,8 @@ fn least_of(row: &[f32; ROW], bar: f32) -> f32
     ensures { LeastSoFar bar row.now row_length result }
 {
     let mut least = bar;
-    for k in 0..ROW {
-        least = lesser(row[k], least);
+    for x in row {
+        least = lesser(*x, least);
     }
     least
 }

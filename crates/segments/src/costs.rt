@@ -29,7 +29,7 @@ pub struct Nearest {
     pub along: f32,
 }
 
-// By which cost segments are ranked.
+// By which cost segments are ranked. The rules choose by it too, so it is an enum and no closure.
 #[derive(Clone, Copy)]
 pub enum Ranking {
     Plain,

@@ -1,5 +1,6 @@
 // Segments of a line, the breadcrumb or a course: where a position meets one, and whether it is better than the best so far. A segment is
-// named by its far end: it runs from the crumb before to the one at `end`.
+// named by its far end: it runs from the crumb before to the one at `end`. What asks of one segment is given these two crumbs, a and b, as
+// its rule is: a struct of them would be made for each question, and taken apart in it.
 // `costs` says what a match costs by each ranking, `turns` which way a line runs.
 #![tactic(auto)]
 
@@ -57,7 +58,7 @@ pub fn square_on(line: &Crumbs, p: Point, end: usize) -> f32
 pub fn square(a: Crumb, b: Crumb, p: Point) -> f32
     ensures { result ≡ off_square p (point a) (point b) }
 {
-    squares::off_square(p, crumbs::point(a), crumbs::point(b))
+    squares::off_square(p, Point::from(a), Point::from(b))
 }
 
 // Whether a ranking certainly has no cost for the segment from `a` to `b`: it lies further off than `costs::SEARCH_M`. No root
@@ -84,7 +85,7 @@ pub fn may_cost(a: Crumb, b: Crumb, p: Point, within: Stretch, by: Ranking) -> b
 fn meets(a: Crumb, b: Crumb, p: Point, end: usize) -> Nearest
     ensures { result ≡ meets a b p end }
 {
-    let projection = plane::project(p, crumbs::point(a), crumbs::point(b));
+    let projection = plane::project(p, Point::from(a), Point::from(b));
     let point = projection.point;
     Nearest {
         end,

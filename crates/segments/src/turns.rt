@@ -5,7 +5,7 @@ ghost use Rattle.plane.specs.Plane.{turn};
 ghost use Rattle.segments.specs.Turn.{turned, turned_from, against, same_way};
 
 use crumbs::Crumb;
-use plane::TURN;
+use plane::{Point, TURN};
 
 // The turn from the bearing `way` to the bearing `heading`, clockwise.
 pub fn turned(heading: u16, way: u16) -> u16
@@ -19,10 +19,7 @@ pub fn turned(heading: u16, way: u16) -> u16
 pub fn turned_from(heading: u16, from: Crumb, to: Crumb) -> u16
     ensures { result ≡ turned_from heading from to }
 {
-    turned(
-        heading,
-        plane::bearing(crumbs::point(from), crumbs::point(to)),
-    )
+    turned(heading, plane::bearing(Point::from(from), Point::from(to)))
 }
 
 // Whether the course from `b` to `a` runs against the rider's heading.

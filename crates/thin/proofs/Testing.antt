@@ -1,7 +1,8 @@
 -- Several crumbs tested at a time. Assumes nothing.
-use Prim.Native.Nat.{ℕ, ◌+◌, ◌≤◌, ◌<◌}
+use Prim.Native.Nat.{ℕ, zero, suc, ◌+◌, ◌*◌, ◌≤◌, ◌<◌}
 use mathlib.Core.Path.{◌≡◌, sym, ap, ◌∙◌}
 use mathlib.Core.Bool.{Bool, true, ◌&&◌, and-eq-true_iff}
+use native.Mathlib.Nat.{mul-suc}
 use native.Mathlib.Omega.{arith}
 use native.Mathlib.Decide.{dec_le}
 use lib.Ieee.{Float}
@@ -29,6 +30,14 @@ module _ {test : ℕ → Bool} where
       by : (i : ℕ) → from ≤ i → i < to → Dec (mid ≤ i) → test i ≡ true
       by i low high (yes h) = v.at i h high
       by i low high (no h) = u.at i low (omega arith)
+
+  -- n rows of as many, one behind the other
+  pub each-rows : (from size n : ℕ) → ((k : ℕ) → k < n → Each test (from + size * k) (from + size * k + size))
+      → Each test from (from + size * n)
+  each-rows from size zero rows = each_none (omega arith)
+  each-rows from size (suc n) rows =
+      let e : from + size * n + size ≡ from + size * suc n = omega (arith, mul-suc size n) in
+      each-then (each-rows from size n (λ k less. rows k (omega arith))) (rw e at (rows n (omega arith)))
 
   -- one more, joined to the test of those before
   pub each_more : {from to next : ℕ} {b c : Bool} → (b ≡ true → Each test from to) → c ≡ test to → to + 1 ≡ next → (b && c) ≡ true

@@ -1,7 +1,7 @@
 -- The steps of a thinning over a buffer: what the loop over the passes carries on. Assumes nothing.
 use Prim.Native.Nat.{ℕ, suc, ◌+◌, ◌-◌, ◌≤◌, ◌<◌}
 use mathlib.Core.Path.{◌≡◌, refl, sym, ap, ◌∙◌}
-use mathlib.Core.Bool.{true, false}
+use mathlib.Core.Bool.{Bool, true, false}
 use mathlib.Core.List.{List}
 use native.Mathlib.Omega.{arith}
 use native.Mathlib.Numerals.{add-one}
@@ -15,7 +15,9 @@ use Rattle.crumbs.specs.Crumb.{capacity, crumb_at, crumbs, behind}
 use Rattle.crumbs.proofs.Crumbs.{length-crumbs, behind_more, crumb-behind}
 use Rattle.crumbs.proofs.Choices.{choice-length}
 use Rattle.std.specs.Prelude.{Ok, Err}
-use Rattle.refusal.specs.declared.Refusal.TheVariants as refusal
+use Rattle.refusal.specs.declared.Refusal.{Refusal}
+use Rattle.refusal.specs.Refusal.{number, unless}
+use mathlib.Core.Logic.{◌≢◌}
 use Rattle.thin.specs.Crumb.{measuring_pass, halving_pass, doubled, target, Thinning, passes_from, thinning}
 use Rattle.thin.specs.Questions.{question9}
 use Rattle.thin.specs.Promises.{Stood, left, refused, thin_answer, thinned, ThinDone}
@@ -178,12 +180,16 @@ module _ {len : ℕ} {t : Float} {most : ℕ} {buf₀ buf : List Float} {kept : 
           size = still-size;
         }
 
-pub thin-refused : (n : ℕ) (t : Float) (b : List Float) → question9 (length b) n t ≡ false → ThinDone n t b b (Err refusal.Thinning)
-thin-refused n t b e =
+pub thin-refused : {n : ℕ} {t : Float} {b : List Float} (ok : Bool) (q : Refusal) → ok ≡ question9 (length b) n t
+    → number q ≡ unless ok 9
+    → number q ≢ 0
+    → ThinDone n t b b (Err q)
+thin-refused true q told e ne = absurd (ne e)
+thin-refused {n} {t} {b} false q told e ne =
     record {
-      answered = sym (answer-refused (length b) t (crumbs n b) (rw length-crumbs e));
+      answered = ap refused e ∙ sym (answer-refused (length b) t (crumbs n b) (rw length-crumbs (sym told)));
       refused = λ _. refl;
-      held = λ h. absurd (true-false (sym h ∙ e));
+      held = λ h. absurd (true-false (sym h ∙ sym told));
       beyond = refl;
       free = stood-here n b;
       size = refl;

@@ -1,13 +1,13 @@
 // Thinning a full line of crumbs in place. A pass keeps the first crumb and, from each kept crumb,
 // reaches on to the farthest one whose chord passes within the tolerance of every crumb between.
 // Passes repeat at a doubled tolerance until a quarter of the room is free; the last one takes every
-// other crumb.
+// other crumb. A pass writes where it reads, so what only reads is given the buffer and its length too, and not the line that they make.
 #![tactic(auto)]
 
 mod bounds;
 mod rows;
 
-ghost use Rattle.std.specs.Prelude.{◌≡◌, suc, ◌+◌, ◌<◌, ◌≤◌, length, drop, not, Float};
+ghost use Rattle.std.specs.Prelude.{◌≡◌, suc, ◌+◌, ◌<◌, ◌≤◌, length, drop};
 ghost use Rattle.crumbs.specs.Crumb.{capacity, crumb_at, crumbs};
 ghost use Rattle.thin.specs.Crumb.{reach};
 ghost use Rattle.thin.specs.Questions.{question9};
@@ -46,7 +46,8 @@ fn reach(buf: &[f32], len: usize, anchor: usize, bounds: Bounds) -> usize
     end - 1
 }
 
-// Where a pass goes on from `anchor`. Whether it halves is a flag, as in the rules: an enum of two would be turned into it at each call.
+// Where a pass goes on from `anchor`. Whether it halves is a flag, as in the rules: an enum of two would be turned into it at each call,
+// and a closure for the step would be chosen by it.
 fn next(buf: &[f32], len: usize, anchor: usize, bounds: Bounds, halve: bool) -> usize
     requires { (anchor + 2 < len) × (len ≤ capacity (length buf.now)) }
     ensures { result ≡ anchor + step_by halve bounds.tolerance (crumb_at buf.now anchor)
@@ -110,7 +111,7 @@ fn may_thin(size: usize, len: usize, tolerance: f32) -> bool
     let capacity = crumbs::capacity(size);
     crumbs::whole(size)
         & (3 <= capacity)
-        & (capacity <= 4096)
+        & (capacity <= crumbs::MOST)
         & (len <= capacity)
         & (0.0 <= tolerance)
 }
@@ -120,9 +121,7 @@ fn may_thin(size: usize, len: usize, tolerance: f32) -> bool
 pub fn thin(buf: &mut [f32], len: usize, tolerance: f32) -> Result<Thinned, Refusal>
     ensures { ThinDone len tolerance buf.old buf.new result }
 {
-    if !may_thin(buf.len(), len, tolerance) {
-        return Err(Refusal::Thinning);
-    }
+    Refusal::Thinning.unless(may_thin(buf.len(), len, tolerance))?;
     let target = crumbs::capacity(buf.len()) * 3 / 4;
     let mut kept = len;
     let mut doubled = tolerance;

@@ -31,20 +31,16 @@ fn four_near(buf: &[f32], first: usize, a: Point, b: Point, lo: f32) -> bool
 }
 
 // A crumb from `from` on, before which each is off the segment a-b by a square of at most `lo`: by fours, as far as they go before
-// `end`. Counted by hand: a `position` over the fours tells which of them fails, and the crumb would be counted from it, and anew
-// where none does.
+// `end`.
 pub(crate) fn near_from(buf: &[f32], from: usize, end: usize, a: Point, b: Point, lo: f32) -> usize
     requires { (from ≤ end) × (end ≤ capacity (length buf.now)) }
     ensures { (from ≤ result) × (result ≤ end) × Each (near buf.now a b lo) from result }
 {
-    let mut j = from;
-    while 4 <= end - j {
-        if !four_near(buf, j, a, b, lo) {
-            return j;
-        }
-        j += 4;
-    }
-    j
+    let fours = (end - from) / 4;
+    let passed = (0..fours)
+        .position(|k| !four_near(buf, from + 4 * k, a, b, lo))
+        .unwrap_or(fours);
+    from + 4 * passed
 }
 
 // Whether the crumb after crumb `i` is off the chord over it by a square of at least `hi`.
@@ -70,18 +66,14 @@ fn sixteen_far(buf: &[f32], first: usize, hi: f32) -> bool
     all
 }
 
-// A crumb of the first `len`, before which `far` says yes of each: by sixteens, as far as they go. Counted by hand: a `position` over
-// the rows tells which row fails, and the crumb would be counted from it, and anew where none does.
+// A crumb of the first `len`, before which `far` says yes of each: by sixteens, as far as they go.
 pub(crate) fn far_from_start(buf: &[f32], len: usize, hi: f32) -> usize
     requires { (2 ≤ len) × (len ≤ capacity (length buf.now)) }
     ensures { (result + 2 ≤ len) × Each (far buf.now hi) 0 result }
 {
-    let mut n = 0;
-    while ROW + 2 <= len - n {
-        if !sixteen_far(buf, n, hi) {
-            return n;
-        }
-        n += ROW;
-    }
-    n
+    let rows = (len - 2) / ROW;
+    let passed = (0..rows)
+        .position(|k| !sixteen_far(buf, ROW * k, hi))
+        .unwrap_or(rows);
+    ROW * passed
 }

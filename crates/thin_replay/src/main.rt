@@ -14,9 +14,6 @@ use std::alloc::Global;
 use std::io;
 use std::io::{BufReader, Read};
 
-// The most crumbs that a buffer has room for.
-const MOST: usize = 4096;
-
 // No `to_digit`: it takes small letters too, which no word has.
 fn digit(b: u8) -> u32 {
     match b {
@@ -92,7 +89,7 @@ fn replay(alloc: Global, input: &mut impl Read) -> io::Result<Option<bool>> {
     let [capacity, len, tolerance] = words;
     let capacity = capacity as usize;
     let len = len as usize;
-    if capacity > MOST || len > capacity {
+    if capacity > crumbs::MOST || len > capacity {
         return Ok(Some(false));
     }
     let mut buf = vec![in alloc; 0.0f32; crumbs::STRIDE * capacity]?;

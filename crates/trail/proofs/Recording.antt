@@ -17,9 +17,9 @@ use Rattle.crumbs.proofs.Crumbs.{length-crumbs}
 use Rattle.trail.specs.declared.Trail.{Trail}
 use Rattle.trail.specs.Notes.{thinned_in}
 use Rattle.trail.specs.Trail.{window_places, min_step_m, Track, with_window, become, thin, put, keep, flush, wait, strays, simplify, add}
-use Rattle.trail.specs.View.{waiting_at, places, track, TrailFit}
+use Rattle.trail.specs.View.{places, track, TrailFit}
 use Rattle.trail.specs.Inner.{TrailFollows, Recorded, Records, TrailChanges}
-use Rattle.trail.proofs.Window.{length-places, last-places, none-places}
+use Rattle.trail.proofs.Window.{length-places}
 use Rattle.crumbs.proofs.along.Line.{last-crumbs, last_none}
 use Rattle.trail.proofs.Rules.{keep-full, keep-room, flush-none, flush-some, bends, simplify-bends, simplify-straight, add-first}
 use Rattle.trail.proofs.Rules.{near, add-near, add-far}
@@ -101,26 +101,19 @@ empties t w b f =
       beyond = refl;
     }
 
-last-waiting : (t : Trail) (w b : List Float) → 0 < t.window_len → last (track t w b).window ≡ Some (waiting_at w (t.window_len - 1))
-unfolding track
-last-waiting t w b h = last-places t.window_len w h
-
-none-waiting : (t : Trail) (w b : List Float) → t.window_len ≡ 0 → last (track t w b).window ≡ None
-unfolding track
-none-waiting t w b e = rw (e, none-places)
-
-pub flushes-none : {t : Trail} (w b : List Float) → TrailFit t (length b) → t.window_len ≡ 0
+pub flushes-none : {t : Trail} (w b : List Float) → TrailFit t (length b) → None ≡ last (places t.window_len w)
     → Records flush t w b (record { trail = t; thinned = false }) w b
-flushes-none {t} w b f e = records-as (records-still w b f) (sym (flush-none (capacity (length b)) (track t w b) (none-waiting t w b e)))
+unfolding track
+flushes-none {t} w b f e = records-as (records-still w b f) (sym (flush-none (capacity (length b)) (track t w b) (sym e)))
 
-pub flushes : (t : Trail) (w b : List Float) (p : Point) {r : Recorded} {exit : List Float} → 0 < t.window_len
-    → p ≡ waiting_at w (t.window_len - 1)
+pub flushes : (t : Trail) (w b : List Float) (p : Point) {r : Recorded} {exit : List Float} → Some p ≡ last (places t.window_len w)
     → Records (λ C. keep C p) t w b r w exit → Records flush t w b (record { trail = emptied r.trail; thinned = r.thinned }) w exit
-flushes t w b p {r} {exit} some-wait is k =
+unfolding track
+flushes t w b p {r} {exit} is k =
     records-as
     (records-then {R = λ C. keep C p} {S = λ C. become (with_window [])} k (empties r.trail w exit k.follows.fit) (omega arith)
     (λ C u. refl))
-    (sym (flush-some (capacity (length b)) p (track t w b) (last-waiting t w b some-wait ∙ ap Some (sym is))))
+    (sym (flush-some (capacity (length b)) p (track t w b) (sym is)))
 
 -- ---- simplify
 waits-follows : (p : Point) {t r : Trail} {w w' b : List Float} → TrailFit t (length b) → TrailChanges (wait p) t w r w'

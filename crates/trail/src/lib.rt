@@ -4,7 +4,6 @@
 #![tactic(auto)]
 
 ghost use Rattle.std.specs.Prelude.{◌≡◌, List, ◌<◌, ◌≤◌, length, Float};
-ghost use Rattle.std.specs.Option.{unwrap_or};
 ghost use Rattle.crumbs.specs.Crumb.{capacity};
 ghost use Rattle.crumbs.specs.Choice.{last};
 ghost use Rattle.trail.specs.Trail.{window_places, strays, thin, put, keep, flush, wait, simplify, add, reset_track};
@@ -22,12 +21,14 @@ pub const MIN_STEP_M: f32 = 5.0;
 pub const TOLERANCE_M: f32 = 6.0;
 // The most places that wait.
 pub const WINDOW: usize = 48;
+// The numbers of the window: two for each place.
+pub const NUMBERS: usize = 2 * WINDOW;
 // So many fixes in a row back along the breadcrumb follow it.
 pub const RETRACE_FIXES: u8 = 8;
 
-// The breadcrumb's state beside the window and the buffer that holds its crumbs. The window has the
-// places since the last kept crumb, oldest first: place i at 2i and 2i + 1. It is an array of numbers, two for each of the 48 places:
-// the C interface lends the state as numbers, and the window is copied from there and back as it stands.
+// The breadcrumb's counts. The window stands beside them, since they are handed on by value where only they are asked; and so does the
+// buffer that holds the crumbs, which is lent. The window has the places since the last kept crumb, oldest first: place i at 2i and
+// 2i + 1. It is an array of numbers, copied in one piece from those that C lends, and back.
 #[derive(Clone, Copy)]
 pub struct Trail {
     // Crumbs held.
@@ -49,7 +50,7 @@ const EMPTY: Trail = Trail {
 };
 
 // The place `i` of the window.
-pub fn waiting(window: &[f32; 96], i: usize) -> Point
+pub fn waiting(window: &[f32; NUMBERS], i: usize) -> Point
     requires { i < window_places }
     ensures { result ≡ waiting_at window.now i }
 {
@@ -79,19 +80,19 @@ impl Trail {
         };
     }
 
-    // The last place that waits, or `anchor` where none does.
-    fn last(&self, window: &[f32; 96], anchor: Point) -> Point
+    // The last place that waits.
+    fn last(&self, window: &[f32; NUMBERS]) -> Option<Point>
         requires { self.now.window_len ≤ window_places }
-        ensures { result ≡ unwrap_or (last (places self.now.window_len window.now)) anchor }
+        ensures { result ≡ last (places self.now.window_len window.now) }
     {
         if self.window_len == 0 {
-            return anchor;
+            return None;
         }
-        waiting(window, self.window_len - 1)
+        Some(waiting(window, self.window_len - 1))
     }
 
     // `p` waits behind the others.
-    fn wait(&mut self, window: &mut [f32; 96], p: Point)
+    fn wait(&mut self, window: &mut [f32; NUMBERS], p: Point)
         requires { self.old.window_len < window_places }
         ensures { TrailChanges (wait p) self.old window.old self.new window.new }
     {
@@ -102,7 +103,7 @@ impl Trail {
     }
 
     // Whether a straight line from `anchor` to `p` would leave a waiting place too far off.
-    fn strays(&self, window: &[f32; 96], anchor: Point, p: Point) -> bool
+    fn strays(&self, window: &[f32; NUMBERS], anchor: Point, p: Point) -> bool
         requires { self.now.window_len ≤ window_places }
         ensures { result ≡ strays self.now.tolerance anchor p (places self.now.window_len window.now) }
     {
@@ -161,16 +162,15 @@ impl Trail {
     }
 
     // Keep the last place that waits, if one does, and empty the window.
-    pub fn flush(&mut self, window: &[f32; 96], crumbs: &mut [f32]) -> bool
+    pub fn flush(&mut self, window: &[f32; NUMBERS], crumbs: &mut [f32]) -> bool
         requires { TrailFit self.old (length crumbs.old) }
         ensures { Records flush self.old window.now crumbs.old
             (record { trail = self.new; thinned = result }) window.now crumbs.new }
     {
-        let n = self.window_len;
-        if n == 0 {
+        let Some(p) = self.last(window) else {
             return false;
-        }
-        let thinned = self.keep(crumbs, waiting(window, n - 1));
+        };
+        let thinned = self.keep(crumbs, p);
         self.window_len = 0;
         thinned
     }
@@ -178,7 +178,7 @@ impl Trail {
     // `p` waits. Where a place before it strays, or the window is full, the last that waits is kept first.
     fn simplify(
         &mut self,
-        window: &mut [f32; 96],
+        window: &mut [f32; NUMBERS],
         crumbs: &mut [f32],
         anchor: Point,
         p: Point,
@@ -198,7 +198,7 @@ impl Trail {
 
     // The window simplification: keep the last fix before one that would make a straight line from the
     // last kept crumb stray too far.
-    pub fn add(&mut self, window: &mut [f32; 96], crumbs: &mut [f32], p: Point) -> bool
+    pub fn add(&mut self, window: &mut [f32; NUMBERS], crumbs: &mut [f32], p: Point) -> bool
         requires { TrailFit self.old (length crumbs.old) }
         ensures { Records (λ C. add C p) self.old window.old crumbs.old
             (record { trail = self.new; thinned = result }) window.new crumbs.new }
@@ -207,7 +207,8 @@ impl Trail {
             return self.keep(crumbs, p);
         }
         let anchor = Crumbs::new(crumbs, self.len).end();
-        if plane::distance(self.last(window, anchor), p) < MIN_STEP_M {
+        let before = self.last(window).unwrap_or(anchor);
+        if plane::distance(before, p) < MIN_STEP_M {
             return false;
         }
         self.simplify(window, crumbs, anchor, p)

@@ -1,10 +1,10 @@
 -- Rows of crumbs: one filled with a crumb, one that lies between two others, those passed from the front on. Assumes nothing.
-use Prim.Native.Nat.{ℕ, ◌+◌, ◌-◌, ◌*◌, ◌≤◌, ◌<◌}
+use Prim.Native.Nat.{ℕ, ◌+◌, ◌*◌, ◌/◌, ◌%◌, ◌≤◌, ◌<◌}
 use mathlib.Core.Path.{◌≡◌, refl, sym, ap, ◌∙◌, subst}
 use mathlib.Core.Bool.{Bool, true, false, ◌&&◌, false≢true}
 use mathlib.Core.List.{List}
 use native.Mathlib.Omega.{arith}
-use native.Mathlib.Decide.{ℕ_discrete, dec_lt}
+use native.Mathlib.Decide.{ℕ_discrete}
 use lib.ListN.{length, get_or}
 use lib.Ieee.{Float, nan, le}
 use Rattle.crumbs.specs.declared.Crumb.{Crumb}
@@ -91,27 +91,17 @@ tested-end {least} {most} {b} {i} t h holds = record { each = at }
         let a = number (stride * k + 2) (stride * (i + k) + 2) (omega arith) (omega arith) in
         rw (e.0, e.1, n.0, n.1, a.0, a.1)
 
--- ---- those passed: they lie between the rows' first crumbs, which are as all of them
-pub leading-start : (least most : Crumb) (n : ℕ) (b : List Float) → Leading least most n b 0
-leading-start least most n b = record { within = omega arith; each = λ k h. absurd (omega arith) }
-
-module _ {least most : Crumb} {low high b : List Float} {n i : ℕ} (below : RowOf least low) (above : RowOf most high)
-    (l : Leading (crumb_at low 0) (crumb_at high 0) n b i) where
-  pub leading-next : i + row_length ≤ n → RowBetween low high b i → Leading (crumb_at low 0) (crumb_at high 0) n b (i + row_length)
-  leading-next h row = record { within = h; each = λ k less. at k less (dec_lt k i) }
-    where
-      at : (k : ℕ) → k < i + row_length → Dec (k < i) → between (crumb_at low 0) (crumb_at high 0) (crumb_at b k) ≡ true
-      at k less (yes first) = l.each k first
-      at k less (no later) =
-          let j = k - i in
-          let e : i + j ≡ k = omega arith in
-          let r = row.each j (omega arith) in
-          let x = below.each j (omega arith) ∙ sym (below.each 0 (omega arith)) in
-          let y = above.each j (omega arith) ∙ sym (above.each 0 (omega arith)) in
-          rw (x, y, e) at r
-
-  pub leading_end : Leading least most n b i
-  leading_end =
-      let x = below.each 0 (omega arith) in
-      let y = above.each 0 (omega arith) in
-      record { within = l.within; each = λ k less. let f = l.each k less in rw (x, y) at f }
+-- ---- those passed, row by row: each row lies between two that are filled
+pub leading-rows : {least most : Crumb} {low high b : List Float} {n i : ℕ} → RowOf least low → RowOf most high → row_length * i ≤ n
+    → ((k : ℕ) → k < i → RowBetween low high b (row_length * k)) → Leading least most n b (row_length * i)
+leading-rows {least} {most} {low} {high} {b} {n} {i} below above h rows = record { within = h; each = at }
+  where
+    at : (k : ℕ) → k < row_length * i → between least most (crumb_at b k) ≡ true
+    at k less =
+        let q = k / row_length in
+        let j = k % row_length in
+        let e : row_length * q + j ≡ k = omega arith in
+        let r = (rows q (omega arith)).each j (omega arith) in
+        let x = below.each j (omega arith) in
+        let y = above.each j (omega arith) in
+        rw (x, y, e) at r

@@ -4,4 +4,4 @@ use Rattle.crumbs.specs.Crumb.{point}
 use Rattle.crumbs.proofs.point_at.Goals as goal
 
 pub returns : goal.returns
-returns c = c.point.ensures ∙ ap point c.crumb_at.ensures
+returns c = c.from.ensures ∙ ap point c.crumb_at.ensures

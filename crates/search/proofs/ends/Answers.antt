@@ -1,33 +1,24 @@
--- `search::ends` meets its contract: those counted and those of the rest are all.
-use mathlib.Core.Path.{sym, ◌∙◌}
+-- `search::ends` meets its contract: the places taken are those of the crumbs counted.
+use mathlib.Core.Path.{◌∙◌}
 use native.Mathlib.Omega.{arith}
-use Rattle.search.proofs.Walking.{ends_on, ends-here, ends-out}
+use lib.Ieee.{le}
+use lib.ListN.{length}
+use Rattle.std.proofs.Common.{rules}
+use Rattle.std.specs.List.{range_with_len}
+use Rattle.std.proofs.lemmas.Iterator.{YieldsList-from_range}
+use Rattle.std.proofs.lemmas.Iterator.Consumers.{count_from_yields_List}
+use Rattle.std.proofs.lemmas.Iterator.Search.{YieldsList-from_take_while}
+use Rattle.std.proofs.lemmas.List.Folds.{length-prefix_len}
+use Rattle.crumbs.specs.Line.{at}
+use Rattle.search.proofs.Walking.{ends-taken}
 use Rattle.search.proofs.ends.Goals as goal
 
-pub loop-n-init : goal.loop-n-init
-loop-n-init c = (omega arith, omega arith)
-
-pub crumb-requires : goal.crumb-requires
-crumb-requires c = omega arith
-
-pub overflow_add-n : goal.overflow_add-n
-overflow_add-n c = omega arith
-
-pub loop-n-smaller : goal.loop-n-smaller
-loop-n-smaller c = omega arith
-
-pub loop-n-preserved : goal.loop-n-preserved
-loop-n-preserved c = (
-  omega arith,
-  ends_on _ _ _ (omega arith) c.crumb.ensures c.if-crumb-limit.true
-      ∙ c.loop-n.invariant.1,
-)
-
-pub returns-else-crumb-limit : goal.returns-else-crumb-limit
-returns-else-crumb-limit c =
-    sym (ends-here _ _ _ (omega arith) c.crumb.ensures
-    c.if-crumb-limit.false)
-    ∙ c.loop-n.invariant.1
-
-pub returns-after-loop-n : goal.returns-after-loop-n
-returns-after-loop-n c = sym (ends-out _ _ _ (omega arith)) ∙ c.loop-n.invariant.1
+pub returns : goal.returns
+returns c =
+    let n = length c.args.line.now in
+    let e = count_from_yields_List _ c.count.result c.count.ensures.ran
+    (YieldsList-from_take_while _ (λ k. le (at c.args.line.now k).along c.args.limit)
+    (YieldsList-from_range 0 c.len.result n c.take_while.ensures.source (omega (arith, c.len.ensures)))
+    c.take_while.ensures.closure c.take_while.ensures.done (λ x b q k. search rules)) in
+    let t = ends-taken c.args.line.now c.args.limit n 0 (omega arith) in
+    e ∙ length-prefix_len _ (range_with_len 0 n) ∙ omega (arith, t)

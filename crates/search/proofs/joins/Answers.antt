@@ -13,15 +13,15 @@ returns-then-not-off_square c =
     let g = c.args in
     let e = c.off_square.ensures in
     let k = not-joined g.p (point g.a) (point g.b)
-    (simp (← c.point-from.ensures, ← c.point-to.ensures, ← e) c.if-not-off_square.true) in
+    (simp (← c.from-from.ensures, ← c.from-to.ensures, ← e) c.if-not-off_square.true) in
     simp k
 
 pub returns-then-off_segment : goal.returns-then-off_segment
 unfolding joins join_m constant of_bits
 returns-then-off_segment c =
     simp (
-      ← c.point-from.ensures,
-      ← c.point-to.ensures,
+      ← c.from-from.ensures,
+      ← c.from-to.ensures,
       ← c.off_segment.ensures,
       c.if-off_segment.true,
       c.same_way.ensures,
@@ -30,4 +30,4 @@ returns-then-off_segment c =
 pub returns : goal.returns
 unfolding joins join_m constant of_bits
 returns c =
-    simp (← c.point-from.ensures, ← c.point-to.ensures, ← c.off_segment.ensures, c.if-off_segment.false)
+    simp (← c.from-from.ensures, ← c.from-to.ensures, ← c.off_segment.ensures, c.if-off_segment.false)

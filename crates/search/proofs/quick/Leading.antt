@@ -208,15 +208,27 @@ module _ (line : List Crumb) (p : Point) (within : Stretch) (ends : Range) where
   abbrev result : Option Nearest
   result = found (rising rule (count ends) ends.from None)
 
-  pub races-none : {lead : Lead} {end : ℕ} → Races lead end → ends.to < end → lead.best ≡ 0 → None ≡ result
-  races-none {lead} v past z = sym (none_found line p v.sofar lead v.tracks z) ∙ ap found (rises-out v.rises past)
+  -- no end is left
+  pub record Raced (lead : Lead) : Type 0 where
+    pub end : ℕ
+    pub races : Races lead end
+    pub past : ends.to < end
 
-  pub races-one : {lead : Lead} {end : ℕ} {a b : Float} {near : Nearest} → Races lead end → ends.to < end → (lead.best ≡ 0 → ⊥)
+  pub raced : {lead last : Lead} {end : ℕ} → Races lead end → ends.to < end → last ≡ lead → Raced last
+  raced {end = end} v past e = record { end = end; races = subst (λ l. Races l end) (sym e) v; past = past }
+
+  pub races-none : {lead : Lead} → Raced lead → lead.best ≡ 0 → None ≡ result
+  races-none {lead} v z =
+      let w = v.races in
+      sym (none_found line p w.sofar lead w.tracks z) ∙ ap found (rises-out w.rises v.past)
+
+  pub races-one : {lead : Lead} {a b : Float} {near : Nearest} → Raced lead → (lead.best ≡ 0 → ⊥)
       → a ≡ root binary32 lead.least → b ≡ root binary32 lead.before → lt a b ≡ true → near ≡ nearest_on line p lead.best
       → Some near ≡ result
-  races-one {lead} v past z A B h N =
+  races-one {lead} v z A B h N =
+      let w = v.races in
       let k : lt (root binary32 lead.least) (root binary32 lead.before) ≡ true = rw (← A, ← B) h in
-      ap Some N ∙ sym (one_found line p v.sofar lead v.tracks z k) ∙ ap found (rises-out v.rises past)
+      ap Some N ∙ sym (one_found line p w.sofar lead w.tracks z k) ∙ ap found (rises-out w.rises v.past)
 
   -- ---- the same downwards
   pub record Chases (lead : Lead) (end : ℕ) : Type 0 where

@@ -4,4 +4,4 @@ use Rattle.crumbs.proofs.along.along_to.Goals as goal
 
 pub returns : goal.returns
 unfolding along_to
-returns c = simp (c.distance.ensures, c.point.ensures)
+returns c = simp (c.distance.ensures, c.from.ensures)

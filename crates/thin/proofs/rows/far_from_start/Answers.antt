@@ -1,32 +1,18 @@
--- `thin::rows::far_from_start` goes on by rows.
+-- `thin::rows::far_from_start` goes on by sixteens.
+use Prim.Native.Nat.{◌+◌, ◌*◌}
+use mathlib.Core.Path.{refl}
+use native.Mathlib.Nat.{zero-add}
 use native.Mathlib.Omega.{arith}
-use Rattle.thin.proofs.Testing.{each_none, each-then}
+use Rattle.std.proofs.Common.{rules}
+use Rattle.crumbs.proofs.Fronts.{before-first}
+use Rattle.thin.specs.Rows.{far, Each}
+use Rattle.thin.proofs.Testing.{each-rows}
 use Rattle.thin.proofs.rows.far_from_start.Goals as goal
 
-pub loop-n-init : goal.loop-n-init
-loop-n-init c = (omega arith, each_none (omega arith))
-
-pub overflow_add-t-5 : goal.overflow_add-t-5
-overflow_add-t-5 c = omega arith
-
-pub overflow_sub-len : goal.overflow_sub-len
-overflow_sub-len c = omega arith
-
-pub sixteen_far-requires : goal.sixteen_far-requires
-sixteen_far-requires c = omega arith
-
-pub returns-then-not-sixteen_far : goal.returns-then-not-sixteen_far
-returns-then-not-sixteen_far c = c.loop-n.invariant
-
-pub overflow_add-n : goal.overflow_add-n
-overflow_add-n c = omega arith
-
-pub loop-n-smaller : goal.loop-n-smaller
-loop-n-smaller c = omega arith
-
-pub loop-n-preserved : goal.loop-n-preserved
-loop-n-preserved c =
-    (omega arith, each-then c.loop-n.invariant.1 (c.sixteen_far.ensures c.if-not-sixteen_far.false))
-
 pub returns : goal.returns
-returns c = c.loop-n.invariant
+returns c =
+    let f = before-first (λ k. Each (far c.args.buf.now c.args.hi) (16 * k) (16 * k + 16)) c.position.ensures.ran refl
+    (λ x q k. search rules) in
+    let g = rw (← c.unwrap_or-passed.ensures) at f in
+    let w = each-rows {test = far c.args.buf.now c.args.hi} 0 16 c.unwrap_or-passed.result (simp zero-add g.1) in
+    (omega (arith, g.0), simp zero-add at w)

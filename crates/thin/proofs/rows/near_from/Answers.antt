@@ -1,32 +1,16 @@
 -- `thin::rows::near_from` goes on by fours.
+use Prim.Native.Nat.{◌+◌, ◌*◌}
+use mathlib.Core.Path.{refl}
 use native.Mathlib.Omega.{arith}
-use Rattle.thin.proofs.Testing.{each_none, each-then}
+use Rattle.std.proofs.Common.{rules}
+use Rattle.crumbs.proofs.Fronts.{before-first}
+use Rattle.thin.specs.Rows.{near, Each}
+use Rattle.thin.proofs.Testing.{each-rows}
 use Rattle.thin.proofs.rows.near_from.Goals as goal
 
-pub loop-j-init : goal.loop-j-init
-loop-j-init c = (omega arith, omega arith, each_none (omega arith))
-
-pub overflow_sub-end : goal.overflow_sub-end
-overflow_sub-end c = omega arith
-
-pub four_near-requires : goal.four_near-requires
-four_near-requires c = omega arith
-
-pub returns-then-not-four_near : goal.returns-then-not-four_near
-returns-then-not-four_near c = c.loop-j.invariant
-
-pub overflow_add-j : goal.overflow_add-j
-overflow_add-j c = omega arith
-
-pub loop-j-smaller : goal.loop-j-smaller
-loop-j-smaller c = omega arith
-
-pub loop-j-preserved : goal.loop-j-preserved
-loop-j-preserved c = (
-  omega arith,
-  omega arith,
-  each-then c.loop-j.invariant.2 (c.four_near.ensures c.if-not-four_near.false),
-)
-
 pub returns : goal.returns
-returns c = c.loop-j.invariant
+returns c =
+    let f = before-first (λ k. Each (near c.args.buf.now c.args.a c.args.b c.args.lo) (c.args.from + 4 * k) (c.args.from + 4 * k + 4))
+    c.position.ensures.ran refl (λ x q k. search rules) in
+    let g = rw (← c.unwrap_or-passed.ensures) at f in
+    (omega arith, omega (arith, g.0), each-rows c.args.from 4 _ g.1)

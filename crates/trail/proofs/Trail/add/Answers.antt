@@ -19,11 +19,12 @@ pub returns-then-distance : goal.returns-then-distance
 unfolding min_step_m constant round of_bits
 returns-then-distance c =
     adds-near c.args.self.now _ _ c.args.p (omega (arith, c.if-self-eq0.false))
-    (rw c.new.ensures at c.end-anchor.ensures) c.last.ensures c.requires
+    (rw c.new.ensures at c.end-anchor.ensures) (rw c.last.ensures at c.unwrap_or-before.ensures) c.requires
     (rw c.distance.ensures at c.if-distance.true)
 
 pub returns : goal.returns
 unfolding min_step_m constant round of_bits
 returns c =
-    adds-far c.args.self.now _ _ c.args.p (omega (arith, c.if-self-eq0.false)) (rw c.new.ensures at c.end-anchor.ensures) c.last.ensures
+    adds-far c.args.self.now _ _ c.args.p (omega (arith, c.if-self-eq0.false)) (rw c.new.ensures at c.end-anchor.ensures)
+    (rw c.last.ensures at c.unwrap_or-before.ensures)
     (rw c.distance.ensures at c.if-distance.false) c.simplify.ensures

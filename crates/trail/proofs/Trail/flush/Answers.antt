@@ -1,13 +1,11 @@
 -- `trail::Trail::flush` keeps the last place that waits, and empties the window.
-use native.Mathlib.Omega.{arith}
+use mathlib.Core.Path.{sym, ◌∙◌}
 use Rattle.trail.proofs.Recording.{flushes-none, flushes}
 use Rattle.trail.proofs.Trail.flush.Goals as goal
 
-pub returns-then-n-eq0 : goal.returns-then-n-eq0
-returns-then-n-eq0 c = flushes-none c.args.window.now _ c.requires c.if-n-eq0.true
+pub returns-in_default : goal.returns-in_default
+returns-in_default c = flushes-none c.args.window.now _ c.requires (sym c.in_default.is ∙ c.last.ensures)
 
 pub returns : goal.returns
 returns c =
-    flushes c.args.self.now c.args.window.now _ c.waiting.result (omega (arith, c.if-n-eq0.false))
-    c.waiting.ensures
-    (c.keep-thinned.ensures c.args.window.now)
+    flushes c.args.self.now c.args.window.now _ c.in-Some.p (sym c.in-Some.is ∙ c.last.ensures) (c.keep-thinned.ensures c.args.window.now)

@@ -1,5 +1,7 @@
--- `trail::Trail::last` is the last place that waits, or the anchor.
+-- `trail::Trail::last` is the last place that waits.
+use mathlib.Core.Path.{sym, ap, ◌∙◌}
 use native.Mathlib.Omega.{arith}
+use Rattle.std.specs.Prelude.{Some}
 use Rattle.trail.proofs.Window.{last-places, none-places}
 use Rattle.trail.proofs.Trail.last.Goals as goal
 
@@ -9,4 +11,4 @@ returns-then-self-eq0 c = rw (c.if-self-eq0.true, none-places)
 pub returns : goal.returns
 returns c =
     let a = c.args in
-    rw (last-places a.self.now.window_len a.window.now (omega arith)) c.waiting.ensures
+    ap Some c.waiting.ensures ∙ sym (last-places a.self.now.window_len a.window.now (omega arith))

@@ -8,4 +8,4 @@ use Rattle.crumbs.proofs.held.Crumbs.end.Goals as goal
 
 pub returns : goal.returns
 returns c =
-    ap Some (c.point.ensures ∙ ap point (rw c.len.ensures at c.crumb.ensures)) ∙ sym (ap (option_map point) (last-at _ (omega arith)))
+    ap Some (c.from.ensures ∙ ap point (rw c.len.ensures at c.crumb.ensures)) ∙ sym (ap (option_map point) (last-at _ (omega arith)))
