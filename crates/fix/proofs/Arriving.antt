@@ -10,7 +10,6 @@ use Rattle.plane.specs.declared.Point.{Point}
 use Rattle.crumbs.specs.Crumb.{capacity, behind}
 use Rattle.trail.specs.declared.Trail.{Trail}
 use Rattle.trail.specs.View as trail
-use Rattle.trail.specs.Inner.{Recorded, Records}
 use Rattle.motion.specs.Heading.{elapsed}
 use Rattle.state.specs.declared.Frame.{Frame}
 use Rattle.state.specs.declared.Homing.{Homing}
@@ -20,14 +19,9 @@ use Rattle.plane.specs.declared.Fix.{Fix}
 use Rattle.motion.specs.declared.Motion.{Motion}
 use Rattle.motion.specs.Heading.{track_heading}
 use Rattle.lap.specs.declared.Lap.{Lap}
-use Rattle.trail.specs.Trail as trails
-use Rattle.state.specs.declared.Follow.{Follow}
 use Rattle.state.specs.State.{with_motion, with_lap}
-use Rattle.follow.specs.Record.{add_in, after_thinning}
-use Rattle.follow.proofs.Recording.{taken-over}
+use Rattle.follow.specs.Record.{add_in}
 use Rattle.fix.specs.Pass.{passing}
-use Rattle.fix.specs.declared.Ridden.{Ridden}
-use Rattle.fix.specs.Ridden.{ridden, parts}
 use Rattle.follow.specs.View.{Changes, Follows}
 use Rattle.course.specs.Fix.{located, framed}
 use Rattle.std.specs.Option.{is_some}
@@ -50,68 +44,36 @@ module _ (now : ℕ) (h r : Homing) where
   waits e = record { same = λ b. sym (tested false e b); trail = refl }
 
 -- ---- a fix from before a restart
-module _ (h on grown r : Homing) (x : Fix) (now : ℕ) (f : Frame) (p : Point) (there : Homing) (entry exit : List Float) where
-  pub replays : f ≡ located x h.frame → p ≡ framed f x
-      → ((b : List Float) → state_of there b ≡ with_frame f (state_of h b)) → there.trail ≡ h.trail
-      → Changes (headed p now) there on → Follows (λ C. add_in C p) on entry grown exit → Changes (pass_only p) grown r
-      → Follows (λ C. replay C x now) h entry r exit
+module _ (x : Fix) (now : ℕ) {h on grown r : Homing} {f : Frame} (p : Point) {entry exit : List Float} where
+  pub replays : f ≡ located x h.frame → p ≡ framed f x → Changes (λ s. headed p now (with_frame f s)) h on
+      → Follows (λ C. add_in C p) on entry grown exit → Changes (pass_only p) grown r → Follows (λ C. replay C x now) h entry r exit
   unfolding replay
-  replays ef ep same kept c d e =
+  replays ef ep c d e =
       let C = capacity (length entry) in
       let by : Frame → Point → State = λ g q. pass_only q (add_in C q (headed q now (with_frame g (state_of h entry)))).state in
-      let ton : on.trail ≡ h.trail = c.trail ∙ kept in
       record {
         same =
             e.same exit
             ∙ ap (λ (s : State). pass_only p s) d.same
-            ∙ ap (λ (s : State). pass_only p (add_in C p s).state) (c.same entry ∙ ap (λ (s : State). headed p now s) (same entry))
+            ∙ ap (λ (s : State). pass_only p (add_in C p s).state) (c.same entry)
             ∙ ap (λ (q : Point). by f q) ep
             ∙ ap (λ (g : Frame). by g (framed g x)) ef;
         fit = subst (λ (t : Trail). trail.TrailFit t (length exit)) (sym e.trail) d.fit;
         size = d.size;
         beyond =
             subst (λ (t : Trail). behind (max h.trail.len t.len) exit ≡ behind (max h.trail.len t.len) entry) (sym e.trail)
-            (subst (λ (t : Trail). behind (max t.len grown.trail.len) exit ≡ behind (max t.len grown.trail.len) entry) ton
+            (subst (λ (t : Trail). behind (max t.len grown.trail.len) exit ≡ behind (max t.len grown.trail.len) entry) c.trail
             d.beyond);
       }
 
--- the same, each group of the state by itself
-module _ (h : Homing) (x : Fix) (now : ℕ) (f : Frame) (p : Point) (m : Motion) (k : Recorded) (w : List Float) (n : Follow) (l : Lap)
-    (entry exit : List Float) where
-  abbrev there : Homing
-  there = ridden (record { frame = f; motion = h.motion; trail = h.trail; follow = h.follow; lap = h.lap }) h.window h
+pub on-it : (now : ℕ) {h on : Homing} {f : Frame} (p : Point) {m : Motion} → m ≡ track_heading h.motion p now
+    → ((b : List Float) → state_of on b ≡ with_motion m (with_frame f (state_of h b))) → on.trail ≡ h.trail
+    → Changes (λ s. headed p now (with_frame f s)) h on
+unfolding headed
+on-it now {h} {f = f} p e is kept =
+    record { same = λ b. is b ∙ ap (λ (n : Motion). with_motion n (with_frame f (state_of h b))) e; trail = kept }
 
-  abbrev on : Homing
-  on = ridden (record { frame = f; motion = m; trail = h.trail; follow = h.follow; lap = h.lap }) h.window h
-
-  abbrev grown : Homing
-  grown = ridden (record { frame = f; motion = m; trail = k.trail; follow = n; lap = h.lap }) w h
-
-  abbrev pub whole : Homing
-  whole = ridden (record { frame = f; motion = m; trail = k.trail; follow = n; lap = l }) w h
-
-  on-it : m ≡ track_heading h.motion p now → Changes (headed p now) there on
-  unfolding headed
-  on-it e = record { same = λ b. ap (λ (n : Motion). with_motion n (state_of there b)) e; trail = refl }
-
-  grows : Records (λ C. trails.add C p) h.trail h.window entry k w exit → n ≡ after_thinning k.thinned h.follow
-      → Follows (λ C. add_in C p) on entry grown exit
-  unfolding add_in
-  grows did e = taken-over (λ C. trails.add C p) on did e
-
-  passes : l ≡ passing p m.heading h.lap → Changes (pass_only p) grown whole
-  unfolding pass_only passing
-  passes e = record { same = λ b. ap (λ (n : Lap). with_lap n (state_of grown b)) e; trail = refl }
-
-  pub replays-parts : f ≡ located x h.frame → p ≡ framed f x → m ≡ track_heading h.motion p now
-      → Records (λ C. trails.add C p) h.trail h.window entry k w exit
-      → n ≡ after_thinning k.thinned h.follow → l ≡ passing p m.heading h.lap → Follows (λ C. replay C x now) h entry whole exit
-  replays-parts ef ep em did ew el =
-      replays h on grown whole x now f p there entry exit ef ep (λ b. refl) refl (on-it em) (grows did ew) (passes el)
-
--- the groups are those of a state, and are put together to another
-pub replays-whole : {h r : Homing} (x : Fix) (now : ℕ) {g n : Ridden} {w entry exit : List Float} → g ≡ parts h → r ≡ ridden n w h
-    → Follows (λ C. replay C x now) (ridden g h.window h) entry (ridden n w h) exit → Follows (λ C. replay C x now) h entry r exit
-replays-whole {h = h} x now {n = n} {w = w} {entry = entry} {exit = exit} apart together f =
-    subst (λ (t : Homing). Follows (λ C. replay C x now) h entry t exit) (sym together)
-    (subst (λ (k : Ridden). Follows (λ C. replay C x now) (ridden k h.window h) entry (ridden n w h) exit) apart f)
+pub passes : (p : Point) {grown r : Homing} {l : Lap} → l ≡ passing p grown.motion.heading grown.lap
+    → ((b : List Float) → state_of r b ≡ with_lap l (state_of grown b)) → r.trail ≡ grown.trail → Changes (pass_only p) grown r
+unfolding pass_only passing
+passes p {grown} e is kept = record { same = λ b. is b ∙ ap (λ (n : Lap). with_lap n (state_of grown b)) e; trail = kept }

@@ -8,8 +8,9 @@ use Rattle.state.specs.State.{state_of}
 use Rattle.follow.specs.View.{HomingFit}
 use Rattle.calls.specs.Fix.{turned_back}
 
-pub record Ready (h : Homing) (room line_room : ℕ) : Type 0 where
-  pub fit : HomingFit h room line_room
+-- the questions' answers for a state, a crumb buffer and a course of n points
+pub record Ready (h : Homing) (room n : ℕ) : Type 0 where
+  pub fit : HomingFit h room n
   pub retrace : h.trail.retrace < retrace_fixes
   pub back : (h.trail.retrace ≡ 0 → ⊥) → h.trail.retrace_len ≤ h.trail.len
 

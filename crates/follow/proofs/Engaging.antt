@@ -35,7 +35,7 @@ module _ (course : List Crumb) (now : ℕ) (h : Homing) (b : List Float) where
   chosen t e = simp (e, length-crumbs)
 
   pub engaged : (r : Homing) → leads (crumbs h.trail.len b) ≡ true → Changes
-      (engage_at course line.Breadcrumb (h.trail.len - 1) now) h r → Asks (engage course now) h b (record { homing = r; yes = true })
+      (engage_at course line.Breadcrumb (h.trail.len - 1) now) h r → Asks (engage course now) h b r true
   engaged r e c =
       record {
         answered = sym (ap (λ (d : Done Bool). d.answer) (chosen true e));
@@ -43,7 +43,7 @@ module _ (course : List Crumb) (now : ℕ) (h : Homing) (b : List Float) where
         held = same-held h.trail r.trail c.trail;
       }
 
-  pub refused : leads (crumbs h.trail.len b) ≡ false → Asks (engage course now) h b (record { homing = h; yes = false })
+  pub refused : leads (crumbs h.trail.len b) ≡ false → Asks (engage course now) h b h false
   refused e =
       record {
         answered = sym (ap (λ (d : Done Bool). d.answer) (chosen false e));

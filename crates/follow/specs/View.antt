@@ -6,27 +6,18 @@ use Rattle.trail.specs.View as trail
 use Rattle.state.specs.declared.Line.TheVariants as line
 use Rattle.state.specs.declared.Homing.{Homing}
 use Rattle.trail.specs.declared.Trail.{Trail}
-use Rattle.follow.specs.declared.Answered.{Answered}
-use Rattle.follow.specs.declared.Decided.{Decided}
-use Rattle.state.specs.declared.Guided.{Guided}
 use Rattle.state.specs.State.{State, state_of}
-use Rattle.state.specs.Guided.{whole}
 use Rattle.state.specs.Rule.{Done}
 
 -- the placed course in a line buffer
 abbrev pub course_of : Homing → List Float → List Crumb
 course_of h b = crumbs h.course.line_len b
 
--- a state that fits a crumb buffer and a line buffer, as far as following needs it
-pub record HomingFit (h : Homing) (room line_room : ℕ) : Type 0 where
+-- a state that fits a crumb buffer and a course of n points, as far as following needs it
+pub record HomingFit (h : Homing) (room n : ℕ) : Type 0 where
   pub trail : trail.TrailFit h.trail room
-  pub course : h.course.line_len ≤ capacity line_room
   pub on_trail : h.follow.line ≡ line.Breadcrumb → (1 ≤ h.follow.segment) × (h.follow.segment < h.trail.len)
-  pub on_course : h.follow.line ≡ line.Course → (1 ≤ h.follow.segment) × (h.follow.segment < h.course.line_len)
-
--- a state without its window that fits so
-abbrev pub GuidedFit : Guided → ℕ → ℕ → Type 0
-GuidedFit g room line_room = (w : List Float) → HomingFit (whole g w) room line_room
+  pub on_course : h.follow.line ≡ line.Course → (1 ≤ h.follow.segment) × (h.follow.segment < n)
 
 -- A change that leaves the trail, and so the crumbs, alone: it is the rule's whatever the buffer holds.
 pub record Changes (rule : State → State) (h r : Homing) : Type 0 where
@@ -50,11 +41,7 @@ pub record SameHeld (t r : Trail) : Type 0 where
   pub waiting : r.window_len ≡ t.window_len
 
 -- A rule that answers yes or no and keeps no crumb, on a crumb buffer b.
-pub record Asks (rule : State → Done Bool) (h : Homing) (b : List Float) (r : Answered) : Type 0 where
-  pub answered : r.yes ≡ (rule (state_of h b)).answer
-  pub same : state_of r.homing b ≡ (rule (state_of h b)).state
-  pub held : SameHeld h.trail r.homing.trail
-
--- the state with this window, and the answer beside it
-abbrev pub decided_in : Decided → List Float → Answered
-decided_in e w = record { homing = whole e.guided w; yes = e.yes }
+pub record Asks (rule : State → Done Bool) (h : Homing) (b : List Float) (r : Homing) (yes : Bool) : Type 0 where
+  pub answered : yes ≡ (rule (state_of h b)).answer
+  pub same : state_of r b ≡ (rule (state_of h b)).state
+  pub held : SameHeld h.trail r.trail

@@ -10,17 +10,23 @@ use state::{Course, Follow, Line};
 
 // ---- what is followed
 
+// Nothing is followed.
+pub const UNFOLLOWED: Follow = Follow {
+    line: Line::Nothing,
+    segment: 0,
+    matched: None,
+    off: false,
+    reminded_ms: 0,
+};
+
 // A following of the breadcrumb is over, without a cut; one of the course goes on.
 fn left(f: Follow) -> Follow
     ensures { result ≡ ended_by_thinning f.line f }
 {
     match f.line {
         Line::Breadcrumb => Follow {
-            line: Line::Nothing,
-            segment: 0,
-            matched: None,
-            off: false,
-            ..f
+            reminded_ms: f.reminded_ms,
+            ..UNFOLLOWED
         },
         Line::Nothing | Line::Course => f,
     }
@@ -87,9 +93,7 @@ pub fn course_from(c: Course, line: &Crumbs, end: usize) -> Course
 pub fn leads(crumbs: &Crumbs) -> bool
     ensures { result ≡ leads crumbs.now }
 {
-    let len = crumbs.len();
-    if len < 2 {
-        return false;
-    }
-    !(crumbs.crumb(len - 1).along < trail::MIN_STEP_M)
+    crumbs
+        .length_m()
+        .is_some_and(|length| !(length < trail::MIN_STEP_M))
 }

@@ -18,28 +18,26 @@ const MIN_TRACK_M: f32 = 300.0;
 const BAR: f32 = 250000.015625;
 
 // Where the rider is to arrive: the course's end while it is followed, else the start.
-pub fn goal_on(on: Line, line: &Crumbs, start: Point) -> Point
-    ensures { result ≡ goal_on on line.now start }
+pub fn goal_on(on: Line, course: &Crumbs, start: Point) -> Point
+    ensures { result ≡ goal_on on course.now start }
 {
     match on {
-        Line::Course => line.start(start),
+        Line::Course => course.start(start),
         Line::Nothing | Line::Breadcrumb => start,
     }
 }
 
 // Whether the breadcrumb is long enough to arrive at its start; following a course, the end that counts
 // is the course's.
-pub fn long_enough(course: bool, crumbs: &Crumbs) -> bool
-    ensures { result ≡ long_enough course crumbs.now }
+pub fn long_enough(on_course: bool, crumbs: &Crumbs) -> bool
+    ensures { result ≡ long_enough on_course crumbs.now }
 {
-    if course {
+    if on_course {
         return false;
     }
-    let len = crumbs.len();
-    if len < 2 {
-        return false;
-    }
-    crumbs.crumb(len - 1).along >= MIN_TRACK_M
+    crumbs
+        .length_m()
+        .is_some_and(|length| length >= MIN_TRACK_M)
 }
 
 // Arrived, or the mode of the way.
@@ -63,11 +61,11 @@ pub fn aim(p: Point, goal: Point, target: Point) -> Point
 }
 
 // Whether segment `end` of the course lies within `distances::DROP_M`. A square of `BAR` or more has a root above that.
-fn lies_near(line: &Crumbs, p: Point, end: usize) -> bool
-    requires { (1 ≤ end) × (end < length line.now) }
-    ensures { result ≡ lies_near line.now p end }
+fn lies_near(course: &Crumbs, p: Point, end: usize) -> bool
+    requires { (1 ≤ end) × (end < length course.now) }
+    ensures { result ≡ lies_near course.now p end }
 {
-    let square = segments::square_on(line, p, end);
+    let square = segments::square_on(course, p, end);
     if square < BAR {
         return binary32::sqrtf(square) <= distances::DROP_M;
     }
@@ -75,11 +73,11 @@ fn lies_near(line: &Crumbs, p: Point, end: usize) -> bool
 }
 
 // Whether some segment of the course lies within `distances::DROP_M`.
-fn some_near(line: &Crumbs, p: Point) -> bool
-    ensures { result ≡ some_near line.now p (length line.now - 1) }
+fn some_near(course: &Crumbs, p: Point) -> bool
+    ensures { result ≡ some_near course.now p (length course.now - 1) }
 {
-    for end in (1..line.len()).rev() {
-        if lies_near(line, p, end) {
+    for end in (1..course.len()).rev() {
+        if lies_near(course, p, end) {
             return true;
         }
     }
@@ -87,26 +85,26 @@ fn some_near(line: &Crumbs, p: Point) -> bool
 }
 
 // Whether the course's nearest segment lies within `distances::DROP_M`: some segment does, and the first tried is no NaN away.
-fn found_near(line: &Crumbs, p: Point) -> bool
-    ensures { result ≡ found_any (course_near line.now p drop_m) }
+fn found_near(course: &Crumbs, p: Point) -> bool
+    ensures { result ≡ found_any (course_near course.now p drop_m) }
 {
-    let len = line.len();
+    let len = course.len();
     if len < 2 {
         return false;
     }
-    let first = segments::square_on(line, p, len - 1);
+    let first = segments::square_on(course, p, len - 1);
     if !first.is_nan() {
-        return some_near(line, p);
+        return some_near(course, p);
     }
     false
 }
 
 // The course is near where nothing is followed and it lies within `distances::DROP_M`.
-pub fn near_course(on: Line, line: &Crumbs, p: Point) -> bool
-    ensures { result ≡ near_course on line.now p }
+pub fn near_course(on: Line, course: &Crumbs, p: Point) -> bool
+    ensures { result ≡ near_course on course.now p }
 {
     match on {
-        Line::Nothing => found_near(line, p),
+        Line::Nothing => found_near(course, p),
         Line::Breadcrumb | Line::Course => false,
     }
 }

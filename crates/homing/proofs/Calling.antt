@@ -80,7 +80,7 @@ module _ (c : Call) (h r : Homing) (entry exit : List Float) where
 
 -- ---- what the inner functions require
 pub ready : (size : ℕ) (line : List Float) (h : Homing) (b : List Float) → asks_both size line (state_of h b) ≡ 0
-    → Ready h size (length line)
+    → Ready h size h.course.line_len
 ready size line h b e =
     let g = both-given size line h b e in
     record { fit = g.fit; retrace = g.held.counted.retrace; back = g.held.counted.retrace_len }

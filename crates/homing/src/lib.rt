@@ -22,10 +22,8 @@ use steer::following;
 pub fn new(crumbs: &[f32]) -> Result<Homing, Refusal>
     ensures { MakesNew crumbs.now result }
 {
-    if counts::question1(crumbs.len()) {
-        return Ok(steer::new());
-    }
-    Err(Refusal::CrumbBuffer)
+    Refusal::CrumbBuffer.unless(counts::question1(crumbs.len()))?;
+    Ok(steer::new())
 }
 
 // Forget the breadcrumb: a new ride starts where its first fix is.
@@ -33,7 +31,7 @@ pub fn reset(h: &mut Homing) -> Result<(), Refusal>
     ensures { DoesReset h.old h.new result }
 {
     questions::asks_state(h)?;
-    *h = steer::reset(*h);
+    steer::reset(h);
     Ok(())
 }
 
@@ -42,7 +40,7 @@ pub fn end_replay(h: &mut Homing) -> Result<(), Refusal>
     ensures { EndsReplay h.old h.new result }
 {
     questions::asks_state(h)?;
-    *h = fix::end_replay(*h);
+    fix::end_replay(h);
     Ok(())
 }
 
@@ -68,7 +66,7 @@ pub fn set_course(
     ensures { SetsCourse (fixes lats.now lons.now) h.old line.old h.new result line.new }
 {
     asks_course(h, line, lats, lons)?;
-    *h = steer::set_course(*h, line, lats, lons);
+    steer::set_course(h, line, lats, lons);
     Ok(())
 }
 
@@ -93,16 +91,14 @@ fn seen(
     ensures { Observes line.now (Some fix) now_ms h.old crumbs.old h.new result crumbs.new }
 {
     asks_seen(h, crumbs, line, fix)?;
-    let t = fix::observe::seen(*h, crumbs, line, fix, now_ms);
-    *h = t.homing;
-    Ok(t.event)
+    Ok(fix::observe::seen(h, crumbs, line, fix, now_ms))
 }
 
 fn missing(h: &mut Homing, crumbs: &[f32], line: &[f32], now_ms: u64) -> Result<Event, Refusal>
     ensures { Observes line.now None now_ms h.old crumbs.now h.new result crumbs.now }
 {
     questions::asks_both(h, crumbs, line)?;
-    *h = fix::missing(*h, now_ms);
+    fix::missing(h, now_ms);
     Ok(Event::Nothing)
 }
 
@@ -135,7 +131,7 @@ pub fn replay(h: &mut Homing, crumbs: &mut [f32], fix: Fix, at_ms: u64) -> Resul
     ensures { Replays fix at_ms h.old crumbs.old h.new result crumbs.new }
 {
     asks_replay(h, crumbs, fix)?;
-    *h = fix::replay(*h, crumbs, fix, at_ms);
+    fix::replay(h, crumbs, fix, at_ms);
     Ok(())
 }
 
@@ -146,7 +142,7 @@ pub fn set_auto_follow(h: &mut Homing, crumbs: &mut [f32], on: bool) -> Result<(
     ensures { SetsAuto on h.old crumbs.old h.new result crumbs.new }
 {
     questions::asks_crumbs(h, crumbs)?;
-    *h = following::set_auto_follow(*h, crumbs, on);
+    following::set_auto_follow(h, crumbs, on);
     Ok(())
 }
 
@@ -161,7 +157,5 @@ pub fn set_following(
     ensures { SetsFollowing line.now follow now_ms h.old crumbs.old h.new result crumbs.new }
 {
     questions::asks_both(h, crumbs, line)?;
-    let a = following::set_following(*h, crumbs, line, follow, now_ms);
-    *h = a.homing;
-    Ok(a.yes)
+    Ok(following::set_following(h, crumbs, line, follow, now_ms))
 }

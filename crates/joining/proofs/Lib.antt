@@ -1,3 +1,2 @@
 -- Facts that the functions' proofs share.
-pub mod Joins
 pub mod Counting

@@ -3,111 +3,70 @@
 
 mod retrace;
 
-ghost use Rattle.std.specs.Prelude.{◌≡◌, ◌+◌, ◌≤◌, ◌<◌, min, ◌&&◌, not, List, leb, Float, length};
-ghost use Rattle.crumbs.specs.Crumb.{capacity, crumbs as held};
-ghost use Rattle.state.specs.State.{State, with_course, with_auto_follow};
-ghost use Rattle.joining.specs.Join.{join_on, join_with, joining, retracing};
-ghost use Rattle.joining.specs.View.{Joins, Retraces};
+ghost use Rattle.std.specs.Prelude.{◌≡◌, ◌≤◌, ◌<◌, List, Float, length};
+ghost use Rattle.crumbs.specs.Crumb.{capacity};
+ghost use Rattle.state.specs.State.{state_of};
+ghost use Rattle.follow.specs.View.{Asks};
+ghost use Rattle.joining.specs.Join.{join_on, join_with, may_join, joining, retracing};
 
 use crumbs::held::Crumbs;
 use plane::Point;
-use state::Course;
-use trail::Trail;
-
-// The course after a fix, and whether enough fixes in a row ran along it. Both are there either way, as in `Retraced`: no Option.
-#[derive(Clone, Copy)]
-pub struct Joined {
-    pub course: Course,
-    pub yes: bool,
-}
-
-// Not one type with `Joined`: the promises of each name its own group of the state.
-// The breadcrumb's counts after a fix, and whether enough fixes in a row ran back along it.
-#[derive(Clone, Copy)]
-pub struct Retraced {
-    pub trail: Trail,
-    pub yes: bool,
-}
+use state::Homing;
 
 // ---- along the course
 
 // Fixes in a row along the course.
 const JOIN_FIXES: u8 = 5;
 
-fn join_on(c: Course, join: Option<usize>) -> Joined
-    ensures { (s : State) → Joins (join_on join) (with_course c s) result }
+fn join_on(h: &mut Homing, join: Option<usize>) -> bool
+    ensures { (b : List Float) → Asks (join_on join) h.old b h.new result }
 {
-    match join {
-        Some(end) => {
-            let fixes = c.join_fixes.saturating_add(1);
-            let mut course = c;
-            course.join_fixes = fixes;
-            course.join_end = end;
-            Joined {
-                course,
-                yes: JOIN_FIXES <= fixes,
-            }
-        }
-        None => {
-            let mut course = c;
-            course.join_fixes = 0;
-            Joined { course, yes: false }
-        }
-    }
+    let Some(end) = join else {
+        h.course.join_fixes = 0;
+        return false;
+    };
+    h.course.join_fixes = h.course.join_fixes.saturating_add(1);
+    h.course.join_end = end;
+    JOIN_FIXES <= h.course.join_fixes
 }
 
-fn may_join(auto_follow: bool, c: Course) -> bool
-    ensures { result ≡ auto_follow && not c.held && leb 2 c.line_len }
+#[tactic(auto, unfolding(crate::specs::Join::may_join))]
+fn may_join(h: &Homing, course: &Crumbs) -> bool
+    ensures { (b : List Float) → result ≡ may_join course.now (state_of h.now b) }
 {
-    auto_follow && !c.held && 2 <= c.line_len
+    h.auto_follow && !h.course.held && 2 <= course.len()
 }
 
-fn join_with(
-    auto_follow: bool,
-    c: Course,
-    heading: Option<u16>,
-    line: &[f32],
-    p: Point,
-) -> Option<usize>
-    requires { c.line_len ≤ capacity (length line.now) }
-    ensures { (s : State) → result ≡ join_with heading (held c.line_len line.now) p
-        (with_course c (with_auto_follow auto_follow s)) }
+#[tactic(auto, unfolding(crate::specs::Join::join_with))]
+fn join_with(h: &Homing, course: &Crumbs, p: Point) -> Option<usize>
+    ensures { (b : List Float) → result ≡ join_with h.now.motion.heading course.now p (state_of h.now b) }
 {
-    let known = heading?;
-    if may_join(auto_follow, c) {
-        return search::joined(&Crumbs::new(line, c.line_len), p, known);
+    let known = h.motion.heading?;
+    if may_join(h, course) {
+        return search::joined(course, p, known);
     }
     None
 }
 
 // Whether this fix continues a ride along the course, its way, for long enough to follow it.
-pub fn joining(auto_follow: bool, c: Course, heading: Option<u16>, line: &[f32], p: Point) -> Joined
-    requires { c.line_len ≤ capacity (length line.now) }
-    ensures { (s : State) → s.motion.heading ≡ heading
-        → Joins (joining (held c.line_len line.now) p) (with_course c (with_auto_follow auto_follow s)) result }
+pub fn joining(h: &mut Homing, course: &Crumbs, p: Point) -> bool
+    ensures { (b : List Float) → Asks (joining course.now p) h.old b h.new result }
 {
-    let join = join_with(auto_follow, c, heading, line, p);
-    join_on(c, join)
+    let join = join_with(h, course, p);
+    join_on(h, join)
 }
 
 // Whether this fix continues a ride back along the breadcrumb for long enough to follow it.
-pub fn retracing(t: Trail, heading: Option<u16>, crumbs: &[f32], p: Point) -> Retraced
-    requires { (t.len ≤ capacity (length crumbs.now)) × (t.retrace < 255) }
-    ensures { (w : List Float) (s : State) → s.motion.heading ≡ heading
-        → Retraces (retracing p) t w crumbs.now s result }
+pub fn retracing(h: &mut Homing, crumbs: &[f32], p: Point) -> bool
+    requires { (h.old.trail.len ≤ capacity (length crumbs.now)) × (h.old.trail.retrace < 255) }
+    ensures { Asks (retracing p) h.old crumbs.now h.new result }
 {
-    if retrace::rides_back(&Crumbs::new(crumbs, t.len), p, heading) {
-        let fixes = t.retrace + 1;
-        let retrace_len = retrace::len_before(t);
-        let mut trail = t;
-        trail.retrace = fixes;
-        trail.retrace_len = retrace_len;
-        return Retraced {
-            trail,
-            yes: trail::RETRACE_FIXES <= fixes,
-        };
+    let line = Crumbs::new(crumbs, h.trail.len);
+    if retrace::rides_back(&line, p, h.motion.heading) {
+        h.trail.retrace_len = retrace::len_before(h.trail);
+        h.trail.retrace += 1;
+        return trail::RETRACE_FIXES <= h.trail.retrace;
     }
-    let mut trail = t;
-    trail.retrace = 0;
-    Retraced { trail, yes: false }
+    h.trail.retrace = 0;
+    false
 }

@@ -49,30 +49,25 @@ fn against_near(crumbs: &Crumbs, heading: u16, best: Option<Nearest>) -> bool
     requires { InLine (length crumbs.now) best }
     ensures { result ≡ against_near crumbs.now heading best }
 {
+    // No `is_some_and`: of a closure that captures a line, which holds a borrow, nothing is known, even with clauses of its own.
     let Some(near) = best else {
         return false;
     };
-    if near.off < RETRACE_M {
-        let a = crumbs.crumb(near.end - 1);
-        let b = crumbs.crumb(near.end);
-        return backwards(heading, a, b);
-    }
-    false
+    near.off < RETRACE_M && backwards(heading, crumbs.crumb(near.end - 1), crumbs.crumb(near.end))
 }
 
 // Whether a fix with this heading runs back over the breadcrumb.
 pub fn rides_back(crumbs: &Crumbs, p: Point, heading: Option<u16>) -> bool
     ensures { result ≡ rides_back heading crumbs.now p }
 {
+    // No `is_some_and` here either: its closure would capture the line too, and hold all that follows.
     let Some(known) = heading else {
         return false;
     };
-    let len = crumbs.len();
-    if len < 2 {
+    let Some(length) = crumbs.length_m() else {
         return false;
-    }
-    let limit = crumbs.crumb(len - 1).along - RETRACE_SKIP_M;
-    let n = search::ends(crumbs, limit);
+    };
+    let n = search::ends(crumbs, length - RETRACE_SKIP_M);
     let best = nearest_before(crumbs, p, n);
     against_near(crumbs, known, best)
 }

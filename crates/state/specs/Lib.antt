@@ -1,4 +1,3 @@
 pub mod State
 pub mod Rule
 pub mod Guide
-pub mod Guided

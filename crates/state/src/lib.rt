@@ -1,8 +1,4 @@
-// The guide's state, in groups, by value beside the lent buffers.
-#![tactic(auto)]
-
-ghost use Rattle.std.specs.Prelude.{◌≡◌};
-ghost use Rattle.state.specs.Guided.{guided_of, whole};
+// The guide's state, in groups. The crumb buffer and the course's line are lent beside it.
 
 use lap::Lap;
 use motion::Motion;
@@ -17,6 +13,7 @@ pub enum Line {
     Course,
 }
 
+// In this order: C is told a mode's number.
 #[derive(Clone, Copy, PartialEq, Eq)]
 pub enum Mode {
     // Straight to the start.
@@ -29,7 +26,7 @@ pub enum Mode {
     Arrived,
 }
 
-// What a fix changed, for a nudge.
+// What a fix changed, for a nudge. In this order: C is told an event's number.
 #[derive(Clone, Copy, PartialEq, Eq)]
 pub enum Event {
     Nothing,
@@ -120,9 +117,8 @@ pub struct Follow {
 #[derive(Clone, Copy)]
 pub struct Homing {
     pub trail: Trail,
-    // The places that wait, as numbers: place i at 2i and 2i + 1. The C interface lends the state as numbers, and these 96 are copied
-    // from there and back as they stand.
-    pub window: [f32; 96],
+    // The places that wait, beside the counts of `Trail`.
+    pub window: [f32; trail::NUMBERS],
     pub frame: Frame,
     // The fix last acted on.
     pub fed: Option<Fix>,
@@ -137,65 +133,4 @@ pub struct Homing {
     pub lap: Lap,
     pub updated_ms: u64,
     pub guide: Option<Guide>,
-}
-
-// The state without the window: it goes by value on the way of a fix, and the window is lent beside it, so that its 384 bytes are not
-// copied from function to function: an `observe` copies 5.5 KB this way, and 10 KB with the window. The fields of `Homing` stand here
-// once more, and are copied one by one, since the rules name each as a field of it.
-#[derive(Clone, Copy)]
-pub struct Guided {
-    pub trail: Trail,
-    pub frame: Frame,
-    pub fed: Option<Fix>,
-    pub here: Option<Point>,
-    pub here_ms: u64,
-    pub motion: Motion,
-    pub follow: Follow,
-    pub course: Course,
-    pub auto_follow: bool,
-    pub arrived: bool,
-    pub lap: Lap,
-    pub updated_ms: u64,
-    pub guide: Option<Guide>,
-}
-
-pub fn without_window(h: Homing) -> Guided
-    ensures { result ≡ guided_of h }
-{
-    Guided {
-        trail: h.trail,
-        frame: h.frame,
-        fed: h.fed,
-        here: h.here,
-        here_ms: h.here_ms,
-        motion: h.motion,
-        follow: h.follow,
-        course: h.course,
-        auto_follow: h.auto_follow,
-        arrived: h.arrived,
-        lap: h.lap,
-        updated_ms: h.updated_ms,
-        guide: h.guide,
-    }
-}
-
-pub fn with_window(g: Guided, window: [f32; 96]) -> Homing
-    ensures { result ≡ whole g window }
-{
-    Homing {
-        trail: g.trail,
-        window,
-        frame: g.frame,
-        fed: g.fed,
-        here: g.here,
-        here_ms: g.here_ms,
-        motion: g.motion,
-        follow: g.follow,
-        course: g.course,
-        auto_follow: g.auto_follow,
-        arrived: g.arrived,
-        lap: g.lap,
-        updated_ms: g.updated_ms,
-        guide: g.guide,
-    }
 }

@@ -1,15 +1,19 @@
 -- A course set. Assumes nothing.
-use mathlib.Core.Path.{◌≡◌, sym, ap, ◌∙◌, subst}
+use mathlib.Core.Path.{◌≡◌, refl, sym, ap, ◌∙◌, subst}
 use Prim.Native.Nat.{ℕ}
-use mathlib.Core.Bool.{Bool}
+use denote.Enum.Bare.{sameb}
+use mathlib.Core.Bool.{Bool, cond}
 use mathlib.Core.List.{List}
 use lib.ListN.{length}
 use lib.Ieee.{Float}
 use Rattle.crumbs.specs.Crumb.{crumbs, behind}
+use Rattle.state.specs.contracts.Line.{the_type}
 use Rattle.state.specs.declared.Line.{Line}
+use Rattle.state.specs.declared.Line.TheVariants as line
 use Rattle.state.specs.declared.Course.{Course}
 use Rattle.state.specs.declared.Homing.{Homing}
 use Rattle.state.specs.State.{State, state_of, with_course}
+use Rattle.follow.specs.Engage.{stop_course}
 use Rattle.follow.specs.View.{Changes}
 use Rattle.plane.specs.declared.Fix.{Fix}
 use Rattle.course.specs.Course.{line_of, waits}
@@ -17,10 +21,23 @@ use Rattle.course.specs.View.{Places}
 use Rattle.calls.specs.Line.{lined, off_course, set_course}
 use Rattle.steer.specs.View.{SetsLine}
 
--- by the line that is followed
-pub off-by : (l : Line) (h r : Homing) → h.follow.line ≡ l → ((b : List Float) → state_of r b ≡ off_course l (state_of h b))
+-- by whether the course is followed
+off-on : (l : Line) (s : State) → off_course l s ≡ cond (sameb the_type l line.Course) (stop_course s) s
+unfolding off_course
+off-on line.Nothing s = refl
+off-on line.Breadcrumb s = refl
+off-on line.Course s = refl
+
+pub off-by : {b : Bool} (h r : Homing) → b ≡ sameb the_type h.follow.line line.Course
+    → ((x : List Float) → state_of r x ≡ cond b (stop_course (state_of h x)) (state_of h x))
     → r.trail ≡ h.trail → Changes (off_course h.follow.line) h r
-off-by l h r told same kept = record { same = λ b. same b ∙ sym (ap (λ (x : Line). off_course x (state_of h b)) told); trail = kept }
+off-by h r is same kept =
+    record {
+      same = λ x.
+          let s = state_of h x in
+          same x ∙ ap (λ (b : Bool). cond b (stop_course s) s) is ∙ sym (off-on h.follow.line s);
+      trail = kept;
+    }
 
 -- the course of a state replaced by one that was placed or waits
 module _ (xs : List Fix) (h off r : Homing) (n : ℕ) (unplaced : Bool) (entry exit : List Float) where

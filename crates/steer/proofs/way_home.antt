@@ -1,4 +1,3 @@
 -- Facts that the functions' proofs share.
 pub mod Deciding
 pub mod Fitting
-pub mod Keeping

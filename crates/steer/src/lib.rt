@@ -9,44 +9,30 @@ ghost use Rattle.std.specs.Prelude.{◌≡◌, ◌≤◌, length};
 ghost use Rattle.crumbs.specs.Crumb.{capacity};
 ghost use Rattle.follow.specs.View.{Changes};
 ghost use Rattle.course.specs.Course.{fixes};
-ghost use Rattle.calls.specs.Line.{no_lap, lined, awaiting, off_course};
+ghost use Rattle.calls.specs.Line.{lined, awaiting, off_course};
 ghost use Rattle.steer.specs.View.{MadeNew, Resets, SetsLine};
 
-use follow::follow_parts;
+use follow::follow_parts::UNFOLLOWED;
 use lap::{Lap, Stage, StartPass};
 use motion::Motion;
-use plane::{Fix, Point};
-use state::{Course, Follow, Frame, Guide, Homing, Line};
+use state::{Course, Follow, Frame, Homing, Line};
 use trail::Trail;
 
 // ---- made anew
 
 // No pass of the start is under way.
-fn no_lap() -> Lap
-    ensures { result ≡ no_lap }
-{
-    let pass = StartPass {
+const NO_LAP: Lap = Lap {
+    pass: StartPass {
         stage: Stage::Spent,
-    };
-    Lap {
-        pass,
-        start: None,
-        passed: false,
-    }
-}
+    },
+    start: None,
+    passed: false,
+};
 
 const UNMOVED: Motion = Motion {
     from: None,
     heading: None,
     heading_ms: 0,
-};
-
-const UNFOLLOWED: Follow = Follow {
-    line: Line::Nothing,
-    segment: 0,
-    matched: None,
-    off: false,
-    reminded_ms: 0,
 };
 
 const NO_COURSE: Course = Course {
@@ -64,17 +50,13 @@ const NO_COURSE: Course = Course {
 pub fn new() -> Homing
     ensures { MadeNew result }
 {
-    let trail = Trail::new();
-    let frame = Frame {
-        origin: None,
-        east_per_e7: plane::M_PER_E7,
-    };
-    let lap = no_lap();
-    let window = [0.0; 96];
     Homing {
-        trail,
-        window,
-        frame,
+        trail: Trail::new(),
+        window: [0.0; trail::NUMBERS],
+        frame: Frame {
+            origin: None,
+            east_per_e7: plane::M_PER_E7,
+        },
         fed: None,
         here: None,
         here_ms: 0,
@@ -83,7 +65,7 @@ pub fn new() -> Homing
         course: NO_COURSE,
         auto_follow: true,
         arrived: false,
-        lap,
+        lap: NO_LAP,
         updated_ms: 0,
         guide: None,
     }
@@ -93,12 +75,11 @@ pub fn new() -> Homing
 fn lined(c: Course, line_len: usize, unplaced: bool, held: bool) -> Course
     ensures { result ≡ lined line_len unplaced held c }
 {
-    let join_fixes = 0;
     Course {
         line_len,
         unplaced,
         held,
-        join_fixes,
+        join_fixes: 0,
         ..c
     }
 }
@@ -107,74 +88,50 @@ fn lined(c: Course, line_len: usize, unplaced: bool, held: bool) -> Course
 fn awaiting(c: Course) -> Course
     ensures { result ≡ awaiting c }
 {
-    let unplaced = c.unplaced | (c.line_len >= 2);
-    lined(c, 0, unplaced, false)
+    lined(c, 0, c.unplaced | (c.line_len >= 2), false)
 }
 
 // Forget the breadcrumb: a new ride starts where its first fix is.
-pub fn reset(h: Homing) -> Homing
-    ensures { Resets h result }
+pub fn reset(h: &mut Homing)
+    ensures { Resets h.old h.new }
 {
-    let mut forgotten = h.trail;
-    forgotten.reset();
-    let frame = Frame {
-        origin: None,
-        ..h.frame
-    };
-    let motion = Motion {
+    h.trail.reset();
+    h.frame.origin = None;
+    h.fed = None;
+    h.here = None;
+    h.motion = Motion {
         heading_ms: h.motion.heading_ms,
         ..UNMOVED
     };
-    let follow = Follow {
+    h.follow = Follow {
         reminded_ms: h.follow.reminded_ms,
         ..UNFOLLOWED
     };
-    let course = awaiting(h.course);
-    let lap = no_lap();
-    Homing {
-        trail: forgotten,
-        frame,
-        fed: None,
-        here: None,
-        motion,
-        follow,
-        course,
-        arrived: false,
-        lap,
-        guide: None,
-        ..h
-    }
+    h.course = awaiting(h.course);
+    h.arrived = false;
+    h.lap = NO_LAP;
+    h.guide = None;
 }
 
 // ---- a course set
 
-// A following of the course ends, and holds the course off; one of the breadcrumb goes on.
-fn off_course(h: Homing) -> Homing
-    ensures { Changes (off_course h.follow.line) h result }
+// A following of the course ends; one of the breadcrumb goes on.
+fn off_course(h: &mut Homing)
+    ensures { Changes (off_course h.old.follow.line) h.old h.new }
 {
-    match h.follow.line {
-        Line::Course => {
-            let mut off = h;
-            off.follow = follow_parts::stopped(h.follow, None);
-            off.course = follow_parts::held_off(h.course);
-            off
-        }
-        Line::Nothing | Line::Breadcrumb => h,
+    if h.follow.line == Line::Course {
+        follow::stop_course(h);
     }
 }
 
 // The course to follow, start first; fewer than two points clear it. It is placed now if the ride has a
 // fix, else it waits for one.
-pub fn set_course(h: Homing, line: &mut [f32], lats: &[i32], lons: &[i32]) -> Homing
+pub fn set_course(h: &mut Homing, line: &mut [f32], lats: &[i32], lons: &[i32])
     requires { length (fixes lats.now lons.now) ≤ capacity (length line.old) }
-    ensures { SetsLine (fixes lats.now lons.now) h line.old result line.new }
+    ensures { SetsLine (fixes lats.now lons.now) h.old line.old h.new line.new }
 {
-    let f = h.frame;
-    let line_len = course::place(f, lats, lons, line);
-    let unplaced = course::waits(f, lats, lons);
-    let off = off_course(h);
-    let was = off.course;
-    let mut next = off;
-    next.course = lined(was, line_len, unplaced, was.held);
-    next
+    let line_len = course::place(h.frame, lats, lons, line);
+    let unplaced = course::waits(h.frame, lats, lons);
+    off_course(h);
+    h.course = lined(h.course, line_len, unplaced, h.course.held);
 }

@@ -22,7 +22,6 @@ use Rattle.state.specs.State.{State, state_of, with_follow, with_arrived}
 use Rattle.state.specs.Rule.{Done, done}
 use Rattle.follow.specs.Engage.{leave_at, forgotten, stop_nothing, stop_course, stop_breadcrumb, stop_on, stop}
 use Rattle.matching.specs.declared.followed.Way.{Way}
-use Rattle.guide.specs.declared.Told.{Told}
 use Rattle.matching.specs.Match.{on_line}
 use Rattle.matching.specs.Followed.{followed, widened}
 use Rattle.guide.specs.Guide.{arrive_m, leave_m, off_cleared, arrival_from, finished, direct}
@@ -127,11 +126,11 @@ pub len-held : (h : Homing) (b : List Float) → length (state_of h b).track.cru
 unfolding track
 len-held h b = length-crumbs h.trail.len b
 
-pub update-len : (course : List Crumb) (p : Point) (now : ℕ) (h : Homing) (entry : List Float) (r : Told) (exit : List Float)
+pub update-len : (course : List Crumb) (p : Point) (now : ℕ) (h : Homing) (entry : List Float) (r : Homing) (e : Event) (exit : List Float)
     → Loose (state_of h entry)
-    → Updates (λ C. update C course p now) h entry r exit → r.homing.trail.len ≡ h.trail.len
-update-len course p now h entry r exit loose u =
-    sym (len-held r.homing exit)
+    → Updates (λ C. update C course p now) h entry r e exit → r.trail.len ≡ h.trail.len
+update-len course p now h entry r e exit loose u =
+    sym (len-held r exit)
     ∙ ap (λ (s : State). length s.track.crumbs) u.follows.same
     ∙ ap (λ (l : List Crumb). length l) (update-crumbs _ course p now (state_of h entry) loose)
     ∙ len-held h entry

@@ -7,26 +7,20 @@ use Rattle.state.specs.declared.Event.{Event}
 use Rattle.state.specs.declared.Event.TheVariants as event
 use Rattle.state.specs.declared.Homing.{Homing}
 use Rattle.state.specs.State.{State, state_of}
-use Rattle.state.specs.Guided.{whole}
 use Rattle.state.specs.Rule.{Done, done}
 use Rattle.follow.specs.View.{Follows}
 use Rattle.matching.specs.declared.followed.Followed.{Followed}
 use Rattle.matching.specs.View.{WhereFollowed}
-use Rattle.guide.specs.declared.Told.{Told}
 use Rattle.guide.specs.Guide.{direct}
-use Rattle.update.specs.declared.Updated.{Updated}
 use Rattle.update.specs.declared.Outcome.{Outcome}
 use Rattle.update.specs.declared.Outcome.TheVariants.{Straight, Stays, Ends, GoesOn}
 use Rattle.update.specs.Update.{begun, ended_with, matched_at, update}
 
 -- A rule that tells an event, from a state and its crumb buffer to a state and its crumb buffer.
-pub record Updates (rule : ℕ → State → Done Event) (h : Homing) (entry : List Float) (r : Told) (exit : List Float) : Type 0 where
-  pub told : r.event ≡ (rule (capacity (length entry)) (state_of h entry)).answer
-  pub follows : Follows rule h entry r.homing exit
-
--- the state with this window, and what the fix changed
-abbrev pub told_in : Updated → List Float → Told
-told_in u w = record { homing = whole u.guided w; event = u.event }
+pub record Updates (rule : ℕ → State → Done Event) (h : Homing) (entry : List Float) (r : Homing) (e : Event) (exit : List Float) :
+    Type 0 where
+  pub told : e ≡ (rule (capacity (length entry)) (state_of h entry)).answer
+  pub follows : Follows rule h entry r exit
 
 -- what an outcome does to a state
 unfoldable pub comes_to : Outcome → ℕ → List Crumb → Point → ℕ → State → Done Event

@@ -11,11 +11,11 @@ pub returns-then-is_some : goal.returns-then-is_some
 returns-then-is_some c =
     let g = c.args in
     ap (λ (n : ℕ). ltb fix_lost_ms n) c.elapsed.ensures
-    ∙ sym (ap (λ (x : Bool). x && ltb fix_lost_ms (elapsed g.now_ms g.h.here_ms))
+    ∙ sym (ap (λ (x : Bool). x && ltb fix_lost_ms (elapsed g.now_ms g.h.now.here_ms))
     (sym c.is_some.ensures ∙ c.if-is_some.true))
 
 pub returns-else-is_some : goal.returns-else-is_some
 returns-else-is_some c =
     let g = c.args in
     c.if-is_some.false
-    ∙ sym (ap (λ (x : Bool). x && ltb fix_lost_ms (elapsed g.now_ms g.h.here_ms)) (sym c.is_some.ensures ∙ c.if-is_some.false))
+    ∙ sym (ap (λ (x : Bool). x && ltb fix_lost_ms (elapsed g.now_ms g.h.now.here_ms)) (sym c.is_some.ensures ∙ c.if-is_some.false))

@@ -22,19 +22,14 @@ use Rattle.trail.specs.View.{track}
 use Rattle.trail.specs.View as trail
 use Rattle.state.specs.declared.Line.TheVariants as lines
 use Rattle.state.specs.declared.Follow.{Follow}
-use Rattle.state.specs.declared.Course.{Course}
 use Rattle.state.specs.declared.Homing.{Homing}
-use Rattle.state.specs.State.{State, state_of, with_track, with_course, with_auto_follow}
+use Rattle.state.specs.State.{State, state_of, with_track}
 use Rattle.state.specs.Rule.{Done, done}
-use Rattle.follow.specs.declared.Answered.{Answered}
-use Rattle.follow.specs.Parts.{course_from, leads}
+use Rattle.follow.specs.Parts.{leads}
 use Rattle.follow.specs.Engage.{engage_at, engage}
-use Rattle.joining.specs.declared.Joined.{Joined}
-use Rattle.joining.specs.declared.Retraced.{Retraced}
-use Rattle.joining.specs.View.{Joins, Retraces}
 use Rattle.joining.specs.Join.{joined_to, join_on, may_join, join_with, joining, with_retrace, retracing}
 use Rattle.joining.specs.Retrace.{rides_back, len_before}
-use Rattle.follow.specs.View.{HomingFit, course_of, SameHeld, Asks}
+use Rattle.follow.specs.View.{HomingFit, SameHeld, Asks}
 use Rattle.follow.proofs.Engaging.{leads-some}
 use Rattle.joining.proofs.Counting.{rode-back, rode-on}
 use Rattle.fix.specs.Ready.{Ready}
@@ -54,12 +49,10 @@ held-fit t r size e f =
 other : lines.Breadcrumb ≡ lines.Course → ⊥
 other e = let z : ◌≡◌ {A = ℕ} 0 1 = cc in omega (arith, z)
 
-pub fit-held : (h r : Homing) (room line_room : ℕ) → HomingFit h room line_room → SameHeld h.trail r.trail → r.follow ≡ h.follow
-    → r.course.line_len ≡ h.course.line_len → HomingFit r room line_room
-fit-held h r room line_room f t w c =
+pub fit-held : {h r : Homing} {room n : ℕ} → HomingFit h room n → SameHeld h.trail r.trail → r.follow ≡ h.follow → HomingFit r room n
+fit-held {h} {r} {room} {n} f t w =
     record {
       trail = held-fit h.trail r.trail room t f.trail;
-      course = subst (λ (n : ℕ). n ≤ capacity line_room) (sym c) f.course;
       on_trail = λ e.
           let on = f.on_trail (ap (λ (x : Follow). x.line) (sym w) ∙ e) in (
             subst (λ (x : Follow). 1 ≤ x.segment) (sym w) on.0,
@@ -68,7 +61,7 @@ fit-held h r room line_room f t w c =
       on_course = λ e.
           let on = f.on_course (ap (λ (x : Follow). x.line) (sym w) ∙ e) in (
             subst (λ (x : Follow). 1 ≤ x.segment) (sym w) on.0,
-            subst (λ (n : ℕ). r.follow.segment < n) (sym c) (subst (λ (x : Follow). x.segment < h.course.line_len) (sym w) on.1),
+            subst (λ (x : Follow). x.segment < n) (sym w) on.1,
           );
     }
 
@@ -94,15 +87,6 @@ module _ (course : List Crumb) (p : Point) where
   unfolding joining
   joins-on s said = on-course (join_with s.motion.heading course p s) s said (λ end e. with-heading s.motion.heading s end e)
 
-  join-line : (j : Option ℕ) (s : State) → (join_on j s).state.course.line_len ≡ s.course.line_len
-  unfolding join_on joined_to
-  join-line None s = refl
-  join-line (Some end) s = refl
-
-  pub joining-line : (s : State) → (joining course p s).state.course.line_len ≡ s.course.line_len
-  unfolding joining
-  joining-line s = join-line _ s
-
   join-follow : (j : Option ℕ) (s : State) → (join_on j s).state.follow ≡ s.follow
   unfolding join_on
   join-follow None s = refl
@@ -121,95 +105,37 @@ module _ (course : List Crumb) (p : Point) where
   unfolding joining
   joining-track s = join-track _ s
 
-  join-auto : (j : Option ℕ) (s : State) → (join_on j s).state.auto_follow ≡ s.auto_follow
-  unfolding join_on
-  join-auto None s = refl
-  join-auto (Some end) s = refl
+module _ (course : List Crumb) (p : Point) {h : Homing} {b : List Float} {r : Homing} {yes : Bool}
+    (a : Asks (joining course p) h b r yes) where
+  pub join-follows : r.follow ≡ h.follow
+  join-follows = ap (λ (s : State). s.follow) a.same ∙ joining-follow course p (state_of h b)
 
-  pub joining-auto : (s : State) → (joining course p s).state.auto_follow ≡ s.auto_follow
-  unfolding joining
-  joining-auto s = join-auto _ s
-
--- ---- a part of the state that changed, in the whole state
--- with this course, and this breadcrumb
-abbrev pub partly : Homing → Course → Trail → Homing
-partly h c t =
-    record {
-      trail = t;
-      window = h.window;
-      frame = h.frame;
-      fed = h.fed;
-      here = h.here;
-      here_ms = h.here_ms;
-      motion = h.motion;
-      follow = h.follow;
-      course = c;
-      auto_follow = h.auto_follow;
-      arrived = h.arrived;
-      lap = h.lap;
-      updated_ms = h.updated_ms;
-      guide = h.guide;
-    }
-
-abbrev pub joined_as : Homing → Joined → Answered
-joined_as h j = record { homing = partly h j.course h.trail; yes = j.yes }
-
-pub asks-joining : (h : Homing) (b line : List Float) (p : Point) (j : Joined)
-    → ((s : State) → s.motion.heading ≡ h.motion.heading
-    → Joins (joining (course_of h line) p) (with_course h.course (with_auto_follow h.auto_follow s)) j)
-    → Asks (joining (course_of h line) p) h b (joined_as h j)
-asks-joining h b line p j promised =
-    let a = promised (state_of h b) refl in
-    record { answered = a.answered; same = a.same; held = record { len = refl; tolerance = refl; waiting = refl } }
-
-abbrev pub retraced_as : Homing → Retraced → Answered
-retraced_as h x = record { homing = partly h h.course x.trail; yes = x.yes }
-
-pub asks-retracing : (h : Homing) (b : List Float) (p : Point) (x : Retraced)
-    → ((w : List Float) (s : State) → s.motion.heading ≡ h.motion.heading → Retraces (retracing p) h.trail w b s x)
-    → Asks (retracing p) h b (retraced_as h x)
-asks-retracing h b p x promised =
-    let a = promised h.window (state_of h b) refl in
-    record { answered = a.answered; same = a.same; held = a.held }
-
-module _ (h : Homing) (b line : List Float) (p : Point) (r : Answered) (a : Asks (joining (course_of h line) p) h b r) where
-  pub join-length : r.homing.course.line_len ≡ h.course.line_len
-  join-length = ap (λ (s : State). s.course.line_len) a.same ∙ joining-line (course_of h line) p (state_of h b)
-
-  pub join-course : course_of r.homing line ≡ course_of h line
-  join-course = ap (λ (n : ℕ). crumbs n line) join-length
-
-  pub join-follows : r.homing.follow ≡ h.follow
-  join-follows = ap (λ (s : State). s.follow) a.same ∙ joining-follow (course_of h line) p (state_of h b)
-
-  pub joined_at : r.yes ≡ true → (1 ≤ r.homing.course.join_end) × (r.homing.course.join_end < r.homing.course.line_len)
+  pub joined_at : yes ≡ true → (1 ≤ r.course.join_end) × (r.course.join_end < length course)
   joined_at said =
-      let on = joins-on (course_of h line) p (state_of h b) (sym a.answered ∙ said) in
-      let end : r.homing.course.join_end ≡ (joining (course_of h line) p (state_of h b)).state.course.join_end =
-      ap (λ (s : State). s.course.join_end) a.same in
-      let long : length (course_of h line) ≡ r.homing.course.line_len =
-      length-crumbs h.course.line_len line ∙ sym join-length in (
+      let on = joins-on course p (state_of h b) (sym a.answered ∙ said) in
+      let end : r.course.join_end ≡ (joining course p (state_of h b)).state.course.join_end =
+      ap (λ (s : State). s.course.join_end) a.same in (
         subst (λ (n : ℕ). 1 ≤ n) (sym end) on.0,
-        subst (λ (n : ℕ). r.homing.course.join_end < n) long (subst (λ (n : ℕ). n < length (course_of h line)) (sym end) on.1),
+        subst (λ (n : ℕ). n < length course) (sym end) on.1,
       )
 
-  join-retrace : r.homing.trail.retrace ≡ h.trail.retrace
+  join-retrace : r.trail.retrace ≡ h.trail.retrace
   unfolding track
   join-retrace =
-      ap (λ (s : State). s.track.retrace) a.same ∙ ap (λ (t : Track). t.retrace) (joining-track (course_of h line) p (state_of h b))
+      ap (λ (s : State). s.track.retrace) a.same ∙ ap (λ (t : Track). t.retrace) (joining-track course p (state_of h b))
 
-  join-retrace-len : r.homing.trail.retrace_len ≡ h.trail.retrace_len
+  join-retrace-len : r.trail.retrace_len ≡ h.trail.retrace_len
   unfolding track
   join-retrace-len = ap (λ (s : State). s.track.retrace_len) a.same
-      ∙ ap (λ (t : Track). t.retrace_len) (joining-track (course_of h line) p (state_of h b))
+      ∙ ap (λ (t : Track). t.retrace_len) (joining-track course p (state_of h b))
 
-  pub join-ready : (line_room : ℕ) → Ready h (length b) line_room → Ready r.homing (length b) line_room
-  join-ready line_room q =
+  pub join-ready : {n : ℕ} → Ready h (length b) n → Ready r (length b) n
+  join-ready q =
       record {
-        fit = fit-held h r.homing (length b) line_room q.fit a.held join-follows join-length;
+        fit = fit-held q.fit a.held join-follows;
         retrace = subst (λ (n : ℕ). n < retrace_fixes) (sym join-retrace) q.retrace;
         back = λ never.
-            subst (λ (n : ℕ). n ≤ r.homing.trail.len) (sym join-retrace-len)
+            subst (λ (n : ℕ). n ≤ r.trail.len) (sym join-retrace-len)
             (subst (λ (n : ℕ). h.trail.retrace_len ≤ n) (sym a.held.len) (q.back (λ z. never (join-retrace ∙ z))));
       }
 
@@ -236,9 +162,6 @@ module _ (p : Point) (s : State) where
   retracing-follow : (retracing p s).state.follow ≡ s.follow
   retracing-follow = by-riding (λ d. d.state.follow ≡ s.follow) refl refl
 
-  retracing-line : (retracing p s).state.course.line_len ≡ s.course.line_len
-  retracing-line = by-riding (λ d. d.state.course.line_len ≡ s.course.line_len) refl refl
-
   retracing-few : ((s.track.retrace ≡ 0 → ⊥) → s.track.retrace_len ≤ length s.track.crumbs) → (retracing p s).answer ≡ true
       → (retracing p s).state.track.retrace_len ≤ length s.track.crumbs
   unfolding with_retrace
@@ -246,30 +169,23 @@ module _ (p : Point) (s : State) where
       by-riding (λ d. d.answer ≡ true → d.state.track.retrace_len ≤ length s.track.crumbs) (λ _. before-few s.track back)
       (λ e. absurd (false≢true e))
 
-module _ (h : Homing) (b : List Float) (p : Point) (r : Answered) (a : Asks (retracing p) h b r) where
-  pub retrace-follows : r.homing.follow ≡ h.follow
+module _ (p : Point) {h : Homing} {b : List Float} {r : Homing} {yes : Bool} (a : Asks (retracing p) h b r yes) where
+  pub retrace-follows : r.follow ≡ h.follow
   retrace-follows = ap (λ (s : State). s.follow) a.same ∙ retracing-follow p (state_of h b)
 
-  retrace-length : r.homing.course.line_len ≡ h.course.line_len
-  retrace-length = ap (λ (s : State). s.course.line_len) a.same ∙ retracing-line p (state_of h b)
+  pub retrace-fit : {n : ℕ} → HomingFit h (length b) n → HomingFit r (length b) n
+  retrace-fit f = fit-held f a.held retrace-follows
 
-  pub retrace-course : (line : List Float) → course_of r.homing line ≡ course_of h line
-  retrace-course line = ap (λ (n : ℕ). crumbs n line) retrace-length
-
-  pub retrace-fit : (line_room : ℕ) → HomingFit h (length b) line_room → HomingFit r.homing (length b) line_room
-  retrace-fit line_room f = fit-held h r.homing (length b) line_room f a.held retrace-follows retrace-length
-
-  pub retrace-few : r.yes ≡ true → ((h.trail.retrace ≡ 0 → ⊥) → h.trail.retrace_len ≤ h.trail.len)
-      → r.homing.trail.retrace_len ≤ r.homing.trail.len
+  pub retrace-few : yes ≡ true → ((h.trail.retrace ≡ 0 → ⊥) → h.trail.retrace_len ≤ h.trail.len) → r.trail.retrace_len ≤ r.trail.len
   unfolding track
   retrace-few said back =
       let long = length-crumbs h.trail.len b in
       let few = retracing-few p (state_of h b) (λ never. subst (λ (n : ℕ). h.trail.retrace_len ≤ n) (sym long) (back never))
       (sym a.answered ∙ said) in
-      let is : r.homing.trail.retrace_len ≡ (retracing p (state_of h b)).state.track.retrace_len =
+      let is : r.trail.retrace_len ≡ (retracing p (state_of h b)).state.track.retrace_len =
       ap (λ (s : State). s.track.retrace_len) a.same in
-      subst (λ (n : ℕ). r.homing.trail.retrace_len ≤ n) (sym a.held.len)
-      (subst (λ (n : ℕ). r.homing.trail.retrace_len ≤ n) long
+      subst (λ (n : ℕ). r.trail.retrace_len ≤ n) (sym a.held.len)
+      (subst (λ (n : ℕ). r.trail.retrace_len ≤ n) long
       (subst (λ (n : ℕ). n ≤ length (state_of h b).track.crumbs) (sym is) few))
 
 -- ---- following the breadcrumb
@@ -293,48 +209,35 @@ module _ (course : List Crumb) (now : ℕ) (s : State) where
   engage-no : (engage course now s).answer ≡ false → (engage course now s).state ≡ s
   engage-no = by-leading (λ d. d.answer ≡ false → d.state ≡ s) (λ _ e. absurd (true≢false e)) (λ _. refl)
 
-  engage-line : (engage course now s).state.course.line_len ≡ s.course.line_len
-  unfolding engage_at course_from
-  engage-line = by-leading (λ d. d.state.course.line_len ≡ s.course.line_len) (λ _. refl) refl
-
 two-less : (n : ℕ) → 2 ≤ n → (1 ≤ n - 1) × (n - 1 < n)
 two-less n h = (omega (arith, h), omega (arith, h))
 
-module _ (h : Homing) (b line : List Float) (now : ℕ) (r : Answered) (a : Asks (engage (course_of h line) now) h b r) where
-  engage-length : r.homing.course.line_len ≡ h.course.line_len
-  engage-length = ap (λ (s : State). s.course.line_len) a.same ∙ engage-line (course_of h line) now (state_of h b)
-
-  pub engage-course : course_of r.homing line ≡ course_of h line
-  engage-course = ap (λ (n : ℕ). crumbs n line) engage-length
-
-  pub engaged-fit : (line_room : ℕ) → r.yes ≡ true → trail.TrailFit h.trail (length b) → h.course.line_len ≤ capacity line_room
-      → HomingFit r.homing (length b) line_room
+module _ (course : List Crumb) (now : ℕ) {h : Homing} {b : List Float} {r : Homing} {yes : Bool}
+    (a : Asks (engage course now) h b r yes) where
+  pub engaged-fit : {n : ℕ} → yes ≡ true → trail.TrailFit h.trail (length b) → HomingFit r (length b) n
   unfolding engage_at track
-  engaged-fit line_room said f few =
-      let on = engage-yes (course_of h line) now (state_of h b) (sym a.answered ∙ said) in
+  engaged-fit said f =
+      let on = engage-yes course now (state_of h b) (sym a.answered ∙ said) in
       let two = leads-some h.trail.len b on.0 in
-      let is : r.homing.follow ≡ (engage_at (course_of h line) lines.Breadcrumb (length (crumbs h.trail.len b) - 1) now
-      (state_of h b)).follow = ap (λ (s : State). s.follow) (a.same ∙ on.1) in
-      let segment : r.homing.follow.segment ≡ h.trail.len - 1 =
+      let is : r.follow ≡ (engage_at course lines.Breadcrumb (length (crumbs h.trail.len b) - 1) now (state_of h b)).follow =
+      ap (λ (s : State). s.follow) (a.same ∙ on.1) in
+      let segment : r.follow.segment ≡ h.trail.len - 1 =
       ap (λ (x : Follow). x.segment) is ∙ ap (λ (n : ℕ). n - 1) (length-crumbs h.trail.len b) in
-      let lined : r.homing.follow.line ≡ lines.Breadcrumb = ap (λ (x : Follow). x.line) is in
+      let lined : r.follow.line ≡ lines.Breadcrumb = ap (λ (x : Follow). x.line) is in
       let bounds = two-less h.trail.len two in
       record {
-        trail = held-fit h.trail r.homing.trail (length b) a.held f;
-        course = subst (λ (n : ℕ). n ≤ capacity line_room) (sym engage-length) few;
+        trail = held-fit h.trail r.trail (length b) a.held f;
         on_trail = λ _. (
           subst (λ (n : ℕ). 1 ≤ n) (sym segment) bounds.0,
-          subst (λ (n : ℕ). r.homing.follow.segment < n) (sym a.held.len)
+          subst (λ (n : ℕ). r.follow.segment < n) (sym a.held.len)
               (subst (λ (n : ℕ). n < h.trail.len) (sym segment) bounds.1),
         );
         on_course = λ e. absurd (other (sym lined ∙ e));
       }
 
-  pub unengaged-fit : (line_room : ℕ) → r.yes ≡ false → HomingFit h (length b) line_room → HomingFit r.homing (length b) line_room
-  unengaged-fit line_room never f =
-      fit-held h r.homing (length b) line_room f a.held (ap (λ (s : State). s.follow)
-      (a.same ∙ engage-no (course_of h line) now (state_of h b) (sym a.answered ∙ never))) engage-length
-
-  pub unengaged-follow : r.yes ≡ false → r.homing.follow ≡ h.follow
+  pub unengaged-follow : yes ≡ false → r.follow ≡ h.follow
   unengaged-follow never =
-      ap (λ (s : State). s.follow) (a.same ∙ engage-no (course_of h line) now (state_of h b) (sym a.answered ∙ never))
+      ap (λ (s : State). s.follow) (a.same ∙ engage-no course now (state_of h b) (sym a.answered ∙ never))
+
+  pub unengaged-fit : {n : ℕ} → yes ≡ false → HomingFit h (length b) n → HomingFit r (length b) n
+  unengaged-fit never f = fit-held f a.held (unengaged-follow never)

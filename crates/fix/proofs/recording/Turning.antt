@@ -8,7 +8,7 @@ use lib.ListN.{length}
 use lib.Ieee.{Float}
 use Rattle.plane.specs.declared.Point.{Point}
 use Rattle.crumbs.specs.declared.Crumb.{Crumb}
-use Rattle.crumbs.specs.Crumb.{capacity, crumbs}
+use Rattle.crumbs.specs.Crumb.{capacity}
 use Rattle.trail.specs.declared.Trail.{Trail}
 use Rattle.trail.specs.View as trail
 use Rattle.state.specs.declared.Line.{Line}
@@ -17,22 +17,18 @@ use Rattle.state.specs.declared.Event.{Event}
 use Rattle.state.specs.declared.Event.TheVariants as event
 use Rattle.state.specs.declared.Follow.{Follow}
 use Rattle.state.specs.declared.Homing.{Homing}
-use Rattle.state.specs.State.{State, state_of}
+use Rattle.state.specs.State.{State}
 use Rattle.state.specs.Rule.{Done, and_then}
-use Rattle.follow.specs.declared.Answered.{Answered}
-use Rattle.follow.specs.Parts.{course_from}
 use Rattle.follow.specs.Engage.{engage_at, engage, cut_to, forgotten}
 use Rattle.joining.specs.Join.{joining, retracing}
-use Rattle.follow.specs.View.{HomingFit, course_of, Asks, Changes}
-use Rattle.guide.specs.declared.Told.{Told}
+use Rattle.follow.specs.View.{HomingFit, Asks, Changes}
 use Rattle.update.specs.Update.{update}
 use Rattle.update.specs.View.{Updates}
-use Rattle.update.proofs.Updating.{updates-as}
-use Rattle.calls.specs.Fix.{tell_following, add_update, joined_course, turned_back, engaged_back, retraced, may_retrace, joined_or_not}
+use Rattle.calls.specs.Fix.{tell_following, add_update, joined_course, turned_back, engaged_back, retraced, may_retrace}
+use Rattle.calls.specs.Fix.{joined_or_not}
 use Rattle.calls.specs.Fix.{fix_on}
 use Rattle.fix.specs.Ready.{Grows, TurnsBack}
 use Rattle.fix.proofs.recording.Moving.{updates-after, updates-asked, updates-following, same_len}
-use Rattle.fix.proofs.recording.Beginning.{join-course, retrace-course, engage-course}
 
 course-not : lines.Course ≡ lines.Breadcrumb → ⊥
 course-not e = let z : ◌≡◌ {A = ℕ} 0 1 = cc in omega (arith, z)
@@ -50,7 +46,7 @@ pub course-grows : (h : Homing) → h.follow.line ≡ lines.Course → Grows h
 course-grows h e f = course-not (sym e ∙ f)
 
 -- ---- the course joined
-module _ (h r : Homing) (line : List Float) (end now : ℕ) (c : Changes (engage_at (course_of h line) lines.Course end now) h r) where
+module _ (course : List Crumb) (end now : ℕ) {h r : Homing} (c : Changes (engage_at course lines.Course end now) h r) where
   on-follow : r.follow.line ≡ lines.Course
   unfolding engage_at
   on-follow = ap (λ (s : State). s.follow.line) (c.same [])
@@ -59,176 +55,124 @@ module _ (h r : Homing) (line : List Float) (end now : ℕ) (c : Changes (engage
   unfolding engage_at
   on-segment = ap (λ (s : State). s.follow.segment) (c.same [])
 
-  on-length : r.course.line_len ≡ h.course.line_len
-  unfolding engage_at course_from
-  on-length = ap (λ (s : State). s.course.line_len) (c.same [])
-
-  pub on-course : course_of r line ≡ course_of h line
-  on-course = ap (λ (n : ℕ). crumbs n line) on-length
-
   pub on-grows : Grows r
   on-grows = course-grows r on-follow
 
-  pub on-fit : (room line_room : ℕ) → (1 ≤ end) × (end < h.course.line_len) → HomingFit h room line_room → HomingFit r room line_room
-  on-fit room line_room on f =
+  pub on-fit : {room n : ℕ} → (1 ≤ end) × (end < n) → HomingFit h room n → HomingFit r room n
+  on-fit {room} {n} on f =
       record {
         trail = subst (λ (t : Trail). trail.TrailFit t room) (sym c.trail) f.trail;
-        course = subst (λ (n : ℕ). n ≤ capacity line_room) (sym on-length) f.course;
         on_trail = λ e. absurd (on-grows e);
-        on_course = λ e. (
-          subst (λ (n : ℕ). 1 ≤ n) (sym on-segment) on.0,
-          subst (λ (n : ℕ). r.follow.segment < n) (sym on-length) (subst (λ (n : ℕ). n < h.course.line_len) (sym on-segment) on.1),
-        );
+        on_course = λ e. (subst (λ (k : ℕ). 1 ≤ k) (sym on-segment) on.0, subst (λ (k : ℕ). k < n) (sym on-segment) on.1);
       }
 
-pub joined-on : (h r : Homing) (line entry exit : List Float) (p : Point) (now : ℕ) (t : Told)
-    → Changes (engage_at (course_of h line) lines.Course h.course.join_end now) h r
-    → Updates (λ C. add_update C (course_of r line) p now) r entry t exit
-    → Updates (λ C. joined_course C (course_of h line) p now) h entry (record { homing = t.homing; event = event.Following }) exit
+pub joined-on : (course : List Crumb) (p : Point) (now : ℕ) {h r : Homing} {entry exit : List Float} {t : Homing} {e : Event}
+    → Changes (engage_at course lines.Course h.course.join_end now) h r
+    → Updates (λ C. add_update C course p now) r entry t e exit
+    → Updates (λ C. joined_course C course p now) h entry t event.Following exit
 unfolding joined_course
-joined-on h r line entry exit p now t c u =
+joined-on course p now {h} {r} {entry} c u =
     let C = capacity (length entry) in
-    updates-after (λ C. joined_course C (course_of h line) p now)
-    (λ C s. tell_following (add_update C (course_of r line) p now s)) h r entry exit _ (same_len h r c.trail)
-    (sym
-    (ap (λ (l : List Crumb). tell_following (add_update C l p now (state_of r entry))) (on-course h r line h.course.join_end now c)
-    ∙ ap (λ (s : State). tell_following (add_update C (course_of h line) p now s)) (c.same entry)))
-    (updates-following (λ C. add_update C (course_of r line) p now) r entry t exit u)
+    updates-after (λ C. joined_course C course p now) (λ C s. tell_following (add_update C course p now s)) (same_len h r c.trail)
+    (sym (ap (λ (s : State). tell_following (add_update C course p now s)) (c.same entry)))
+    (updates-following (λ C. add_update C course p now) u)
 
 -- ---- turned round
-module _ (h back : Homing) (turns : TurnsBack h back) where
+module _ {h back : Homing} (turns : TurnsBack h back) where
   back-follow : back.follow ≡ h.follow
   unfolding turned_back cut_to forgotten
   back-follow = ap (λ (s : State). s.follow) (turns.same [])
 
-  back-length : back.course.line_len ≡ h.course.line_len
-  unfolding turned_back cut_to forgotten
-  back-length = ap (λ (s : State). s.course.line_len) (turns.same [])
-
-  pub back-room : (line_room : ℕ) → h.course.line_len ≤ capacity line_room → back.course.line_len ≤ capacity line_room
-  back-room line_room few = subst (λ (n : ℕ). n ≤ capacity line_room) (sym back-length) few
-
   pub back-idle : h.follow.line ≡ lines.Nothing → back.follow.line ≡ lines.Nothing
   back-idle e = ap (λ (f : Follow). f.line) back-follow ∙ e
 
-  pub back-fit : (room line_room : ℕ) → h.follow.line ≡ lines.Nothing → HomingFit h room line_room → HomingFit back room line_room
-  back-fit room line_room e f =
+  pub back-fit : {room n : ℕ} → h.follow.line ≡ lines.Nothing → HomingFit h room n → HomingFit back room n
+  back-fit {room} {n} e f =
       record {
         trail = turns.fit room f.trail;
-        course = back-room line_room f.course;
         on_trail = λ g. absurd (nothing-not (sym (back-idle e) ∙ g));
         on_course = λ g. absurd (nothing-course (sym (back-idle e) ∙ g));
       }
 
-  back-course : (line : List Float) → course_of back line ≡ course_of h line
-  back-course line = ap (λ (n : ℕ). crumbs n line) back-length
-
-  pub turned_on : (line entry exit : List Float) (p : Point) (now : ℕ) (t : Told)
-      → Updates
-      (λ C s. and_then (engage (course_of back line) now s) λ b after. engaged_back b C (course_of back line) p now after) back entry t exit
-      → Updates (λ C. retraced true C (course_of h line) p now) h entry t exit
+  pub turned_on : (course : List Crumb) (p : Point) (now : ℕ) {entry exit : List Float} {t : Homing} {e : Event}
+      → Updates (λ C s. and_then (engage course now s) λ b after. engaged_back b C course p now after) back entry t e exit
+      → Updates (λ C. retraced true C course p now) h entry t e exit
   unfolding retraced
-  turned_on line entry exit p now t u =
+  turned_on course p now {entry} u =
       let C = capacity (length entry) in
-      let by : List Crumb → State → Done Event = λ l s. and_then (engage l now s) λ b after. engaged_back b C l p now after in
-      updates-after (λ C. retraced true C (course_of h line) p now) (λ C s. and_then (engage (course_of back line) now s) λ b after.
-      engaged_back b C (course_of back line) p now after) h back entry exit t turns.fewer
-      (sym (ap (λ (l : List Crumb). by l (state_of back entry)) (back-course line)
-      ∙ ap (λ (s : State). by (course_of h line) s) (turns.same entry)))
-      u
+      let by : ℕ → State → Done Event = λ C s. and_then (engage course now s) λ b after. engaged_back b C course p now after in
+      updates-after (λ C. retraced true C course p now) by turns.fewer (sym (ap (λ (s : State). by C s) (turns.same entry))) u
 
 -- by whether what is left leads anywhere
-module _ (h : Homing) (line entry exit : List Float) (p : Point) (now : ℕ) (r : Answered)
-    (a : Asks (engage (course_of h line) now) h entry r) (t : Told) where
-  abbrev next : Bool → ℕ → State → Done Event
-  next b C s = engaged_back b C (course_of h line) p now s
+abbrev next : List Crumb → Point → ℕ → Bool → ℕ → State → Done Event
+next course p now b C s = engaged_back b C course p now s
 
-  pub engaged-on : r.yes ≡ true → Updates (λ C. update C (course_of r.homing line) p now) r.homing entry t exit
-      → Updates (λ C s. and_then (engage (course_of h line) now s) λ b after. engaged_back b C (course_of h line) p now after) h entry
-      (record { homing = t.homing; event = event.Following }) exit
+module _ (course : List Crumb) (p : Point) (now : ℕ) {h r : Homing} {yes : Bool} {entry exit : List Float} {t : Homing} {e : Event}
+    (a : Asks (engage course now) h entry r yes) where
+  pub engaged-on : yes ≡ true → Updates (λ C. update C course p now) r entry t e exit
+      → Updates (λ C s. and_then (engage course now s) λ b after. engaged_back b C course p now after) h entry t event.Following exit
   unfolding engaged_back
-  engaged-on e u =
-      updates-asked (engage (course_of h line) now) next h entry exit r true _ a e
-      (subst (λ (l : List Crumb). Updates (λ C s. tell_following (update C l p now s)) r.homing entry
-      (record { homing = t.homing; event = event.Following }) exit) (engage-course h entry line now r a)
-      (updates-following (λ C. update C (course_of r.homing line) p now) r.homing entry t exit u))
+  engaged-on said u =
+      updates-asked (engage course now) (next course p now) a said (updates-following (λ C. update C course p now) u)
 
-  pub unengaged-on : r.yes ≡ false → Updates (λ C. add_update C (course_of r.homing line) p now) r.homing entry t exit
-      → Updates
-      (λ C s. and_then (engage (course_of h line) now s) λ b after. engaged_back b C (course_of h line) p now after) h entry t exit
+  pub unengaged-on : yes ≡ false → Updates (λ C. add_update C course p now) r entry t e exit
+      → Updates (λ C s. and_then (engage course now s) λ b after. engaged_back b C course p now after) h entry t e exit
   unfolding engaged_back
-  unengaged-on e u =
-      updates-asked (engage (course_of h line) now) next h entry exit r false t a e
-      (subst (λ (l : List Crumb). Updates (λ C. add_update C l p now) r.homing entry t exit) (engage-course h entry line now r a) u)
+  unengaged-on said u = updates-asked (engage course now) (next course p now) a said u
 
 -- ---- back along the breadcrumb, or not
-module _ (h : Homing) (line entry exit : List Float) (p : Point) (now : ℕ) (r : Answered) (a : Asks (retracing p) h entry r)
-    (t : Told) where
-  abbrev onward : Bool → ℕ → State → Done Event
-  onward b C s = retraced b C (course_of h line) p now s
+abbrev may : List Crumb → Point → ℕ → Bool → ℕ → State → Done Event
+may course p now auto C s = may_retrace auto C course p now s
 
-  auto : h.auto_follow ≡ true → (C : ℕ) (s : State) → may_retrace h.auto_follow C (course_of h line) p now s
-      ≡ (and_then (retracing p s) λ b after. retraced b C (course_of h line) p now after)
+abbrev onward : List Crumb → Point → ℕ → Bool → ℕ → State → Done Event
+onward course p now b C s = retraced b C course p now s
+
+module _ (course : List Crumb) (p : Point) (now : ℕ) {h : Homing} {entry exit : List Float} {t : Homing} {e : Event} where
+  module _ (auto : h.auto_follow ≡ true) {r : Homing} {yes : Bool} (a : Asks (retracing p) h entry r yes) where
+    by : {b : Bool} → yes ≡ b → Updates (onward course p now b) r entry t e exit
+        → Updates (may course p now h.auto_follow) h entry t e exit
+    unfolding may_retrace
+    by said u =
+        subst (λ (x : Bool). Updates (may course p now x) h entry t e exit) (sym auto)
+        (updates-asked (retracing p) (onward course p now) a said u)
+
+    pub turned_round : yes ≡ true → Updates (λ C. retraced true C course p now) r entry t e exit
+        → Updates (may course p now h.auto_follow) h entry t e exit
+    turned_round said u = by said u
+
+    pub rode-on : yes ≡ false → Updates (λ C. add_update C course p now) r entry t e exit
+        → Updates (may course p now h.auto_follow) h entry t e exit
+    unfolding retraced
+    rode-on said u = by said u
+
+  pub never-turned : h.auto_follow ≡ false → Updates (λ C. add_update C course p now) h entry t e exit
+      → Updates (may course p now h.auto_follow) h entry t e exit
   unfolding may_retrace
-  auto e C s = ap (λ (x : Bool). may_retrace x C (course_of h line) p now s) e
-
-  pub turned_round : h.auto_follow ≡ true → r.yes ≡ true
-      → Updates (λ C. retraced true C (course_of r.homing line) p now) r.homing entry t exit
-      → Updates (λ C. may_retrace h.auto_follow C (course_of h line) p now) h entry t exit
-  turned_round m e u =
-      updates-as (λ C. may_retrace h.auto_follow C (course_of h line) p now)
-      (λ C s. and_then (retracing p s) λ b after. retraced b C (course_of h line) p now after) h entry t exit (auto m _ _)
-      (updates-asked (retracing p) onward h entry exit r true t a e
-      (subst (λ (l : List Crumb). Updates (λ C. retraced true C l p now) r.homing entry t exit) (retrace-course h entry p r a line) u))
-
-  pub rode-on : h.auto_follow ≡ true → r.yes ≡ false
-      → Updates (λ C. add_update C (course_of r.homing line) p now) r.homing entry t exit
-      → Updates (λ C. may_retrace h.auto_follow C (course_of h line) p now) h entry t exit
-  unfolding retraced
-  rode-on m e u =
-      updates-as (λ C. may_retrace h.auto_follow C (course_of h line) p now)
-      (λ C s. and_then (retracing p s) λ b after. retraced b C (course_of h line) p now after) h entry t exit (auto m _ _)
-      (updates-asked (retracing p) onward h entry exit r false t a e
-      (subst (λ (l : List Crumb). Updates (λ C. add_update C l p now) r.homing entry t exit) (retrace-course h entry p r a line) u))
-
-pub never-turned : (h : Homing) (line entry exit : List Float) (p : Point) (now : ℕ) (t : Told) → h.auto_follow ≡ false
-    → Updates (λ C. add_update C (course_of h line) p now) h entry t exit
-    → Updates (λ C. may_retrace h.auto_follow C (course_of h line) p now) h entry t exit
-unfolding may_retrace
-never-turned h line entry exit p now t e u =
-    updates-as (λ C. may_retrace h.auto_follow C (course_of h line) p now) (λ C. add_update C (course_of h line) p now) h entry t exit
-    (ap (λ (x : Bool). may_retrace x (capacity (length entry)) (course_of h line) p now (state_of h entry)) e) u
+  never-turned never u = subst (λ (x : Bool). Updates (may course p now x) h entry t e exit) (sym never) u
 
 -- ---- along the course, or not
-module _ (h : Homing) (line entry exit : List Float) (p : Point) (now : ℕ) (r : Answered)
-    (a : Asks (joining (course_of h line) p) h entry r)
-    (t : Told) where
-  abbrev further : Bool → ℕ → State → Done Event
-  further b C s = joined_or_not b C (course_of h line) p now s
+abbrev further : List Crumb → Point → ℕ → Bool → ℕ → State → Done Event
+further course p now b C s = joined_or_not b C course p now s
 
-  pub joined-up : r.yes ≡ true → Updates (λ C. joined_course C (course_of r.homing line) p now) r.homing entry t exit
-      → Updates (λ C. fix_on lines.Nothing C (course_of h line) p now) h entry t exit
+module _ (course : List Crumb) (p : Point) (now : ℕ) {h r : Homing} {yes : Bool} {entry exit : List Float} {t : Homing} {e : Event}
+    (a : Asks (joining course p) h entry r yes) where
+  pub joined-up : yes ≡ true → Updates (λ C. joined_course C course p now) r entry t e exit
+      → Updates (λ C. fix_on lines.Nothing C course p now) h entry t e exit
   unfolding fix_on joined_or_not
-  joined-up e u =
-      updates-asked (joining (course_of h line) p) further h entry exit r true t a e
-      (subst (λ (l : List Crumb). Updates (λ C. joined_course C l p now) r.homing entry t exit) (join-course h entry line p r a) u)
+  joined-up said u = updates-asked (joining course p) (further course p now) a said u
 
-  pub rode-by : r.yes ≡ false
-      → Updates (λ C. may_retrace r.homing.auto_follow C (course_of r.homing line) p now) r.homing entry t exit
-      → Updates (λ C. fix_on lines.Nothing C (course_of h line) p now) h entry t exit
+  pub rode-by : yes ≡ false → Updates (λ C. may_retrace r.auto_follow C course p now) r entry t e exit
+      → Updates (λ C. fix_on lines.Nothing C course p now) h entry t e exit
   unfolding fix_on joined_or_not
-  rode-by e u =
-      let u2 = subst (λ (l : List Crumb). Updates (λ C. may_retrace r.homing.auto_follow C l p now) r.homing entry t exit)
-      (join-course h entry line p r a) u in
-      updates-asked (joining (course_of h line) p) further h entry exit r false t a e (record {
-        told = u2.told;
-        follows =
-            record { same = u2.follows.same; fit = u2.follows.fit; size = u2.follows.size; beyond = u2.follows.beyond };
+  rode-by said u =
+      updates-asked (joining course p) (further course p now) a said (record {
+        told = u.told;
+        follows = record { same = u.follows.same; fit = u.follows.fit; size = u.follows.size; beyond = u.follows.beyond };
       })
 
 -- ---- by the line that is followed
-pub by-line : (h : Homing) (on : Line) (line entry exit : List Float) (p : Point) (now : ℕ) (t : Told) → h.follow.line ≡ on
-    → Updates (λ C. fix_on on C (course_of h line) p now) h entry t exit
-    → Updates (λ C. fix_on h.follow.line C (course_of h line) p now) h entry t exit
-by-line h on line entry exit p now t e u =
-    subst (λ (x : Line). Updates (λ C. fix_on x (C) (course_of h line) p now) h entry t exit) (sym e) u
+pub by-line : (on : Line) (course : List Crumb) (p : Point) (now : ℕ) {h : Homing} {entry exit : List Float} {t : Homing} {e : Event}
+    → h.follow.line ≡ on → Updates (λ C. fix_on on C course p now) h entry t e exit
+    → Updates (λ C. fix_on h.follow.line C course p now) h entry t e exit
+by-line on course p now {h} {entry} {exit} {t} {e} told u =
+    subst (λ (x : Line). Updates (λ C. fix_on x C course p now) h entry t e exit) (sym told) u

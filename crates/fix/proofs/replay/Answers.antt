@@ -1,18 +1,10 @@
 -- `fix::replay` meets its contract.
-use mathlib.Core.Path.{sym, subst}
-use lib.ListN.{length}
-use Rattle.trail.specs.View as trail
-use Rattle.fix.specs.declared.Ridden.{Ridden}
-use Rattle.fix.proofs.Arriving.{replays-whole}
+use mathlib.Core.Path.{refl}
+use Rattle.fix.proofs.Arriving.{replays, on-it, passes}
 use Rattle.fix.proofs.replay.Goals as goal
 
-pub replay_parts-after-requires : goal.replay_parts-after-requires
-replay_parts-after-requires c =
-    subst (λ (g : Ridden). trail.TrailFit g.trail (length c.args.crumbs.now)) (sym c.taken_apart-g.ensures) c.requires
-
 pub returns : goal.returns
-returns c =
-    let a = c.args in
-    replays-whole a.fix a.now_ms c.taken_apart-g.ensures
-    c.put_together.ensures
-    (c.replay_parts-after.ensures a.h)
+returns c = let g = c.args in let p = c.framed-p.result in
+    replays g.fix g.now_ms p c.located-h.ensures c.framed-p.ensures
+    (on-it g.now_ms p c.track_heading-h.ensures (λ b. refl) refl) c.add.ensures
+    (passes p c.passing-h.ensures (λ b. refl) refl)

@@ -1,6 +1,5 @@
 -- `follow::flush` meets its contract.
 use Rattle.trail.specs.Trail as trail
-use Rattle.state.specs.Guided.{whole}
 use Rattle.follow.specs.Record.{flush_in}
 use Rattle.follow.proofs.Recording.{taken-over}
 use Rattle.follow.proofs.flush.Goals as goal
@@ -9,4 +8,4 @@ pub returns : goal.returns
 unfolding flush_in
 returns c =
     let a = c.args in
-    taken-over trail.flush (whole a.h a.window.now) c.flush-thinned.ensures c.after_thinning-next.ensures
+    taken-over trail.flush a.h.now c.flush-thinned.ensures c.after_thinning-h.ensures

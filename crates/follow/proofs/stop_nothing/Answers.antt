@@ -5,4 +5,4 @@ use Rattle.follow.proofs.stop_nothing.Goals as goal
 
 pub returns : goal.returns
 unfolding stop_nothing
-returns c = λ w. record { same = λ b. simp (← c.stopped-next.ensures); trail = refl }
+returns c = record { same = λ b. simp (← c.stopped-h.ensures); trail = refl }

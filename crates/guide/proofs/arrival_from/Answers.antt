@@ -1,31 +1,30 @@
 -- `guide::arrival_from` meets its contract.
-use mathlib.Core.Path.{ap, ◌∙◌}
+use mathlib.Core.Path.{refl, ap, ◌∙◌}
 use mathlib.Core.Bool.{Bool, ◌&&◌}
 use lib.Ieee.{lt, of_bits}
 use Rattle.binary32.specs.Arithmetic.{constant}
-use Rattle.guide.specs.Guide.{arrive_m, leave_m, off_cleared}
-use Rattle.guide.proofs.Arriving.{left-or-there, arrived-now, away}
+use Rattle.state.specs.State.{state_of}
+use Rattle.guide.specs.Guide.{arrive_m, leave_m, off_cleared, arrival_from}
+use Rattle.guide.proofs.Arriving.{tells, left-or-there, arrived-now, away}
 use Rattle.guide.proofs.arrival_from.Goals as goal
+use Rattle.guide.proofs.arrival_from.Goals.{else-long-via-then-long+else-direct, else-long-via-else-long}
 
-pub returns-then-arrived : goal.returns-then-arrived
+pub returns-then-h : goal.returns-then-h
 unfolding leave_m constant of_bits
-returns-then-arrived c = λ s. let g = c.args in left-or-there g.f g.arrived g.long g.direct g.e s c.if-arrived.true
+returns-then-h c = λ b. let g = c.args in let h = g.h.now in
+    tells (arrival_from h.arrived g.long g.direct g.e) h b _ g.e (left-or-there g.long g.direct g.e (state_of h b) c.if-h.true) refl
 
 pub returns-then-direct : goal.returns-then-direct
 unfolding arrive_m constant of_bits off_cleared
-returns-then-direct c = λ s.
-    let g = c.args in
-    arrived-now g.f g.arrived g.long g.direct g.e s c.if-arrived.false c.if-long.true c.if-direct.true
+returns-then-direct c = λ b. let g = c.args in let h = g.h.now in
+    tells (arrival_from h.arrived g.long g.direct g.e) h b _ _
+    (arrived-now g.long g.direct g.e (state_of h b) c.if-h.false c.if-long.true c.if-direct.true) refl
 
-pub returns-else-direct : goal.returns-else-direct
+pub returns : goal.returns
 unfolding arrive_m constant of_bits
-returns-else-direct c = λ s.
-    let g = c.args in
-    away g.f g.arrived g.long g.direct g.e s c.if-arrived.false
-    (ap (λ (x : Bool). x && lt g.direct arrive_m) c.if-long.true ∙ c.if-direct.false)
-
-pub returns-else-long : goal.returns-else-long
-returns-else-long c = λ s.
-    let g = c.args in
-    away g.f g.arrived g.long g.direct g.e s c.if-arrived.false
-    (ap (λ (x : Bool). x && lt g.direct arrive_m) c.if-long.false)
+returns c = λ b. let g = c.args in let h = g.h.now in
+    tells (arrival_from h.arrived g.long g.direct g.e) h b h g.e
+    (away g.long g.direct g.e (state_of h b) c.if-h.false (elim c.else-long.branch [
+      | else-long-via-then-long+else-direct w ↦ ap (λ (x : Bool). x && lt g.direct arrive_m) w.if-long.true ∙ w.if-direct.false
+      | else-long-via-else-long w ↦ ap (λ (x : Bool). x && lt g.direct arrive_m) w.if-long.false
+    ])) refl

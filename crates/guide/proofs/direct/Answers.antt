@@ -1,11 +1,10 @@
 -- `guide::direct` meets its contract.
-use mathlib.Core.Path.{◌∙◌}
 use lib.Ieee.{of_bits}
-use Rattle.guide.proofs.Showing.{straight}
+use Rattle.guide.proofs.Showing.{tells-straight}
 use Rattle.guide.proofs.direct.Goals as goal
 
 pub returns : goal.returns
 unfolding of_bits
-returns c = λ s x.
+returns c = λ b held.
     let g = c.args in
-    straight x g.x.now.course.now g.p c.recorded_m.ensures c.start.ensures ∙ c.finished.ensures s x
+    tells-straight g.h.now b held g.course.now g.p c.recorded_m.ensures c.start.ensures (c.finished.ensures b held)

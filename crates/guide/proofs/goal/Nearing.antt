@@ -1,13 +1,13 @@
 -- The nearest segment lies within 500 m where some segment does, unless the first one tried is a NaN away: then nothing is less, and it
 -- stays. Assumes nothing.
-use Prim.Native.Nat.{ℕ, zero, suc, ◌-◌, ◌*◌, ◌≤◌, ◌<◌}
+use Prim.Native.Nat.{ℕ, zero, suc, ◌-◌, ◌≤◌, ◌<◌}
 use mathlib.Core.Path.{◌≡◌, refl, sym, ap, ◌∙◌, subst}
-use mathlib.Core.Bool.{Bool, true, false, ◌&&◌, ◌||◌, cond, true≢false}
+use mathlib.Core.Bool.{Bool, true, false, ◌||◌, cond, true≢false}
 use mathlib.Core.List.{List}
 use native.Mathlib.Omega.{arith}
 use lib.Dec.{T}
 use lib.ListN.{length}
-use lib.Ieee.{Float, nan, inf, fin, binary32, of_bits, up, down, lt, le, eq, is_nan}
+use lib.Ieee.{Float, nan, inf, fin, binary32, of_bits, lt, le, eq, is_nan}
 use lib.Ieee.Bits.{of_bits-fits}
 use Rattle.binary32.specs.Arithmetic.{constant}
 use Rattle.binary32.specs.Root.{root}

@@ -4,11 +4,8 @@ use Rattle.guide.proofs.guide_at.Goals as goal
 
 pub returns : goal.returns
 unfolding guide_at
-returns c = λ s x.
+returns c = λ b.
     simp (
-      ← x.follow,
-      ← x.arrived,
-      ← x.heading,
       c.aim.ensures,
       c.mode_of.ensures,
       c.on_line.ensures,

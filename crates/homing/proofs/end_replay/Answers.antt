@@ -19,6 +19,6 @@ pub returns : goal.returns
 unfolding asks performs
 returns c = record {
   answered = λ b. yes (c.in_ok-asks_state.ensures b) refl;
-  called = λ b. takes call.EndReplay c.args.h.now c.end_replay.result b b (sym (c.in_ok-asks_state.ensures b))
+  called = λ b. takes call.EndReplay c.args.h.now c.end_replay.new.h b b (sym (c.in_ok-asks_state.ensures b))
       (c.end_replay.ensures.same b) refl refl;
 }

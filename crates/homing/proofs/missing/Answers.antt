@@ -23,5 +23,5 @@ returns c =
     let told = or-nothing c.in_ok-asks_both.ensures in
     record {
       answered = yes told refl;
-      called = takes (call.Observe g.line.now None g.now_ms) g.h.now c.missing.result b b (sym told) (c.missing.ensures.same b) refl refl;
+      called = takes (call.Observe g.line.now None g.now_ms) g.h.now c.missing.new.h b b (sym told) (c.missing.ensures.same b) refl refl;
     }

@@ -28,6 +28,6 @@ returns c =
     record {
       answered = yes told refl;
       called =
-          takes-rule (call.Replay g.fix g.at_ms) g.h.now c.replay.result g.crumbs.now c.replay.new.crumbs (λ C. replay C g.fix g.at_ms)
+          takes-rule (call.Replay g.fix g.at_ms) g.h.now c.replay.new.h g.crumbs.now c.replay.new.crumbs (λ C. replay C g.fix g.at_ms)
           (sym told) refl c.replay.ensures;
     }

@@ -19,5 +19,5 @@ pub returns : goal.returns
 unfolding asks performs
 returns c = record {
   answered = λ b. yes (c.in_ok-asks_state.ensures b) refl;
-  called = λ b. takes call.Reset c.args.h.now c.reset.result b b (sym (c.in_ok-asks_state.ensures b)) (c.reset.ensures.same b) refl refl;
+  called = λ b. takes call.Reset c.args.h.now c.reset.new.h b b (sym (c.in_ok-asks_state.ensures b)) (c.reset.ensures.same b) refl refl;
 }

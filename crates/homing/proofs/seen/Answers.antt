@@ -4,7 +4,7 @@ use Rattle.calls.specs.Fix.{seen, observe}
 use Rattle.calls.specs.Calls as call
 use Rattle.calls.specs.Calls.{asks, asks_place, course_in, performs}
 use Rattle.state.specs.State.{state_of}
-use Rattle.questions.proofs.Given.{neither}
+use Rattle.questions.proofs.Given.{both-given, neither}
 use Rattle.answers.proofs.Answering.{no, yes}
 use Rattle.homing.proofs.Calling.{refuses, takes-rule, ready}
 use Rattle.homing.proofs.seen.Goals as goal
@@ -16,11 +16,12 @@ returns-in_err-asks_seen c =
     let told = c.in_err-asks_seen.ensures g.now_ms in
     record { answered = no e told _; called = refuses (call.Observe g.line.now (Some g.fix) g.now_ms) g.h.now g.crumbs.now _ told }
 
-pub seen-t-requires : goal.seen-t-requires
+pub seen-requires : goal.seen-requires
 unfolding asks
-seen-t-requires c =
+seen-requires c =
     let g = c.args in
-    ready _ g.line.now g.h.now g.crumbs.now (neither _ _ (sym (c.in_ok-asks_seen.ensures 0))).0
+    let asked = (neither _ _ (sym (c.in_ok-asks_seen.ensures 0))).0 in
+    (ready _ g.line.now g.h.now g.crumbs.now asked, (both-given _ g.line.now g.h.now g.crumbs.now asked).lined.placed)
 
 pub returns : goal.returns
 unfolding observe performs
@@ -28,10 +29,10 @@ returns c =
     let g = c.args in
     let b = g.crumbs.now in
     let told = c.in_ok-asks_seen.ensures g.now_ms in
-    let u = c.seen-t in
+    let u = c.seen in
     record {
       answered = yes told u.ensures.told;
       called =
-          takes-rule (call.Observe g.line.now (Some g.fix) g.now_ms) g.h.now u.result.homing b u.new.crumbs
+          takes-rule (call.Observe g.line.now (Some g.fix) g.now_ms) g.h.now u.new.h b u.new.crumbs
           (λ C. seen C (course_in g.line.now (state_of g.h.now b)) g.fix g.now_ms) (sym told) refl u.ensures.follows;
     }

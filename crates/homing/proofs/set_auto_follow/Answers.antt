@@ -30,5 +30,5 @@ returns c =
     record {
       answered = yes told refl;
       called =
-          takes-rule (call.SetAutoFollow g.on) g.h.now k.result g.crumbs.now k.new.crumbs (set_auto_follow g.on) (sym told) refl k.ensures;
+          takes-rule (call.SetAutoFollow g.on) g.h.now k.new.h g.crumbs.now k.new.crumbs (set_auto_follow g.on) (sym told) refl k.ensures;
     }

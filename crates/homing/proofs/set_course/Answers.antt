@@ -39,8 +39,8 @@ returns c =
     let k = c.set_course in
     record {
       answered = λ b. yes (told b) refl;
-      called = λ b. takes (call.SetCourse l xs) g.h.now k.result b b (sym (told b)) (k.ensures.same b) refl refl;
-      placed = λ b _. places-line xs g.h.now k.result l k.new.line k.ensures;
+      called = λ b. takes (call.SetCourse l xs) g.h.now k.new.h b b (sym (told b)) (k.ensures.same b) refl refl;
+      placed = λ b _. places-line xs g.h.now k.new.h l k.new.line k.ensures;
       refused = λ b ne. absurd (ne (sym (told b)));
       size = k.ensures.size;
     }

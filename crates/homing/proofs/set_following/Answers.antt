@@ -17,20 +17,22 @@ returns-in_err-asks_both c =
     let told = c.in_err-asks_both.ensures in
     record { answered = no e told _; called = refuses (call.SetFollowing g.line.now g.follow g.now_ms) g.h.now g.crumbs.now _ told }
 
-pub set_following-a-requires : goal.set_following-a-requires
-set_following-a-requires c =
-    (both-given _ c.args.line.now c.args.h.now c.args.crumbs.now (sym c.in_ok-asks_both.ensures)).fit
+pub set_following-requires : goal.set_following-requires
+set_following-requires c =
+    let g = c.args in
+    let given = both-given _ g.line.now g.h.now g.crumbs.now (sym c.in_ok-asks_both.ensures) in
+    (given.fit, given.lined.placed)
 
 pub returns : goal.returns
 unfolding asks performs
 returns c =
     let g = c.args in
     let b = g.crumbs.now in
-    let k = c.set_following-a in
+    let k = c.set_following in
     let told = c.in_ok-asks_both.ensures in
     record {
       answered = yes told k.ensures.answered;
       called =
-          takes-rule (call.SetFollowing g.line.now g.follow g.now_ms) g.h.now k.result.homing b k.new.crumbs
+          takes-rule (call.SetFollowing g.line.now g.follow g.now_ms) g.h.now k.new.h b k.new.crumbs
           (λ C. set_following g.follow C (course_in g.line.now (state_of g.h.now b)) g.now_ms) (sym told) refl k.ensures.follows;
     }

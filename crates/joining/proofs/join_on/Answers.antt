@@ -1,13 +1,20 @@
 -- `joining::join_on` meets its contract.
+use mathlib.Core.Path.{refl}
 use Rattle.joining.specs.Join.{join_on, joined_to}
 use Rattle.joining.proofs.join_on.Goals as goal
 
-pub returns-in-Some : goal.returns-in-Some
+pub returns-in_default : goal.returns-in_default
 unfolding join_on joined_to
-returns-in-Some c = λ s.
-    let told = c.in-Some.is in
-    record { answered = simp (told, ← c.saturating_add-fixes.ensures); same = simp (told, ← c.saturating_add-fixes.ensures) }
+returns-in_default c = λ b.
+    let told = c.in_default.is in
+    record { answered = simp told; same = simp told; held = record { len = refl; tolerance = refl; waiting = refl } }
 
-pub returns-in-None : goal.returns-in-None
+pub returns : goal.returns
 unfolding join_on joined_to
-returns-in-None c = λ s. record { answered = simp c.in-None.is; same = simp c.in-None.is }
+returns c = λ b.
+    let told = c.in-Some.is in
+    record {
+      answered = simp (told, ← c.saturating_add-h.ensures);
+      same = simp (told, ← c.saturating_add-h.ensures);
+      held = record { len = refl; tolerance = refl; waiting = refl };
+    }

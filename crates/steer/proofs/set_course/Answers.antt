@@ -8,7 +8,5 @@ pub returns : goal.returns
 returns c =
     let g = c.args in
     let k = c.place-line_len in
-    let off = c.off_course-off in
-    course-set (fixes g.lats.now g.lons.now) g.h off.result _ k.result c.waits-unplaced.result
-    g.line.now k.new.line
-    off.ensures k.ensures c.waits-unplaced.ensures c.lined-next.ensures (λ b. refl) refl
+    course-set (fixes g.lats.now g.lons.now) g.h.now c.off_course.new.h _ k.result c.waits-unplaced.result g.line.now k.new.line
+    c.off_course.ensures k.ensures c.waits-unplaced.ensures c.lined-h.ensures (λ b. refl) refl

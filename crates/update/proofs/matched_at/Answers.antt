@@ -6,13 +6,14 @@ use Rattle.update.proofs.Matching.{matches}
 use Rattle.update.proofs.matched_at.Goals as goal
 
 pub returns : goal.returns
-returns c = λ s x i.
+returns c = λ b held on.
     let g = c.args in
-    let was = g.x.now.follow in
+    let was = g.h.now.follow in
     let is_due = ap (λ (y : Bool). off_event was.off c.off_now-off.result y) c.due.ensures in
-    matches _ g.p g.now_ms g.near s x i
+    matches g.course.now g.p g.now_ms g.near g.h.now b on
     c.off_now-off.ensures
     (c.off_event-e.ensures ∙ is_due)
     c.way_on-w.ensures
-    c.follow_matched.ensures
-    ∙ c.finished.ensures _ (record { follow = refl; arrived = x.arrived; heading = x.heading; crumbs = x.crumbs })
+    c.follow_matched-h.ensures
+    c.course_matched-h.ensures
+    refl refl (c.finished.ensures b held)

@@ -1,78 +1,58 @@
 -- `update::update` meets its contract.
-use mathlib.Core.Path.{refl}
-use mathlib.Core.List.{[]}
-use Rattle.state.specs.Guided.{whole}
+use mathlib.Core.Path.{sym, subst}
+use Prim.Native.Nat.{◌≤◌}
+use lib.ListN.{length}
+use Rattle.crumbs.specs.Crumb.{capacity}
+use Rattle.trail.specs.declared.Trail.{Trail}
 use Rattle.trail.specs.View.{track}
-use Rattle.update.specs.View.{told_in}
-use Rattle.update.specs.Update.{begun}
-use Rattle.update.proofs.Deciding.{begun-followed}
-use Rattle.update.proofs.Updating.{fit-begun, followed-here, last-here}
-use Rattle.update.proofs.Updating.{match-on, goes-straight, stays, ends, goes_on}
+use Rattle.update.proofs.Updating.{fit-begun, followed-here, last-here, match-on, line-on, goes-straight, stays, ends, goes_on}
 use Rattle.update.proofs.update.Goals as goal
 
 pub new-held-requires : goal.new-held-requires
-new-held-requires c = (c.requires []).trail.held
-
-pub new-placed-requires : goal.new-placed-requires
-new-placed-requires c = (c.requires []).course
+new-held-requires c =
+    subst (λ (t : Trail). t.len ≤ capacity (length c.args.crumbs.now)) (sym c.begun.ensures.trail) c.requires.trail.held
 
 pub outcome_at-requires : goal.outcome_at-requires
 outcome_at-requires c =
-    last-here (whole c.args.h []) c.args.crumbs.now c.new-held.ensures c.args.line.now c.new-placed.ensures (c.requires [])
-    c.followed_by-f.ensures
+    let g = c.args in
+    let n = c.begun.new.h in
+    last-here n g.crumbs.now c.new-held.ensures (fit-begun g.p g.now_ms g.h.now n c.begun.ensures c.requires) c.followed_by-f.ensures
 
 pub ended_with-requires : goal.ended_with-requires
 ended_with-requires c =
     let g = c.args in
-    let begun = c.begun-in-Ends in
-    λ w. fit-begun g.p g.now_ms (whole g.h w) (whole begun.result w) _ _ (begun.ensures w) (c.requires w)
+    fit-begun g.p g.now_ms g.h.now c.begun.new.h c.begun.ensures c.requires
 
 pub matched_at-requires : goal.matched_at-requires
 matched_at-requires c =
     let g = c.args in
-    let i = followed-here (whole g.h []) g.crumbs.now c.new-held.ensures c.followed_by-f.ensures in
-    match-on (whole g.h []) g.crumbs.now c.new-placed.result g.p g.now_ms i c.outcome_at.ensures c.in-GoesOn.is
+    let i = followed-here c.begun.new.h g.crumbs.now c.new-held.ensures c.followed_by-f.ensures in
+    match-on g.crumbs.now g.p g.now_ms c.begun.ensures i c.outcome_at.ensures c.in-GoesOn.is
 
 pub returns-in-Straight : goal.returns-in-Straight
-unfolding begun track
-returns-in-Straight c = λ w.
+unfolding track
+returns-in-Straight c =
     let g = c.args in
-    let h = whole g.h w in
-    let b = g.crumbs.now in
-    let i = followed-here h b c.new-held.ensures c.followed_by-f.ensures in
-    let shows = c.direct.ensures _ (record { follow = refl; arrived = refl; heading = refl; crumbs = c.new-held.ensures }) in
-    rw (← c.new-placed.ensures)
-    (goes-straight h b c.new-placed.result g.p g.now_ms i c.outcome_at.ensures (c.requires w).trail c.in-Straight.is
-    c.direct.result shows (told_in c.shown.result w) (c.shown.ensures b w))
+    let i = followed-here c.begun.new.h g.crumbs.now c.new-held.ensures c.followed_by-f.ensures in
+    goes-straight g.crumbs.now g.p g.now_ms c.begun.ensures i c.outcome_at.ensures c.requires.trail c.in-Straight.is
+    (c.direct.ensures g.crumbs.now c.new-held.ensures)
 
 pub returns-in-Stays : goal.returns-in-Stays
-returns-in-Stays c = λ w.
+returns-in-Stays c =
     let g = c.args in
-    let h = whole g.h w in
-    let b = g.crumbs.now in
-    let i = followed-here h b c.new-held.ensures c.followed_by-f.ensures in
-    rw (← c.new-placed.ensures) (stays h b c.new-placed.result g.p g.now_ms i c.outcome_at.ensures (c.requires w).trail c.in-Stays.is
-    (whole c.begun.result w) (c.begun.ensures w))
+    let i = followed-here c.begun.new.h g.crumbs.now c.new-held.ensures c.followed_by-f.ensures in
+    stays g.crumbs.now g.p g.now_ms c.begun.ensures i c.outcome_at.ensures c.requires.trail c.in-Stays.is
 
 pub returns-in-Ends : goal.returns-in-Ends
-returns-in-Ends c = λ w.
+returns-in-Ends c =
     let g = c.args in
-    let h = whole g.h w in
-    let b = g.crumbs.now in
-    let i = followed-here h b c.new-held.ensures c.followed_by-f.ensures in
-    let ended = c.ended_with in
-    rw (← c.new-placed.ensures)
-    (ends h b c.new-placed.result g.p g.now_ms i c.outcome_at.ensures g.line.now c.new-placed.ensures c.in-Ends.is
-    (whole c.begun-in-Ends.result w) (c.begun-in-Ends.ensures w) (told_in ended.result w) ended.new.crumbs (ended.ensures w))
+    let i = followed-here c.begun.new.h g.crumbs.now c.new-held.ensures c.followed_by-f.ensures in
+    ends g.crumbs.now g.p g.now_ms c.begun.ensures i c.outcome_at.ensures c.in-Ends.is c.ended_with.ensures
 
 pub returns-in-GoesOn : goal.returns-in-GoesOn
-unfolding begun track
-returns-in-GoesOn c = λ w.
+unfolding track
+returns-in-GoesOn c =
     let g = c.args in
-    let h = whole g.h w in
-    let b = g.crumbs.now in
-    let i = followed-here h b c.new-held.ensures c.followed_by-f.ensures in
-    let shows = c.matched_at.ensures _ (record { follow = refl; arrived = refl; heading = refl; crumbs = c.new-held.ensures })
-    (begun-followed i g.p g.now_ms).parts.line in
-    rw (← c.new-placed.ensures) (goes_on h b c.new-placed.result g.p g.now_ms i c.outcome_at.ensures (c.requires w).trail c.in-GoesOn.is
-    c.matched_at.result shows c.course_matched.ensures (told_in c.shown-in-GoesOn.result w) (c.shown-in-GoesOn.ensures b w))
+    let i = followed-here c.begun.new.h g.crumbs.now c.new-held.ensures c.followed_by-f.ensures in
+    goes_on g.crumbs.now g.p g.now_ms c.begun.ensures i c.outcome_at.ensures c.requires.trail c.in-GoesOn.is
+    (c.matched_at.ensures g.crumbs.now c.new-held.ensures (line-on g.crumbs.now g.p g.now_ms c.begun.ensures i c.outcome_at.ensures))

@@ -1,68 +1,63 @@
 -- `fix::new_fix::may_retrace` meets its contract.
+use mathlib.Core.Path.{sym, ap, ◌∙◌, subst}
 use native.Mathlib.Omega.{arith}
-use Rattle.state.specs.Guided.{whole}
-use Rattle.update.specs.View.{told_in}
-use Rattle.fix.proofs.recording.Beginning.{retraced_as, asks-retracing, retrace-fit, retrace-few}
+use lib.ListN.{length}
+use Rattle.state.specs.declared.Follow.{Follow}
+use Rattle.state.specs.declared.Homing.{Homing}
+use Rattle.follow.specs.View.{HomingFit}
+use Rattle.update.specs.View.{Updates}
+use Rattle.calls.specs.Fix.{add_update}
+use Rattle.fix.specs.Ready.{Grows}
+use Rattle.fix.proofs.recording.Beginning.{retrace-follows, retrace-fit, retrace-few}
 use Rattle.fix.proofs.recording.Turning.{idle-grows, turned_round, rode-on, never-turned}
 use Rattle.fix.proofs.new_fix.may_retrace.Goals as goal
+use Rattle.fix.proofs.new_fix.may_retrace.Goals.{else-h-via-then-h+else-retracing, else-h-via-else-h}
 
-pub retracing-b-requires : goal.retracing-b-requires
-retracing-b-requires c = (c.requires.ready.fit.trail.held, omega (arith, c.requires.ready.retrace))
+pub retracing-requires : goal.retracing-requires
+retracing-requires c = (c.requires.ready.fit.trail.held, omega (arith, c.requires.ready.retrace))
 
 pub retraced-requires : goal.retraced-requires
 retraced-requires c =
-    let g = c.args in
-    let h = whole g.h g.window.now in
-    let r = retraced_as h c.retracing-b.result in
-    let a = asks-retracing h g.crumbs.now g.p c.retracing-b.result c.retracing-b.ensures in
+    let p = c.args.p in
+    let a = c.retracing.ensures in
     record {
-      fit = retrace-fit h g.crumbs.now g.p r a _ c.requires.ready.fit;
-      retrace_len_bound = (retrace-few h g.crumbs.now g.p r a c.if-b.true c.requires.ready.back, c.requires.line_value);
+      fit = retrace-fit p a c.requires.ready.fit;
+      retrace_len_bound = (
+        retrace-few p a c.if-retracing.true c.requires.ready.back,
+        ap (λ (f : Follow). f.line) (retrace-follows p a) ∙ c.requires.line_value,
+      );
     }
 
-pub returns-then-b : goal.returns-then-b
-returns-then-b c =
-    let g = c.args in
-    let h = whole g.h g.window.now in
-    turned_round h g.line.now g.crumbs.now c.retraced.new.crumbs g.p g.now_ms
-    (retraced_as h c.retracing-b.result)
-    (asks-retracing h g.crumbs.now g.p c.retracing-b.result c.retracing-b.ensures)
-    (told_in c.retraced.result c.retraced.new.window)
-    c.if-h.true c.if-b.true c.retraced.ensures
+pub returns-then-retracing : goal.returns-then-retracing
+returns-then-retracing c = let g = c.args in
+    turned_round g.course.now g.p g.now_ms c.if-h.true c.retracing.ensures c.if-retracing.true c.retraced.ensures
 
 pub add_update-requires : goal.add_update-requires
 add_update-requires c =
     let g = c.args in
-    let h = whole g.h g.window.now in
-    let r = retraced_as h c.retracing-b.result in
-    let a = asks-retracing h g.crumbs.now g.p c.retracing-b.result c.retracing-b.ensures in
-    record {
-      fit = retrace-fit h g.crumbs.now g.p r a _ c.requires.ready.fit;
-      grows =
-          idle-grows r.homing c.requires.line_value;
-    }
-
-pub returns-then-h : goal.returns-then-h
-returns-then-h c =
-    let g = c.args in
-    let h = whole g.h g.window.now in
-    rode-on h g.line.now g.crumbs.now c.add_update.new.crumbs g.p g.now_ms
-    (retraced_as h c.retracing-b.result)
-    (asks-retracing h g.crumbs.now g.p c.retracing-b.result c.retracing-b.ensures)
-    (told_in c.add_update.result c.add_update.new.window)
-    c.if-h.true c.if-b.false c.add_update.ensures
-
-pub add_update-requires-2 : goal.add_update-requires-2
-add_update-requires-2 c = record {
-  fit = c.requires.ready.fit;
-  grows =
-      idle-grows (whole c.args.h c.args.window.now) c.requires.line_value;
-}
+    elim c.else-h.branch [
+      | else-h-via-then-h+else-retracing w ↦
+          let a = w.retracing.ensures in record {
+            fit = subst (λ (h : Homing). HomingFit h (length g.crumbs.now) (length g.course.now)) (sym w.h-is)
+                (retrace-fit g.p a c.requires.ready.fit);
+            grows = subst (λ (h : Homing). Grows h) (sym w.h-is)
+                (idle-grows w.retracing.new.h (ap (λ (f : Follow). f.line) (retrace-follows g.p a) ∙ c.requires.line_value));
+          }
+      | else-h-via-else-h w ↦
+          record {
+            fit = subst (λ (h : Homing). HomingFit h (length g.crumbs.now) (length g.course.now)) (sym w.h-is) c.requires.ready.fit;
+            grows = subst (λ (h : Homing). Grows h) (sym w.h-is) (idle-grows g.h.now c.requires.line_value);
+          }
+    ]
 
 pub returns : goal.returns
-returns c =
-    let g = c.args in
-    let u = c.add_update-2 in
-    never-turned (whole g.h g.window.now) g.line.now g.crumbs.now u.new.crumbs g.p g.now_ms
-    (told_in u.result u.new.window)
-    c.if-h.false u.ensures
+returns c = let g = c.args in let k = c.add_update in
+    let l = g.course.now in
+    elim c.else-h.branch [
+      | else-h-via-then-h+else-retracing w ↦
+          rode-on l g.p g.now_ms w.if-h.true w.retracing.ensures w.if-retracing.false
+          (subst (λ (h : Homing). Updates (λ C. add_update C l g.p g.now_ms) h g.crumbs.now k.new.h k.result k.new.crumbs) w.h-is k.ensures)
+      | else-h-via-else-h w ↦
+          never-turned l g.p g.now_ms w.if-h.false
+          (subst (λ (h : Homing). Updates (λ C. add_update C l g.p g.now_ms) h g.crumbs.now k.new.h k.result k.new.crumbs) w.h-is k.ensures)
+    ]

@@ -8,13 +8,13 @@ use Rattle.trail.specs.View.{track, places}
 use Rattle.state.specs.State.{state_of, with_track}
 use Rattle.follow.specs.Engage.{cut_to, forgotten}
 use Rattle.calls.specs.Fix.{turned_back}
-use Rattle.state.specs.Guided.{whole}
 use Rattle.fix.proofs.recording.turned_back.Goals as goal
 
 pub returns : goal.returns
 unfolding turned_back cut_to forgotten track places
-returns c = λ w.
-    let t = c.args.h.trail in
+returns c =
+    let h = c.args.h.now in
+    let t = h.trail in
     record {
       same = λ b.
           ap (λ (l : List Crumb). with_track (record {
@@ -24,7 +24,7 @@ returns c = λ w.
             retrace = 0;
             retrace_len =
                 t.retrace_len;
-          }) (state_of (whole c.args.h w) b))
+          }) (state_of h b))
           (sym (take-crumbs t.retrace_len t.len b c.requires));
       fit = λ size f.
           record {

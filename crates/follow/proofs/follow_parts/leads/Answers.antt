@@ -1,15 +1,23 @@
--- `follow::follow_parts::leads` meets its contract.
-use borrow.Author.Tests.{lt-leb, le-leb}
-use lib.Ieee.{of_bits}
+-- `follow::follow_parts::leads` meets its contract: a breadcrumb with no length leads nowhere.
+use mathlib.Core.Path.{◌≡◌, sym}
+use mathlib.Core.Bool.{not}
+use mathlib.Core.List.{List}
+use lib.Ieee.{lt, of_bits}
+use Rattle.std.proofs.Common.{rules, Bool, Option, Some, None, Float, MatchOption, IsFalse}
 use Rattle.binary32.specs.Arithmetic.{constant}
+use Rattle.crumbs.specs.declared.Crumb.{Crumb}
+use Rattle.crumbs.specs.Length.{length_m}
+use Rattle.crumbs.proofs.Lengths.{long, short}
 use Rattle.trail.specs.Trail.{min_step_m}
 use Rattle.follow.specs.Parts.{leads}
 use Rattle.follow.proofs.follow_parts.leads.Goals as goal
 
-pub returns-then-len-lt2 : goal.returns-then-len-lt2
+leads-is : (l : List Crumb) (x : Option Float) {r : Bool} {P : Float → Type 0} → x ≡ length_m l → MatchOption x (IsFalse r) P
+    → ((m : Float) → P m → r ≡ not (lt m min_step_m)) → r ≡ leads l
 unfolding leads
-returns-then-len-lt2 c = simp (lt-leb _ _ (rw c.len-len.ensures at c.if-len-lt2.true))
+leads-is l None e h f = simp (short l (sym e), h)
+leads-is l (Some m) e h f = let k = long l (sym e) in simp (k.0, k.1, f m h)
 
 pub returns : goal.returns
-unfolding leads min_step_m constant of_bits
-returns c = simp (le-leb _ _ (rw c.len-len.ensures at c.if-len-lt2.false), ← (rw c.len-len.ensures at c.crumb.ensures))
+unfolding min_step_m constant of_bits
+returns c = leads-is _ _ c.length_m.ensures c.is_some_and.ensures (λ m k. search rules)

@@ -12,7 +12,7 @@ returns-then-len-lt2 c = near_none _ _ (sym c.len-len.ensures) (omega arith)
 pub returns-then-not-is_nan : goal.returns-then-not-is_nan
 returns-then-not-is_nan c =
     near-some _ _ (sym c.len-len.ensures) (omega arith) c.square_on-first.ensures (sym c.is_nan.ensures.value ∙ c.if-not-is_nan.true)
-    (c.some_near.ensures ∙ ap (λ n. some_near c.args.line.now c.args.p (n - 1)) (sym c.len-len.ensures))
+    (c.some_near.ensures ∙ ap (λ n. some_near c.args.course.now c.args.p (n - 1)) (sym c.len-len.ensures))
 
 pub returns : goal.returns
 returns c =

@@ -9,7 +9,7 @@ use Rattle.guide.proofs.goal.goal_on.Goals as goal
 pub returns-in-Course : goal.returns-in-Course
 returns-in-Course c =
     let g = c.args in
-    c.start.ensures ∙ sym (course-goal g.line.now g.start) ∙ sym (ap (λ (x : Line). goal_on x g.line.now g.start) c.in-Course.is)
+    c.start.ensures ∙ sym (course-goal g.course.now g.start) ∙ sym (ap (λ (x : Line). goal_on x g.course.now g.start) c.in-Course.is)
 
 pub returns-in-Nothing : goal.returns-in-Nothing
 unfolding goal_on

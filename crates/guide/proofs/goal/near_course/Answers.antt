@@ -9,7 +9,7 @@ pub returns-in-Nothing : goal.returns-in-Nothing
 unfolding near_course
 returns-in-Nothing c =
     let g = c.args in
-    c.found_near.ensures ∙ sym (ap (λ (x : Line). near_course x g.line.now g.p) c.in-Nothing.is)
+    c.found_near.ensures ∙ sym (ap (λ (x : Line). near_course x g.course.now g.p) c.in-Nothing.is)
 
 pub returns-in-Breadcrumb : goal.returns-in-Breadcrumb
 unfolding near_course

@@ -7,7 +7,7 @@ use Rattle.guide.proofs.goal.Nearing.{some-here, some_below, some_out}
 use Rattle.guide.proofs.goal.some_near.Goals as goal
 
 pub loop-end-init : goal.loop-end-init
-loop-end-init c = (omega arith, ap (λ n. some_near c.args.line.now c.args.p (n - 1)) c.len-end.ensures)
+loop-end-init c = (omega arith, ap (λ n. some_near c.args.course.now c.args.p (n - 1)) c.len-end.ensures)
 
 pub lies_near-requires : goal.lies_near-requires
 lies_near-requires c = omega arith

@@ -7,4 +7,4 @@ use Rattle.guide.proofs.goal.some_near.Given as goal
 
 abbrev pub invariant-loop-end : goal.invariant-loop-end
 invariant-loop-end l =
-    (l.end ≤ length l.line) × (some_near l.line l.p (l.end - 1) ≡ some_near l.line l.p (length l.line - 1))
+    (l.end ≤ length l.course) × (some_near l.course l.p (l.end - 1) ≡ some_near l.course l.p (length l.course - 1))

@@ -1,21 +1,24 @@
 -- `joining::retrace::rides_back` meets its contract.
-use mathlib.Core.Path.{sym, subst}
+use mathlib.Core.Path.{sym, subst, ◌∙◌}
 use lib.Ieee.{of_bits}
+use lib.ListN.{length}
 use Rattle.binary32.specs.Arithmetic.{constant}
 use Rattle.std.specs.Prelude.{Option}
 use Rattle.segments.specs.declared.costs.Nearest.{Nearest}
-use Rattle.joining.specs.Retrace.{retrace_skip_m}
 use Rattle.segments.specs.Inner.{InLine}
+use Rattle.crumbs.proofs.Lengths.{long, short}
 use Rattle.search.proofs.Theorems.{ends-at-most}
-use lib.ListN.{length}
-use Rattle.joining.proofs.retrace.Turning.{no-heading, too_short, before-in-line, long-enough}
+use Rattle.joining.specs.Retrace.{retrace_skip_m, rides_back}
+use Rattle.joining.proofs.retrace.Turning.{before-in-line}
 use Rattle.joining.proofs.retrace.rides_back.Goals as goal
 
 pub returns-in_default : goal.returns-in_default
-returns-in_default c = no-heading _ _ _ c.in_default.is
+unfolding rides_back
+returns-in_default c = simp c.in_default.is
 
-pub returns-then-len-lt2 : goal.returns-then-len-lt2
-returns-then-len-lt2 c = too_short _ _ _ c.in-Some.known c.in-Some.is (rw c.len-len.ensures at c.if-len-lt2.true)
+pub returns-in_default-length_m : goal.returns-in_default-length_m
+unfolding rides_back
+returns-in_default-length_m c = simp (c.in-Some.is, short c.args.crumbs.now (sym c.length_m.ensures ∙ c.in_default-length_m.is))
 
 pub nearest_before-best-requires : goal.nearest_before-best-requires
 nearest_before-best-requires c = rw c.ends-n.ensures (ends-at-most _ _)
@@ -27,13 +30,14 @@ against_near-requires c =
     (before-in-line l c.args.p c.ends-n.result (length l) (rw c.ends-n.ensures (ends-at-most _ _)))
 
 pub returns : goal.returns
-unfolding retrace_skip_m constant of_bits
+unfolding rides_back retrace_skip_m constant of_bits
 returns c =
-    let g = c.args in
-    let is = long-enough g.crumbs.now g.p g.heading c.in-Some.known c.in-Some.is (rw c.len-len.ensures at c.if-len-lt2.false) in
+    let k = long c.args.crumbs.now (sym c.length_m.ensures ∙ c.in-Some-length_m.is) in
     simp (
-      ← is,
-      ← (rw c.len-len.ensures at c.crumb-limit.ensures),
-      ← c.ends-n.ensures,
-      ← c.nearest_before-best.ensures,
-    ) c.against_near.ensures
+      c.in-Some.is,
+      k.0,
+      k.1,
+      c.against_near.ensures,
+      c.nearest_before-best.ensures,
+      c.ends-n.ensures,
+    )

@@ -1,17 +1,26 @@
 -- `steer::way_home::brought` meets its contract.
-use Rattle.state.specs.Guided.{whole}
-use Rattle.update.specs.View.{told_in}
-use Rattle.steer.proofs.way_home.Deciding.{brought-nowhere, brought-at}
+use mathlib.Core.Path.{sym, ap}
+use lib.ListN.{length}
+use Rattle.std.specs.Prelude.{Option}
+use Rattle.plane.specs.declared.Point.{Point}
+use Rattle.crumbs.specs.Crumb.{capacity}
+use Rattle.state.specs.State.{state_of}
+use Rattle.calls.specs.Follow.{update_here, brought}
+use Rattle.steer.proofs.way_home.Deciding.{follows-as, decides-as, decides-still}
 use Rattle.steer.proofs.way_home.brought.Goals as goal
 
-pub returns-in_default : goal.returns-in_default
-returns-in_default c = λ w. let g = c.args in
-    brought-nowhere (whole g.h w) g.crumbs.now g.line.now g.now_ms c.in_default.is (c.requires w).trail
-
-pub returns : goal.returns
-returns c = λ w.
+pub returns-in-Some : goal.returns-in-Some
+unfolding brought update_here
+returns-in-Some c =
     let g = c.args in
-    let k = c.update-u in
-    brought-at (whole g.h w) g.crumbs.now g.line.now g.now_ms
-    c.in-Some.p
-    (told_in k.result w) k.new.crumbs c.in-Some.is (k.ensures w)
+    let is = ap (λ (x : Option Point). update_here x (capacity (length g.crumbs.now)) g.course.now g.now_ms (state_of g.h.now g.crumbs.now))
+    c.in-Some.is in
+    record { answered = sym (ap (λ x. x.answer) is); follows = follows-as c.update.ensures.follows (ap (λ x. x.state) is) }
+
+pub returns-in_default : goal.returns-in_default
+unfolding brought update_here
+returns-in_default c =
+    let g = c.args in
+    decides-as (decides-still c.requires.trail)
+    (ap (λ (x : Option Point). update_here x (capacity (length g.crumbs.now)) g.course.now g.now_ms (state_of g.h.now g.crumbs.now))
+    c.in_default.is)
