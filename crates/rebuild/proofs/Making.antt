@@ -23,7 +23,7 @@ use Rattle.rebuild.specs.declared.Stage.TheVariants as stage
 use Rattle.rebuild.specs.declared.Rebuild.{Rebuild}
 use Rattle.rebuild.specs.Made.{Made, making, quiet, ◌then◌, perform, most_held}
 use Rattle.rebuild.specs.Rebuild.{with_stage, carries_on, decide, before_replay, replays, settle_from}
-use Rattle.rebuild.specs.Inner.{starts_anew, stage_behind, reset_if}
+use Rattle.rebuild.specs.Inner.{starts_anew, stage_behind, reset_if, Begins}
 use Rattle.rebuild.specs.View.{Makes, Settles}
 use Rattle.rebuild.proofs.Performing.{performed-both, most-front, most-rest}
 
@@ -66,16 +66,13 @@ unfolding settle_from decide starts_anew
 decides-live (stage.Pending last) t r e = ap (λ (l : List Call). making l (with_stage stage.Decided r)) (turned_round (carries_on last t))
 decides-live stage.Decided t r e = ap (λ (s : Stage). quiet (with_stage s r)) e
 
-module _ {m : Made} {anew : Bool} {on : Rebuild} (h : Homing) (is : m ≡ making (reset_if anew) on) where
-  pub carried_on : anew ≡ false → Settles m h on h
-  carried_on e =
-      subst (λ (x : Made). Settles x h on h) (sym (is ∙ ap (λ (b : Bool). making (reset_if b) on) e)) (settles-quiet on h)
+module _ {anew : Bool} (h : Homing) where
+  pub carried_on : anew ≡ false → Begins anew h h
+  carried_on e r = rw e (settles-quiet r h)
 
-  pub begun-anew : (n : Homing) → anew ≡ true → Resets h n → Settles m h on n
+  pub begun-anew : {n : Homing} → anew ≡ true → Resets h n → Begins anew h n
   unfolding perform performs
-  begun-anew n e a =
-      subst (λ (x : Made). Settles x h on n) (sym (is ∙ ap (λ (b : Bool). making (reset_if b) on) e))
-      (record { rebuilt = refl; same = λ C b. a.same b; fit = (a.trail []).fit })
+  begun-anew e a r = rw e (record { rebuilt = refl; same = λ C b. a.same b; fit = (a.trail []).fit })
 
 -- ---- a fix replayed
 module _ (x : Fix) (r : Rebuild) (h n : Homing) (entry exit : List Float) where

@@ -1,8 +1,8 @@
--- For the functions inside: what a fix decides before it is replayed (`before_replay`), as a yes or no and a stage; and what a sample makes
--- by that.
+-- For the functions inside: what a fix decides before it is replayed (`before_replay`), as a yes or no and a stage; and what a sample gives
+-- to replay by that.
 use Rattle.std.specs.Prelude.{Bool, true, false, not, cond, List, [], ◌∷◌, Option, Some, None, ℕ}
 use Rattle.std.specs.Option.{option_or}
-use Rattle.plane.specs.declared.Fix.{Fix}
+use Rattle.state.specs.declared.Homing.{Homing}
 use Rattle.calls.specs.Calls.{Call, Reset}
 use Rattle.rebuild.specs.declared.Stage.{Stage}
 use Rattle.rebuild.specs.declared.Stage.TheVariants as stage
@@ -10,6 +10,7 @@ use Rattle.rebuild.specs.declared.Rebuild.{Rebuild}
 use Rattle.rebuild.specs.declared.Heard.{Heard}
 use Rattle.rebuild.specs.Made.{Made, making, quiet, ◌then◌}
 use Rattle.rebuild.specs.Rebuild.{carries_on, replays}
+use Rattle.rebuild.specs.View.{Settles}
 
 -- whether the guide is reset
 unfoldable pub starts_anew : Stage → Bool → Option ℕ → Bool
@@ -27,10 +28,11 @@ stage_behind stage.Decided later t = stage.Decided
 abbrev pub reset_if : Bool → List Call
 reset_if anew = cond anew (Reset ∷ []) []
 
--- a fix is replayed, where there is one
-unfoldable pub replays_at : Option Fix → Rebuild → Made
-replays_at (Some x) r = replays x r
-replays_at None r = quiet r
+-- a guide's state h becomes n by that, whatever the rebuild
+abbrev pub Begins : Bool → Homing → Homing → Type 0
+Begins anew h n = (r : Rebuild) → Settles (making (reset_if anew) r) h r n
 
-abbrev pub heard_makes : Heard → Made
-heard_makes x = making (reset_if x.anew) x.rebuild then λ on. replays_at x.place on
+-- what a sample gives to replay, where it gives anything
+unfoldable pub heard_makes : Option Heard → Rebuild → Made
+heard_makes (Some x) r = making (reset_if x.anew) r then replays x.fix
+heard_makes None r = quiet r

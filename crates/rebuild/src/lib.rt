@@ -8,15 +8,12 @@
 
 ghost use Rattle.std.specs.Prelude.{◌≡◌, ◌≤◌, length};
 ghost use Rattle.trail.specs.View as trail;
-ghost use Rattle.state.specs.declared.Homing.{Homing};
-ghost use Rattle.fix.specs.Ridden.{ridden};
 ghost use Rattle.ride_log.specs.Entry.{used};
-ghost use Rattle.rebuild.specs.Rebuild.{new_rebuild, ticked, carries_on, skips, visit_sample, is_later, visit_samples};
+ghost use Rattle.rebuild.specs.Rebuild.{new_rebuild, ticked, carries_on, skips, visit_fix, visit_sample, is_later, visit_samples};
 ghost use Rattle.rebuild.specs.Rebuild.{visit, caught_up, is_decided, settle};
-ghost use Rattle.rebuild.specs.Inner.{starts_anew, stage_behind, replays_at, heard_makes};
+ghost use Rattle.rebuild.specs.Inner.{starts_anew, stage_behind, Begins, heard_makes};
 ghost use Rattle.rebuild.specs.View.{Makes, Settles};
 
-use fix::Ridden;
 use plane::Fix;
 use ride_log::{Entry, Kind, Sample};
 use state::Homing;
@@ -57,12 +54,11 @@ pub struct Rebuild {
     pub clock_ms: u64,
 }
 
-// What a sample says: the rebuild after it, whether the guide starts anew, and the fix to replay behind that.
+// What a sample gives to replay: its fix, and whether the guide starts anew before it.
 #[derive(Clone, Copy)]
 struct Heard {
-    rebuild: Rebuild,
     anew: bool,
-    place: Option<Fix>,
+    fix: Fix,
 }
 
 // Read ride `recovered` and the ride after it back from a log whose slots below `_upper` are written. The walk begins at slot 0,
@@ -101,27 +97,31 @@ fn starts_anew(stage: Stage, later: bool, utc: Option<u64>) -> bool
     }
 }
 
+// The guide starts anew, or nothing is done to it.
+fn reset_if(h: &mut Homing, anew: bool)
+    ensures { Begins anew h.old h.new }
+{
+    if anew {
+        steer::reset(h);
+    }
+}
+
 // Settle the breadcrumb on a live fix at `utc` instead of the later ride's first one in the log, which a
 // paused ride or a failing medium may never write.
 pub fn settle(r: &mut Rebuild, h: &mut Homing, utc: Option<u64>)
     ensures { Settles (settle utc r.old) h.old r.new h.new }
 {
-    if starts_anew(r.stage, true, utc) {
-        *h = steer::reset(*h);
-    }
+    reset_if(h, starts_anew(r.stage, true, utc));
     r.stage = Stage::Decided;
 }
 
 // ---- a sample
 
 #[tactic(auto, unfolding(crate::specs::Rebuild::ticked))]
-fn ticked(r: Rebuild) -> Rebuild
-    ensures { result ≡ ticked r }
+fn tick(r: &mut Rebuild)
+    ensures { r.new ≡ ticked r.old }
 {
-    Rebuild {
-        clock_ms: r.clock_ms.saturating_add(SAMPLE_MS),
-        ..r
-    }
+    r.clock_ms = r.clock_ms.saturating_add(SAMPLE_MS);
 }
 
 // Once the breadcrumb is settled the recovered ride's fixes are read no more.
@@ -143,60 +143,50 @@ fn stage_behind(stage: Stage, later: bool, utc: Option<u64>) -> Stage
     }
 }
 
-// A sample of the recovered ride, or of the later one. The clock goes on with each, located or not.
-fn hear(r: Rebuild, later: bool, sample: Sample) -> Heard
-    ensures { visit_sample later sample r ≡ heard_makes result }
+// A fix of the recovered ride, or of the later one.
+fn hear_fix(r: &mut Rebuild, later: bool, utc: Option<u64>, fix: Fix) -> Option<Heard>
+    ensures { visit_fix fix later utc r.old ≡ heard_makes result r.new }
 {
-    let on = ticked(r);
-    if sample.place.is_none() | skips(on.stage, later) {
-        return Heard {
-            rebuild: on,
-            anew: false,
-            place: None,
-        };
+    if skips(r.stage, later) {
+        return None;
     }
-    let stage = stage_behind(on.stage, later, sample.utc);
-    Heard {
-        rebuild: Rebuild { stage, ..on },
-        anew: starts_anew(on.stage, later, sample.utc),
-        place: sample.place,
-    }
+    let anew = starts_anew(r.stage, later, utc);
+    r.stage = stage_behind(r.stage, later, utc);
+    Some(Heard { anew, fix })
 }
 
-// The fix of a sample, where there is one, replayed on the parts of the guide that it changes.
-fn replay_heard(x: Heard, g: Ridden, window: &mut [f32; 96], crumbs: &mut [f32]) -> Ridden
-    requires { trail.TrailFit g.trail (length crumbs.old) }
-    ensures { (h : Homing) → Makes (replays_at x.place x.rebuild) (ridden g window.old h) crumbs.old
-        x.rebuild (ridden result window.new h) crumbs.new }
+// The clock goes on with each sample, located or not.
+#[tactic(auto, unfolding(crate::specs::Rebuild::visit_sample, crate::specs::Rebuild::visit_place, crate::specs::Inner::heard_makes))]
+fn hear(r: &mut Rebuild, later: bool, sample: Sample) -> Option<Heard>
+    ensures { visit_sample later sample r.old ≡ heard_makes result r.new }
 {
-    match x.place {
-        Some(fix) => fix::replay_parts(g, window, crumbs, fix, x.rebuild.clock_ms),
-        None => g,
+    tick(r);
+    let fix = sample.place?;
+    hear_fix(r, later, sample.utc, fix)
+}
+
+fn visit_sample(r: &mut Rebuild, h: &mut Homing, crumbs: &mut [f32], later: bool, sample: Sample)
+    requires { trail.TrailFit h.old.trail (length crumbs.old) }
+    ensures { Makes (visit_sample later sample r.old) h.old crumbs.old r.new h.new crumbs.new }
+{
+    if let Some(x) = hear(r, later, sample) {
+        reset_if(h, x.anew);
+        fix::replay(h, crumbs, x.fix, r.clock_ms);
     }
 }
 
 // ---- an entry
 
-// Of the four samples the first `count`, which question 5 holds to 4. On the way `parts` has the groups of the guide that a fix changes;
-// where the guide starts anew they are put into the whole of it first.
+// Of the four samples the first `count`, which question 5 holds to 4.
 fn visit_samples(r: &mut Rebuild, h: &mut Homing, crumbs: &mut [f32], e: Entry)
     requires trail_fit { trail.TrailFit h.old.trail (length crumbs.old) }
     requires count_bound { e.count ≤ 4 }
     ensures { Makes (visit_samples (is_later e r.old) (used e) r.old) h.old crumbs.old r.new h.new crumbs.new }
 {
     let later = e.ride != r.recovered;
-    let mut parts = fix::taken_apart(*h);
     for sample in &e.samples[..usize::from(e.count)] {
-        let x = hear(*r, later, *sample);
-        if x.anew {
-            let whole = fix::put_together(*h, parts);
-            *h = steer::reset(whole);
-            parts = fix::taken_apart(*h);
-        }
-        *r = x.rebuild;
-        parts = replay_heard(x, parts, &mut h.window, crumbs);
+        visit_sample(r, h, crumbs, later, *sample);
     }
-    *h = fix::put_together(*h, parts);
 }
 
 // Only an entry of samples is read.

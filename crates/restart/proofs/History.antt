@@ -1,13 +1,12 @@
 -- Demand 3 where calls of a rebuild stand among the guide's, whoever wrote the lines. Assumes nothing.
-use Prim.Native.Nat.{ℕ, zero, suc, ◌*◌, ◌≤◌}
+use Prim.Native.Nat.{ℕ, ◌*◌, ◌≤◌}
 use mathlib.Core.Path.{◌≡◌, refl, sym, ap, ap₂, ◌∙◌, subst}
 use mathlib.Core.Bool.{Bool}
-use mathlib.Core.Logic.{◌≢◌}
 use mathlib.Core.List.{List, [], ◌∷◌, ◌++◌}
 use native.Mathlib.Omega.{arith}
-use borrow.Author.Tests.{eqb-true, eqb-false}
-use lib.Dec.{leb, eqb}
-use lib.ListN.{length}
+use borrow.Author.Tests.{eqb-true, eqb-false, ltb-true, ltb-false}
+use lib.Dec.{leb, ltb, eqb}
+use lib.ListN.{length, get_or}
 use lib.Ieee.{Float}
 use Rattle.crumbs.specs.Crumb.{stride, capacity}
 use Rattle.std.specs.Prelude.{Option, Some, None, Result, Ok, ℕ}
@@ -33,10 +32,12 @@ use Rattle.history.specs.History as history
 use Rattle.history.proofs.History.{holds_same, none_yet, one_more}
 use Rattle.ride_log.specs.declared.Sample.{Sample}
 use Rattle.ride_log.specs.declared.Entry.{Entry}
-use Rattle.ride_log.specs.Entry.{entry_at, slot, used}
+use Rattle.ride_log.specs.Entry.{entry_at, chain, slot, used}
 use Rattle.ride_log.specs.Questions.{asks_samples, asks_entry, asks_file}
 use Rattle.ride_log.proofs.file_questions.Theorems.{every-accepted}
-use Rattle.ride_log.proofs.file_questions.Slots.{Before, slot-none, slot-here, slot-asked, record-entry}
+use Rattle.ride_log.proofs.file_questions.Slots.{At, slot-none, slot-here, slot-asked, record-entry}
+use Rattle.ride_log.proofs.file_questions.Chain.{by}
+use Rattle.std.proofs.lemmas.List.{get_or_default}
 use Rattle.rebuild.specs.declared.Stage.{Stage}
 use Rattle.rebuild.specs.declared.Stage.TheVariants as stage
 use Rattle.rebuild.specs.declared.Rebuild.{Rebuild}
@@ -44,10 +45,8 @@ use Rattle.rebuild.specs.Made.{perform}
 use Rattle.rebuild.specs.Rebuild.{carries_on, decide, step, settle_from, settle}
 use Rattle.rebuild.proofs.Theorems.{journal-same}
 use Rattle.rebuild.proofs.Counting.{Rebuilding, nothing, reset, replay, SamplesOnGlobe, SlotOnGlobe, walk-makes}
-use Rattle.restart.specs.Walk.{record_at}
 use Rattle.restart.specs.Promises.{asks_step, Steps, SettlesBreadcrumb}
 use Rattle.restart.specs.History.{step_calls, settle_calls, RanOn, new, called, stepped, settled, EveryHistoryWithRebuilds}
-use Rattle.restart.proofs.Slots.{before_at}
 use Rattle.restart.proofs.Calling.{step-crumbs, step-file}
 
 -- ---- a file that no question refuses has its places in range
@@ -70,16 +69,16 @@ entry-globe : (e : Entry) → asks_entry e ≡ 0 → SamplesOnGlobe (used e)
 unfolding asks_entry
 entry-globe e z = samples-globe (used e) (neither (unless (leb e.count 4) 5) (asks_samples (used e)) z).1
 
-module _ (f : List ℕ) (a : asks_file f ≡ 0) (k : ℕ) where
-  globe-from : (r : ℕ) → Before f k r → SlotOnGlobe (slot f k)
-  globe-from zero b = subst (λ (o : Option Entry). SlotOnGlobe o) (sym (slot-none b refl)) tt
-  globe-from (suc r) b =
-      let there : suc r ≢ 0 = λ e. omega (arith, e) in
-      subst (λ (o : Option Entry). SlotOnGlobe o) (sym (slot-here b there))
-      (entry-globe (entry_at f (suc r)) (record-entry f (suc r) (slot-asked b there (every-accepted f a))))
-
-  pub slot-globe : SlotOnGlobe (slot f k)
-  slot-globe = globe-from (record_at f k) (before_at a k refl)
+pub slot-globe : (f : List ℕ) → asks_file f ≡ 0 → (k : ℕ) → SlotOnGlobe (slot f k)
+slot-globe f a k =
+    let r = get_or (chain f) k 0 in
+    by (ltb k (length (chain f)))
+    (λ t.
+    let there = ltb-true k (length (chain f)) t in
+    let at : At f k r = record { there = there; here = get_or_default (chain f) k 0 r there } in
+    subst (λ (o : Option Entry). SlotOnGlobe o) (sym (slot-here at))
+    (entry-globe (entry_at f r) (record-entry f r (slot-asked at (every-accepted f a)))))
+    (λ t. subst (λ (o : Option Entry). SlotOnGlobe o) (sym (slot-none f k (ltb-false k (length (chain f)) t))) tt)
 
 -- ---- none of the calls of a rebuild is refused
 module _ (size : ℕ) (least : 3 ≤ capacity size) where

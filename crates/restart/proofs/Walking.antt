@@ -135,15 +135,17 @@ module _ (upper : ℕ) (slots : ℕ → Option Entry) where
         (λ u. enough h (leb-false (from + budget) upper u)))
 
   -- slots without a record
-  pub walk-empty : (n : ℕ) (r : Rebuild) → r.walk.slot + n ≤ upper → ((k : ℕ) → r.walk.slot ≤ k → slots k ≡ None)
+  pub walk-empty : (n : ℕ) (r : Rebuild) → (0 < n → r.walk.slot + n ≤ upper)
+      → ((k : ℕ) → r.walk.slot ≤ k → k < r.walk.slot + n → slots k ≡ None)
       → walk n upper slots r ≡ quiet (with_slot (r.walk.slot + n) r)
   unfolding look
   walk-empty zero r h e = walk-zero r ∙ ap (λ (k : ℕ). quiet (with_slot k r)) (sym (add-zero r.walk.slot))
   walk-empty (suc n) r h e =
-      let here : r.walk.slot < upper = omega (arith, h) in
+      let most = h (omega arith) in
+      let here : r.walk.slot < upper = omega (arith, most) in
       let on : suc r.walk.slot + n ≡ r.walk.slot + suc n = omega arith in
       walk-next n r here
       ∙ ap (λ (o : Option Entry). look o r then λ next. quiet (past_slot next) then λ on. walk n upper slots on)
-      (e r.walk.slot (omega arith))
-      ∙ walk-empty n (past_slot r) (omega (arith, h)) (λ k l. e k (omega (arith, l)))
+      (e r.walk.slot (omega arith) (omega arith))
+      ∙ walk-empty n (past_slot r) (λ _. omega (arith, most, on)) (λ k l m. e k (omega (arith, l)) (omega (arith, m, on)))
       ∙ ap (λ (k : ℕ). quiet (with_slot k r)) on

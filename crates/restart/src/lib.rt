@@ -10,12 +10,11 @@ ghost use Rattle.ride_log.specs.Entry.{slot as slot_of};
 ghost use Rattle.ride_log.specs.Questions.{asks_file};
 ghost use Rattle.rebuild.specs.Rebuild as rule;
 ghost use Rattle.rebuild.specs.View.{Makes};
-ghost use Rattle.restart.specs.Walk.{record_at};
 ghost use Rattle.restart.specs.Promises.{asks_step, Steps, SettlesBreadcrumb};
 
 use rebuild::Rebuild;
 use refusal::Refusal;
-use ride_log::{Entry, file_questions};
+use ride_log::{Chain, Entry, file_questions};
 use state::Homing;
 
 // Read ride `recovered` and the ride after it back from a log whose slots below `upper` are written.
@@ -33,23 +32,6 @@ pub fn caught_up(r: Rebuild, upper: usize) -> bool
 }
 
 // ---- the walk over the slots
-
-// Two walks from record to record: one only counts, and one ends with `stop` where the chain ends. An iterator would be no shorter.
-
-// The index of the record at slot `slot`, 0 where the chain ends before it.
-fn record_at(file: &[u8], slot: usize) -> u32
-    requires { asks_file file.now ≡ 0 }
-    ensures { result ≡ record_at file.now slot }
-{
-    let mut index = ride_log::next_of(file, 0);
-    for _k in 0..slot {
-        if index == 0 {
-            return 0;
-        }
-        index = ride_log::next_of(file, index);
-    }
-    index
-}
 
 // The slot at which a walk from `slot` on stops.
 fn stop_at(slot: usize, upper: usize, budget: usize) -> usize
@@ -84,17 +66,11 @@ fn walk_slots(
 {
     let first = r.walk.slot;
     let stop = stop_at(first, upper, budget);
-    let mut index = record_at(file, first);
-    for slot in first..stop {
-        if index == 0 {
-            r.walk.slot = stop;
-            return;
-        }
-        let entry = ride_log::entry_at(file, index);
-        look(r, h, crumbs, entry);
-        index = ride_log::next_of(file, index);
-        r.walk.slot = slot + 1;
+    for index in Chain::of(file).skip(first).take(stop - first) {
+        look(r, h, crumbs, ride_log::entry_at(file, index));
+        r.walk.slot += 1;
     }
+    r.walk.slot = stop;
 }
 
 // ---- the calls

@@ -1,2 +1,3 @@
 pub mod Numbers
 mod KindNumbers
+mod Records

@@ -1,3 +1,4 @@
 pub mod Entry
+pub mod Chain
 pub mod Questions
 pub mod Theorems

@@ -5,9 +5,9 @@ ghost use Rattle.refusal.specs.Refusal.{asked};
 ghost use Rattle.calls.specs.Calls.{asks_place};
 ghost use Rattle.ride_log.specs.Entry.{record_count, count_of, entry_at, used, chain};
 ghost use Rattle.ride_log.specs.Questions.{question6 as question6_of, question7 as question7_of, question8 as question8_of, asks_samples};
-ghost use Rattle.ride_log.specs.Questions.{asks_entry, asks_record, asks_records, asks_file};
+ghost use Rattle.ride_log.specs.Questions.{asks_entry, asks_record, asks_records, asks_chain, asks_file};
 
-use crate::RECORD;
+use crate::{Chain, RECORD};
 use plane::Fix;
 use questions::globe;
 use refusal::Refusal;
@@ -16,7 +16,7 @@ use refusal::Refusal;
 const SAMPLES: u8 = 4;
 
 // The most records of a file.
-const MOST: usize = 682;
+pub const MOST: usize = 682;
 
 // ---- the questions put to an entry
 
@@ -45,16 +45,11 @@ fn asks_entry(file: &[u8], index: u32) -> Result<(), Refusal>
     ensures { asked result ≡ asks_entry (entry_at file.now index) }
 {
     let count = crate::count_of(file, index);
-    if SAMPLES < count {
-        return Err(Refusal::SampleCount);
-    }
+    Refusal::SampleCount.unless(count <= SAMPLES)?;
     asks_used(file, index, count)
 }
 
 // ---- the questions put to a file
-
-// Here and in crate `restart` the chain is walked by `next_of`, from record to record: each walk has answers of its own where the chain
-// ends, where it leads outside the file and where it comes back, which an iterator over records would have to give as well.
 
 #[tactic(auto, unfolding(crate::specs::Questions::question6))]
 fn question6(size: usize) -> bool
@@ -77,55 +72,49 @@ fn question7(file: &[u8], count: u32) -> bool
     requires { (count ≡ record_count file.now) × (1 ≤ count) }
     ensures { result ≡ question7_of file.now }
 {
-    let mut index = crate::next_of(file, 0);
-    for _step in 0..count {
-        if index == 0 {
-            return true;
-        }
+    let mut records = Chain::of(file);
+    while let Some(index) = records.next() {
         if count <= index {
             return false;
         }
-        index = crate::next_of(file, index);
     }
-    false
+    0 < records.left
 }
 
 #[tactic(auto, unfolding(crate::specs::Questions::asks_record))]
 fn asks_record(file: &[u8], index: u32) -> Result<(), Refusal>
     ensures { asked result ≡ asks_record file.now index }
 {
-    if !question8(crate::kind_number(file, index)) {
-        return Err(Refusal::EntryKind);
-    }
+    Refusal::EntryKind.unless(question8(crate::kind_number(file, index)))?;
     asks_entry(file, index)
 }
 
 // The records along the chain, in its order.
-fn asks_records(file: &[u8], count: u32) -> Result<(), Refusal>
-    requires { count ≡ record_count file.now }
+fn asks_records(file: &[u8]) -> Result<(), Refusal>
     ensures { asked result ≡ asks_records file.now (chain file.now) }
 {
-    let mut index = crate::next_of(file, 0);
-    for _step in 0..count {
-        if index == 0 {
-            return Ok(());
-        }
+    for index in Chain::of(file) {
         asks_record(file, index)?;
-        index = crate::next_of(file, index);
     }
     Ok(())
 }
 
+// The chain is judged whole.
+#[tactic(auto, unfolding(crate::specs::Questions::asks_chain, crate::specs::Questions::question6, crate::specs::Entry::record_count))]
+fn asks_chain(file: &[u8]) -> Result<(), Refusal>
+    ensures { asked result ≡ asks_chain file.now }
+{
+    let size = file.len();
+    Refusal::FileLength.unless(question6(size))?;
+    let count = (size / RECORD) as u32;
+    Refusal::Chain.unless(question7(file, count))
+}
+
+// The chain, then its entries in order.
+#[tactic(auto, unfolding(crate::specs::Questions::asks_file))]
 pub fn asks_file(file: &[u8]) -> Result<(), Refusal>
     ensures { asked result ≡ asks_file file.now }
 {
-    let size = file.len();
-    if !question6(size) {
-        return Err(Refusal::FileLength);
-    }
-    let count = (size / RECORD) as u32;
-    if !question7(file, count) {
-        return Err(Refusal::Chain);
-    }
-    asks_records(file, count)
+    asks_chain(file)?;
+    asks_records(file)
 }

@@ -4,7 +4,7 @@
 
 pub mod file_questions;
 
-ghost use Rattle.std.specs.Prelude.{◌≡◌, ◌+◌, ◌*◌, ◌^◌, ◌<◌};
+ghost use Rattle.std.specs.Prelude.{◌≡◌, ◌*◌, ◌^◌, ◌<◌};
 ghost use Rattle.ride_log.specs.Entry.{byte_at, u32_at, u64_at, i32_at, next_of, ride_of, kind_number, count_of};
 ghost use Rattle.ride_log.specs.Entry.{sample_start};
 ghost use Rattle.ride_log.specs.Entry.{kind_of, has_place, has_utc, place_at, utc_at, sample_at, sample_of, samples_of, entry_at};
@@ -72,7 +72,7 @@ fn u32_at(file: &[u8], at: usize) -> u32
     ])
 }
 
-// Two numbers of 32 bits, as the rule has it: of eight bytes for `from_le_bytes` each would need its own test for the file's end.
+// Two numbers of 32 bits, as the rule has it; each of them has its own test for the file's end.
 #[tactic(auto, unfolding(crate::specs::Entry::u64_at))]
 fn u64_at(file: &[u8], at: usize) -> u64
     requires { at < 2 ^ 41 }
@@ -92,7 +92,8 @@ fn i32_at(file: &[u8], at: usize) -> i32
 
 // ---- records
 
-// A record is named by the file that C lends and its index. Both in one struct, each clause would take them out of it again.
+// A record is named by the file that C lends and its index, as in the rules: a struct of both would be made for one question at a time, and
+// taken apart in it.
 
 fn start_of(index: u32) -> usize
     ensures { result ≡ 96 * index }
@@ -106,6 +107,56 @@ pub fn next_of(file: &[u8], index: u32) -> u32
     ensures { result ≡ next_of file.now index }
 {
     u32_at(file, start_of(index))
+}
+
+// The records along the chain by their indices, from behind record `index` on. A chain that comes back to a record never ends, so no more
+// come than the file has.
+#[derive(Drop)]
+pub struct Chain<'a> {
+    file: &'a [u8],
+    index: u32,
+    left: usize,
+}
+
+impl<'a> Chain<'a> {
+    ghost use Rattle.ride_log.specs.Chain.{left};
+    ghost use Rattle.ride_log.specs.Entry.{chain, record_count};
+
+    #[tactic(auto, unfolding(crate::specs::Chain::left, crate::specs::Entry::chain, crate::specs::Entry::record_count))]
+    pub fn of(file: &'a [u8]) -> Chain<'a>
+        ensures which { left result ≡ chain file.now }
+        ensures most { result.left ≡ record_count file.now }
+    {
+        Chain {
+            file,
+            index: 0,
+            left: file.len() / RECORD,
+        }
+    }
+}
+
+impl<'a> Iterator for Chain<'a> {
+    ghost use Rattle.std.specs.Iterator.{item_count};
+    ghost use Rattle.ride_log.specs.Chain.{left, GivesRecord};
+
+    type Item = u32;
+
+    ghost next_gives = { GivesRecord };
+
+    ghost remaining = { item_count left };
+
+    fn next(&mut self) -> Option<u32> {
+        if self.left == 0 {
+            return None;
+        }
+        let next = next_of(self.file, self.index);
+        if next == 0 {
+            return None;
+        }
+        self.index = next;
+        self.left -= 1;
+        Some(next)
+    }
 }
 
 #[tactic(auto, unfolding(crate::specs::Entry::ride_of))]

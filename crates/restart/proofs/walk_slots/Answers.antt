@@ -1,25 +1,40 @@
 -- `restart::walk_slots` meets its contract: each slot with a record is looked at, and those behind the chain's end are passed at once.
 use native.Mathlib.Omega.{arith}
-use Rattle.restart.proofs.Stepping.{going_start, going-count, going_on, going-past, going-out}
+use Rattle.std.proofs.lemmas.List.{length_push}
+use Rattle.std.proofs.lemmas.Iterator.Consumers.{YieldsList-turn, YieldsList-end}
+use Rattle.restart.proofs.Slots.{meets}
+use Rattle.restart.proofs.Stepping.{going_start, going-count, going-room, going-stays, going_on, going-end}
 use Rattle.restart.proofs.walk_slots.Goals as goal
 
-pub loop-slot-init : goal.loop-slot-init
-loop-slot-init c =
-    going_start c.stop_at-stop.ensures c.requires.trail_fit c.requires.file_value c.record_at-index.ensures
+pub loop-index-init : goal.loop-index-init
+loop-index-init c = (
+  going_start c.stop_at-stop.ensures c.requires.trail_fit,
+  meets c.args.file.now c.of.ensures.which c.skip.ensures.source c.skip.ensures.count c.take-index-items.ensures.source
+      c.take-index-items.ensures.count
+      c.into_iter-index-iterator.ensures.into_iter_gives,
+)
 
-pub returns-then-index-eq0 : goal.returns-then-index-eq0
-returns-then-index-eq0 c = going-past c.loop-slot.invariant (omega arith) c.if-index-eq0.true
+pub look-requires-clause-count_bound : goal.look-requires-clause-count_bound
+look-requires-clause-count_bound c =
+    let l = c.loop-index in
+    let t = YieldsList-turn l.invariant.1 l.yielded _ l.yielded_by _ _ c.in-Some.index c.in-Some.is c.next.ensures.steps in
+    going-count l.invariant.0 t.0 t.1 c.entry_at.ensures c.requires.file_value
 
-pub look-requires : goal.look-requires
-look-requires c =
-    let g = c.loop-slot.invariant in record {
-      trail_fit = g.made.fit;
-      count_bound = going-count g (omega arith) c.if-index-eq0.false c.entry_at-entry.ensures c.requires.file_value;
-    }
+pub overflow_add-r : goal.overflow_add-r
+overflow_add-r c =
+    let l = c.loop-index in
+    let t = YieldsList-turn l.invariant.1 l.yielded _ l.yielded_by _ _ c.in-Some.index c.in-Some.is c.next.ensures.steps in
+    let room = going-room l.invariant.0 t.0 t.1 in
+    let same = going-stays l.invariant.0 t.0 t.1 c.entry_at.ensures c.look.ensures in
+    record { fits = omega (arith, room, same, c.stop_at-stop.type_inv) }
 
-pub loop-slot-preserved : goal.loop-slot-preserved
-loop-slot-preserved c =
-    going_on c.loop-slot.invariant (omega arith) c.if-index-eq0.false c.entry_at-entry.ensures c.look.ensures c.next_of-index.ensures
+pub loop-index-preserved : goal.loop-index-preserved
+loop-index-preserved c =
+    let l = c.loop-index in
+    let t = YieldsList-turn l.invariant.1 l.yielded _ l.yielded_by _ _ c.in-Some.index c.in-Some.is c.next.ensures.steps in
+    (rw (length_push l.yielded c.in-Some.index) (going_on l.invariant.0 t.0 t.1 c.entry_at.ensures c.look.ensures), l.invariant.1)
 
 pub returns : goal.returns
-returns c = going-out c.loop-slot.invariant (omega arith)
+returns c =
+    let l = c.loop-index in
+    going-end l.invariant.0 (YieldsList-end l.invariant.1 l.yielded _ l.yielded_by _ _ c.in-None.is c.next.ensures.steps).1

@@ -1,121 +1,77 @@
 -- Samples and records that are asked one after another: where those passed say nothing, those to come say what all do. Assumes nothing.
-use Prim.Native.Nat.{ℕ, zero, suc, ◌+◌, ◌-◌, ◌/◌, ◌%◌, ◌≤◌, ◌<◌}
-use mathlib.Core.Path.{◌≡◌, refl, sym, ap, ◌∙◌}
-use mathlib.Core.Bool.{Bool, true, false, not, ◌&&◌, and-eq-true_iff}
+use Prim.Native.Nat.{ℕ, zero, suc, ◌+◌, ◌-◌, ◌≤◌, ◌<◌}
+use mathlib.Core.Path.{◌≡◌, sym, ap, ◌∙◌}
+use mathlib.Core.Bool.{true, false, ◌&&◌}
 use mathlib.Core.Logic.{◌≢◌}
 use mathlib.Core.List.{List, [], ◌∷◌}
 use native.Mathlib.Nat.{sub-zero}
 use native.Mathlib.Numerals.{add-one}
 use native.Mathlib.Omega.{arith}
-use borrow.Author.Tests.{ne_eqb, lt-ltb, le-ltb, leb-true, not-true, not-false}
-use lib.Dec.{leb, eqb}
+use borrow.Author.Tests.{ne_eqb, ltb-true, ltb-false, lt-ltb, le-ltb}
+use lib.Dec.{ltb}
+use Rattle.ride_log.proofs.file_questions.Chain.{by, length-tells, outside-tells}
 use lib.ListN.{length, get_or, take, drop}
 use lib.Seq.{drop-cons}
 use Rattle.std.specs.Prelude.{Option}
 use Rattle.plane.specs.declared.Fix.{Fix}
 use Rattle.calls.specs.Questions.{◌or_else◌}
-use Rattle.ride_log.specs.Entry.{next_of, record_count, records_from, chain, count_of, sample_start, sample_at, no_sample, sample_of}
+use Rattle.ride_log.specs.Entry.{record_count, chain, count_of, sample_start, sample_at, no_sample, sample_of}
 use Rattle.ride_log.specs.Entry.{samples_of, used, entry_at}
 use Rattle.calls.specs.Calls.{asks_place}
-use Rattle.ride_log.specs.Questions.{question6, question7, asks_samples, asks_record, asks_records, asks_chain}
-use Rattle.ride_log.specs.Questions.{asks_file}
-use Rattle.ride_log.proofs.file_questions.Chain.{ends, steps-are}
+use Rattle.ride_log.specs.Questions.{question7, below, asks_samples, asks_record, asks_records}
 
--- ---- the count of steps
-ends-out : (n count : ℕ) (f : List ℕ) (r : ℕ) → r ≢ 0 → count ≤ r → ends n count f r ≡ false
-unfolding ends
-ends-out zero count f r h k = refl
-ends-out (suc n) count f zero h k = absurd (h refl)
-ends-out (suc n) count f (suc r) h k = rw (le-ltb (suc r) count k)
+left-tells : (m l count : ℕ) → l + m ≡ count → ltb 0 m ≡ ltb l count
+left-tells m l count e =
+    by (ltb 0 m)
+    (λ t. let h = ltb-true 0 m t in t ∙ sym (lt-ltb l count (omega (arith, h, e))))
+    (λ t. let h = ltb-false 0 m t in t ∙ sym (le-ltb l count (omega (arith, h, e))))
 
-ends_on : (n count : ℕ) (f : List ℕ) (r : ℕ) → r ≢ 0 → r < count → ends (suc n) count f r ≡ ends n count f (next_of f r)
-unfolding ends
-ends_on n count f zero h k = absurd (h refl)
-ends_on n count f (suc r) h k = rw (lt-ltb (suc r) count k)
+-- ---- the records along the chain, of which those of l are still to come and no more than n
+pub record Meeting (f : List ℕ) (count n : ℕ) (l : List ℕ) : Type 0 where
+  pub all : length (chain f) + n ≡ length l + count
+  pub inside : below count l ≡ below count (chain f)
 
-ends-over : (n count : ℕ) (f : List ℕ) (r : ℕ) → 0 < n → r ≡ 0 → ends n count f r ≡ true
-unfolding ends
-ends-over zero count f r p h = absurd (omega arith)
-ends-over (suc n) count f r p h = rw h
+module _ {f : List ℕ} {count n : ℕ} {l : List ℕ} (before : Meeting f count n l) where
+  module _ {x : ℕ} {k : List ℕ} (next : l ≡ x ∷ k) where
+    split-below : (ltb x count && below count k) ≡ below count (chain f)
+    unfolding below
+    split-below = rw next at before.inside
 
-ends-none : (n count : ℕ) (f : List ℕ) (r : ℕ) → n ≤ 0 → ends n count f r ≡ false
-unfolding ends
-ends-none zero count f r h = refl
-ends-none (suc n) count f r h = absurd (omega arith)
+    pub meeting-next : {m : ℕ} → m + 1 ≡ n → x < count → Meeting f count m k
+    meeting-next e h =
+        let one : length l ≡ suc (length k) = ap length next in
+        record { all = omega (arith, one, before.all, e); inside = sym (rw (lt-ltb x count h)) ∙ split-below }
 
--- after the steps taken, at a next of `index`, what is left tells what all tell
-pub record Stepping (f : List ℕ) (count index left : ℕ) : Type 0 where
-  pub rest : ends left count f index ≡ ends count count f (next_of f 0)
+    pub meeting-out : count ≡ record_count f → count ≤ x → false ≡ question7 f
+    meeting-out e h = outside-tells f (ap (λ n. below n (chain f)) (sym e) ∙ sym split-below ∙ rw (le-ltb x count h))
 
-pub stepping-start : (f : List ℕ) (count : ℕ) {index : ℕ} → index ≡ next_of f 0 → Stepping f count index count
-stepping-start f count {index} e = record { rest = ap (ends count count f) e }
+  pub meeting-end : {m : ℕ} → m ≡ n → count ≡ record_count f → 1 ≤ count → l ≡ [] → ltb 0 m ≡ question7 f
+  unfolding below
+  meeting-end {m} same e some none =
+      let z : length l ≡ 0 = ap length none in
+      let inside : below count (chain f) ≡ true = sym before.inside ∙ ap (below count) none in
+      left-tells m (length (chain f)) count (omega (arith, z, before.all, same))
+      ∙ ap (ltb (length (chain f))) e ∙ length-tells f (rw e at some) (rw e at inside)
 
-module _ {f : List ℕ} {count index left : ℕ} (before : Stepping f count index left) where
-  pub stepping-next : {next after : ℕ} → left ≡ suc after → index ≢ 0 → index < count → next ≡ next_of f index
-      → Stepping f count next after
-  stepping-next {after = after} p h k e =
-      record { rest = ap (ends after count f) e ∙ sym (ends_on after count f index h k) ∙ (rw p at before.rest) }
+-- ---- the same, where each record met is asked
+pub record Asking (f l : List ℕ) : Type 0 where
+  pub rest : asks_records f l ≡ asks_records f (chain f)
 
-  module _ (counted : count ≡ record_count f) (some : 1 ≤ count) where
-    is : ends left count f index ≡ question7 f
-    is = before.rest ∙ ap (λ n. ends n n f (next_of f 0)) counted ∙ steps-are f (rw counted at some)
-
-    pub stepping-over : 0 < left → index ≡ 0 → true ≡ question7 f
-    stepping-over p h = sym (ends-over left count f index p h) ∙ is
-
-    pub stepping-out : index ≢ 0 → count ≤ index → false ≡ question7 f
-    stepping-out h k = sym (ends-out left count f index h k) ∙ is
-
-    pub stepping-none : left ≤ 0 → false ≡ question7 f
-    stepping-none h = sym (ends-none left count f index h) ∙ is
-
--- ---- the records along the chain
-walk-on : (n : ℕ) (f : List ℕ) (r : ℕ) → r ≢ 0 → records_from (suc n) f r ≡ r ∷ records_from n f (next_of f r)
-unfolding records_from
-walk-on n f zero h = absurd (h refl)
-walk-on n f (suc r) h = refl
-
-walk-over : (n : ℕ) (f : List ℕ) (r : ℕ) → r ≡ 0 → records_from n f r ≡ []
-unfolding records_from
-walk-over zero f r h = refl
-walk-over (suc n) f r h = rw h
-
-walk_none : (n : ℕ) (f : List ℕ) (r : ℕ) → n ≤ 0 → records_from n f r ≡ []
-unfolding records_from
-walk_none zero f r h = refl
-walk_none (suc n) f r h = absurd (omega arith)
-
-pub record Walking (f : List ℕ) (count index left : ℕ) : Type 0 where
-  pub rest : asks_records f (records_from left f index) ≡ asks_records f (records_from count f (next_of f 0))
-
-pub walking_start : (f : List ℕ) (count : ℕ) {index : ℕ} → index ≡ next_of f 0 → Walking f count index count
-walking_start f count {index} e = record { rest = ap (λ r. asks_records f (records_from count f r)) e }
-
-module _ {f : List ℕ} {count index left : ℕ} (before : Walking f count index left) where
-  module _ {after : ℕ} (p : left ≡ suc after) (h : index ≢ 0) where
-    split : (asks_record f index or_else asks_records f (records_from after f (next_of f index)))
-        ≡ asks_records f (records_from count f (next_of f 0))
+module _ {f l : List ℕ} (before : Asking f l) where
+  module _ {x : ℕ} {k : List ℕ} (next : l ≡ x ∷ k) where
+    split : (asks_record f x or_else asks_records f k) ≡ asks_records f (chain f)
     unfolding asks_records
-    split = sym (ap (asks_records f) (walk-on after f index h)) ∙ (rw p at before.rest)
+    split = rw next at before.rest
 
-    pub walking-next : {next : ℕ} → 0 ≡ asks_record f index → next ≡ next_of f index → Walking f count next after
-    walking-next e to = record { rest = rw to (sym (rw (← e)) ∙ split) }
+    pub asking-next : 0 ≡ asks_record f x → Asking f k
+    asking-next e = record { rest = sym (rw (← e)) ∙ split }
 
-  module _ (counted : count ≡ record_count f) where
-    all : asks_records f (records_from count f (next_of f 0)) ≡ asks_records f (chain f)
-    unfolding chain
-    all = ap (λ n. asks_records f (records_from n f (next_of f 0))) counted
+    pub asking-no : {n : ℕ} → n ≡ asks_record f x → n ≢ 0 → n ≡ asks_records f (chain f)
+    asking-no {n} e ne = sym (rw (← e, ne_eqb n 0 ne)) ∙ split
 
-    pub walking-no : {n : ℕ} → 0 < left → index ≢ 0 → n ≡ asks_record f index → n ≢ 0 → n ≡ asks_records f (chain f)
-    walking-no {n} p h e ne = sym (rw (← e, ne_eqb n 0 ne)) ∙ split {after = left - 1} (omega arith) h ∙ all
-
-    pub walking-over : index ≡ 0 → 0 ≡ asks_records f (chain f)
-    unfolding asks_records
-    walking-over h = sym (ap (asks_records f) (walk-over left f index h)) ∙ before.rest ∙ all
-
-    pub walking-none : left ≤ 0 → 0 ≡ asks_records f (chain f)
-    unfolding asks_records
-    walking-none h = sym (ap (asks_records f) (walk_none left f index h)) ∙ before.rest ∙ all
+  pub asking-end : l ≡ [] → 0 ≡ asks_records f (chain f)
+  unfolding asks_records
+  asking-end none = sym (rw none) ∙ before.rest
 
 -- ---- the samples that are used
 module _ (f : List ℕ) (r : ℕ) {count : ℕ} (told : count ≡ count_of f r) where
@@ -161,34 +117,3 @@ module _ {f : List ℕ} {r count k : ℕ} (before : Using f r count k) (told : c
   using-end h =
       let none : count - k ≡ 0 = omega arith in
       sym (rw none) ∙ before.rest ∙ ap asks_samples (all-used f r told)
-
--- ---- the file: its size, its chain, its records
-module _ (f : List ℕ) where
-  pub file-size : {b : Bool} → b ≡ question6 (length f) → not b ≡ true → 6 ≡ asks_file f
-  unfolding asks_file asks_chain
-  file-size {b} e h = sym (rw (← e, not-true b h))
-
-  module _ {a : Bool} (sized : a ≡ question6 (length f)) (ok : not a ≡ false) where
-    pub file-chain : {b : Bool} → b ≡ question7 f → not b ≡ true → 7 ≡ asks_file f
-    unfolding asks_file asks_chain
-    file-chain {b} e h = sym (rw (← sized, not-false a ok, ← e, not-true b h))
-
-    pub file-records : {b : Bool} {n : ℕ} → b ≡ question7 f → not b ≡ false → n ≡ asks_records f (chain f) → n ≡ asks_file f
-    unfolding asks_file asks_chain
-    file-records {b} e h asked = asked ∙ sym (rw (← sized, not-false a ok, ← e, not-false b h))
-
--- what question 6 gives: 1 to 682 records
-pub record Counted (size : ℕ) : Type 0 where
-  pub least : 1 ≤ size / 96
-  pub most : size / 96 ≤ 682
-
-pub counted : (size : ℕ) {b : Bool} → b ≡ question6 size → not b ≡ false → Counted size
-unfolding question6
-counted size {b} e h =
-    let all = sym e ∙ not-false b h in
-    let two = eqb (size % 96) 0 && leb 1 (size / 96) in
-    let high = leb (size / 96) 682 in
-    record {
-      least = leb-true 1 (size / 96) ((and-eq-true_iff (eqb (size % 96) 0) (leb 1 (size / 96))).0 ((and-eq-true_iff two high).0 all).0).1;
-      most = leb-true (size / 96) 682 ((and-eq-true_iff two high).0 all).1;
-    }

@@ -1,13 +1,13 @@
 -- A chain that ends reaches no record twice, and one that reaches as many records as there are has reached one of them twice: what the
--- count of steps tells is what question 7 asks. Assumes nothing.
+-- count of records reached tells is what question 7 asks. Assumes nothing.
 use Prim.Native.Nat.{ℕ, zero, suc, ◌+◌, ◌≤◌, ◌<◌}
 use mathlib.Core.Path.{◌≡◌, refl, sym, ap, ◌∙◌}
-use mathlib.Core.Bool.{Bool, true, false, not, ◌&&◌, ◌||◌, cond, true≢false, false≢true, and-eq-true_iff}
+use mathlib.Core.Bool.{Bool, true, false, not, ◌||◌, cond, true≢false, false≢true, and-eq-true_iff}
 use mathlib.Core.Logic.{◌≢◌}
 use mathlib.Core.List.{List, [], ◌∷◌}
 use native.Mathlib.Nat.{le_of_suc-le-suc}
 use native.Mathlib.Omega.{arith}
-use borrow.Author.Tests.{ltb-true, lt-ltb, eqb-true, eqb-false, ne_eqb}
+use borrow.Author.Tests.{ltb-true, ltb-false, lt-ltb, eqb-true, eqb-false, ne_eqb}
 use lib.Dec.{ltb, eqb}
 use lib.ListN.{length}
 use Rattle.ride_log.specs.Entry.{next_of, records_from, record_count, chain}
@@ -138,37 +138,13 @@ few (suc n) l b h =
     let most = longest n l h in
     omega arith
 
--- ---- the count of steps
--- whether a chain ends within n of them, every next below `count`
-unfoldable pub ends : ℕ → ℕ → List ℕ → ℕ → Bool
-ends zero count f r = false
-ends (suc n) count f zero = true
-ends (suc n) count f (suc r) = ltb (suc r) count && ends n count f (next_of f (suc r))
-
-pub record Ended (n count : ℕ) (f : List ℕ) (r : ℕ) : Type 0 where
-  pub whole : Ends f r (records_from n f r)
-  pub inside : below count (records_from n f r) ≡ true
-
-pub ended : (n count : ℕ) (f : List ℕ) (r : ℕ) → ends n count f r ≡ true → Ended n count f r
-unfolding ends records_from below
-ended zero count f r h = absurd (false≢true h)
-ended (suc n) count f zero h = record { whole = over; inside = refl }
-ended (suc n) count f (suc r) h =
-    let b = ltb (suc r) count in
-    let next = ends n count f (next_of f (suc r)) in
-    let later = ended n count f (next_of f (suc r)) ((and-eq-true_iff b next).0 h).1 in
-    record { whole = on later.whole; inside = rw ((and-eq-true_iff b next).0 h).0 later.inside }
-
--- a walk that does not end takes every step
-long : (n count : ℕ) (f : List ℕ) (r : ℕ) → ends n count f r ≡ false → below count (records_from n f r) ≡ true
-    → length (records_from n f r) ≡ n
-unfolding ends records_from below
-long zero count f r h b = refl
-long (suc n) count f zero h b = absurd (true≢false h)
-long (suc n) count f (suc r) h b =
-    let rest = below count (records_from n f (next_of f (suc r))) in
-    let under = ((and-eq-true_iff (ltb (suc r) count) rest).0 b).0 in
-    ap suc (long n count f (next_of f (suc r)) (rw under at h) ((and-eq-true_iff (ltb (suc r) count) rest).0 b).1)
+-- ---- the count of records reached
+-- fewer than a walk may take: the chain ended
+pub short-ends : (n : ℕ) (f : List ℕ) (r : ℕ) → length (records_from n f r) < n → Ends f r (records_from n f r)
+unfolding records_from
+short-ends zero f r h = absurd (omega arith)
+short-ends (suc n) f zero h = over
+short-ends (suc n) f (suc r) h = on (short-ends n f (next_of f (suc r)) (le_of_suc-le-suc h))
 
 no_zero : (n : ℕ) (f : List ℕ) (r : ℕ) → stands zero (records_from n f r) ≡ false
 unfolding stands records_from
@@ -176,30 +152,37 @@ no_zero zero f r = refl
 no_zero (suc n) f zero = refl
 no_zero (suc n) f (suc r) = rw (ne_eqb zero (suc r) (λ e. omega arith)) (no_zero n f (next_of f (suc r)))
 
-not-ended : (count : ℕ) (f : List ℕ) (r : ℕ) → 1 ≤ count → ends count count f r ≡ false
-    → (below count (records_from count f r) && not (twice (records_from count f r))) ≡ false
+-- as many as there are records below n: one of them twice
+long-twice : (n : ℕ) (f : List ℕ) (r : ℕ) → 1 ≤ n → n ≤ length (records_from n f r) → below n (records_from n f r) ≡ true
+    → twice (records_from n f r) ≡ true
 unfolding twice below
-not-ended count f r some h =
-    let l = records_from count f r in
-    by (below count l)
-    (λ b.
+long-twice n f r some long inside =
+    let l = records_from n f r in
     by (twice l)
-    (λ t. rw (b, t))
+    (λ t. t)
     (λ t.
-    let fits : below count (zero ∷ l) ≡ true = rw (lt-ltb zero count some) b in
-    let once : twice (zero ∷ l) ≡ false = rw (no_zero count f r) t in
-    let most = few count (zero ∷ l) fits once in
-    let all = long count count f r h b in
-    absurd (omega arith)))
-    (λ b. rw b)
+    let fits : below n (zero ∷ l) ≡ true = rw (lt-ltb zero n some) inside in
+    let once : twice (zero ∷ l) ≡ false = rw (no_zero n f r) t in
+    let most = few n (zero ∷ l) fits once in
+    absurd (omega arith))
 
-pub steps-tell : (count : ℕ) (f : List ℕ) (r : ℕ) → 1 ≤ count
-    → ends count count f r ≡ (below count (records_from count f r) && not (twice (records_from count f r)))
-steps-tell count f r some =
-    by (ends count count f r)
-    (λ t. let e = ended count count f r t in t ∙ sym (rw (e.inside, ends-once e.whole)))
-    (λ t. t ∙ sym (not-ended count f r some t))
+module _ (f : List ℕ) where
+  pub length-tells : 1 ≤ record_count f → below (record_count f) (chain f) ≡ true → ltb (length (chain f)) (record_count f) ≡ question7 f
+  unfolding question7 chain
+  length-tells some inside =
+      let n = record_count f in
+      let l = records_from n f (next_of f 0) in
+      by (ltb (length l) n)
+      (λ t. t ∙ sym (rw (inside, ends-once (short-ends n f (next_of f 0) (ltb-true (length l) n t)))))
+      (λ t. t ∙ sym (rw (inside, long-twice n f (next_of f 0) some (ltb-false (length l) n t) inside)))
 
-pub steps-are : (f : List ℕ) → 1 ≤ record_count f → ends (record_count f) (record_count f) f (next_of f 0) ≡ question7 f
-unfolding question7 chain
-steps-are f some = steps-tell (record_count f) f (next_of f 0) some
+  pub outside-tells : below (record_count f) (chain f) ≡ false → false ≡ question7 f
+  unfolding question7
+  outside-tells h = sym (rw h)
+
+  pub chain-ends : 1 ≤ record_count f → question7 f ≡ true → Ends f (next_of f 0) (chain f)
+  unfolding question7 chain
+  chain-ends some h =
+      let n = record_count f in
+      let inside = ((and-eq-true_iff (below n (chain f)) (not (twice (chain f)))).0 h).0 in
+      short-ends n f (next_of f 0) (ltb-true (length (chain f)) n (length-tells some inside ∙ h))

@@ -1,12 +1,12 @@
 -- The proof of `specs/Theorems.antt`. Assumes nothing.
-use Prim.Native.Nat.{ℕ, zero, suc, ◌+◌, ◌*◌, ◌/◌, ◌%◌, ◌≤◌, ◌<◌}
-use mathlib.Core.Path.{◌≡◌, refl, sym, ap, ap₂, ◌∙◌}
-use mathlib.Core.Bool.{Bool, true, false, not, ◌&&◌, cond, or-true, false≢true, and-eq-true_iff}
+use Prim.Native.Nat.{ℕ, zero, suc, ◌+◌, ◌*◌, ◌/◌, ◌≤◌, ◌<◌}
+use mathlib.Core.Path.{◌≡◌, refl, ap, ap₂, ◌∙◌}
+use mathlib.Core.Bool.{Bool, true, false, not, cond, or-true, false≢true, and-eq-true_iff}
 use mathlib.Core.List.{List, [], ◌∷◌, map}
-use native.Mathlib.Nat.{add-zero, add_assoc, div-add-mod'}
+use native.Mathlib.Nat.{add-zero, add_assoc}
 use native.Mathlib.Omega.{arith}
 use borrow.Author.Tests.{eqb-true, eq-eqb, ltb-true, not-true}
-use lib.Dec.{leb, ltb, eqb}
+use lib.Dec.{ltb, eqb}
 use lib.ListN.{length}
 use Rattle.calls.specs.Questions.{latitude_fits, longitude_fits, asks_fix, ◌or_else◌, unless}
 use Rattle.ride_log.specs.Entry.{byte_at, u32_at, u64_at, i32_at, signed, record_count, next_of, ride_of, kind_number, count_of}
@@ -18,9 +18,9 @@ use Rattle.calls.specs.Calls.{asks_place}
 use Rattle.ride_log.specs.Questions.{question6, question7, question8, below, stands, twice, asks_samples, asks_entry, asks_record}
 use Rattle.ride_log.specs.Questions.{asks_records, asks_chain, asks_file}
 use Rattle.ride_log.specs.Theorems.{Accepted, EveryAccepted, Same, SameSample, SameRecord, SameRead, Alike, OnlyRead, example, Example}
-use Rattle.ride_log.proofs.file_questions.Chain.{by, ended, steps-are}
-use Rattle.ride_log.proofs.file_questions.Asking.{Counted, counted}
+use Rattle.ride_log.proofs.file_questions.Chain.{by, chain-ends}
 use Rattle.questions.proofs.Given.{neither, passed}
+use Rattle.std.proofs.lemmas.Bool.Decides.{nat_tests}
 
 -- ---- what a file that no question refuses gives
 each-asked : (f l : List ℕ) (r : ℕ) → asks_records f l ≡ 0 → stands r l ≡ true → asks_record f r ≡ 0
@@ -44,30 +44,29 @@ module _ (f : List ℕ) (e : asks_file f ≡ 0) where
   unfolding asks_chain
   chain_fits = passed (question7 f) 6 (neither (unless (question6 (length f)) 6) (unless (question7 f) 7) chain-asked).1
 
-  sizes : Counted (length f)
-  sizes = counted (length f) (sym size_fits) refl
-
   whole-records : length f ≡ 96 * record_count f
   unfolding question6 record_count
-  whole-records =
-      let n = length f in
-      let two = eqb (n % 96) 0 && leb 1 (n / 96) in
-      let some = ((and-eq-true_iff two (leb (n / 96) 682)).0 size_fits).0 in
-      let part = eqb-true (n % 96) 0 ((and-eq-true_iff (eqb (n % 96) 0) (leb 1 (n / 96))).0 some).0 in
-      let all = div-add-mod' n 96 in
-      omega arith
+  whole-records = let fits = size_fits in grind (arith, nat_tests)
+
+  one-record : 1 ≤ record_count f
+  unfolding question6 record_count
+  one-record = let fits = size_fits in grind (arith, nat_tests)
+
+  most-records : record_count f ≤ 682
+  unfolding question6 record_count
+  most-records = let fits = size_fits in grind (arith, nat_tests)
 
   pub accepted : Accepted f
   unfolding asks_file chain question7 record_count
   accepted =
-      let steps = ended (record_count f) (record_count f) f (next_of f 0) (steps-are f sizes.least ∙ chain_fits) in
+      let both = (and-eq-true_iff (below (record_count f) (chain f)) (not (twice (chain f)))).0 chain_fits in
       record {
         whole = whole-records;
-        least = sizes.least;
-        most = sizes.most;
-        ends = steps.whole;
-        inside = steps.inside;
-        once = not-true (twice (chain f)) ((and-eq-true_iff (below (record_count f) (chain f)) (not (twice (chain f)))).0 chain_fits).1;
+        least = one-record;
+        most = most-records;
+        ends = chain-ends f one-record chain_fits;
+        inside = both.0;
+        once = not-true (twice (chain f)) both.1;
         each = λ r h. each-asked f (chain f) r (neither (asks_chain f) (asks_records f (chain f)) e).1 h;
       }
 

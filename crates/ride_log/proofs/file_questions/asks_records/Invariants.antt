@@ -1,7 +1,7 @@
--- What the steps to come tell is what all tell.
-use Prim.Native.Nat.{◌-◌}
-use Rattle.ride_log.proofs.file_questions.Asking.{Walking}
+-- What the records still to come tell is what all tell.
+use Rattle.ride_log.specs.Chain.{left}
+use Rattle.ride_log.proofs.file_questions.Asking.{Asking}
 use Rattle.ride_log.proofs.file_questions.asks_records.Given as goal
 
-abbrev pub invariant-loop-step : goal.invariant-loop-step
-invariant-loop-step l = Walking l.file l.count l.index (l.count - l._step)
+abbrev pub invariant-loop-index : goal.invariant-loop-index
+invariant-loop-index l = Asking l.file (left l.index-iterator)

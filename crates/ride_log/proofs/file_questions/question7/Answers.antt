@@ -1,19 +1,15 @@
--- `ride_log::file_questions::question7` meets its contract: a chain of as many records as there are has reached one of them twice. Assumes
--- nothing.
-use native.Mathlib.Omega.{arith}
-use Rattle.ride_log.proofs.file_questions.Asking.{stepping-next, stepping-over, stepping-out, stepping-none}
+-- `ride_log::file_questions::question7` meets its contract: a chain of as many records as there are has reached one of them twice.
+use Rattle.ride_log.proofs.file_questions.Asking.{meeting-next, meeting-out, meeting-end}
 use Rattle.ride_log.proofs.file_questions.question7.Goals as goal
 
-pub returns-then-index-eq0 : goal.returns-then-index-eq0
-returns-then-index-eq0 c = stepping-over c.loop-step.invariant c.requires.0 c.requires.1 (omega arith) c.if-index-eq0.true
-
 pub returns-then-count-index : goal.returns-then-count-index
-returns-then-count-index c =
-    stepping-out c.loop-step.invariant c.requires.0 c.requires.1 c.if-index-eq0.false c.if-count-index.true
+returns-then-count-index c = meeting-out c.loop-index.invariant c.in-Some.ensures.steps.0 c.requires.0 c.if-count-index.true
 
-pub loop-step-preserved : goal.loop-step-preserved
-loop-step-preserved c =
-    stepping-next c.loop-step.invariant (omega arith) c.if-index-eq0.false c.if-count-index.false c.next_of-index-in-loop-step.ensures
+pub loop-index-preserved : goal.loop-index-preserved
+loop-index-preserved c =
+    meeting-next c.loop-index.invariant c.in-Some.ensures.steps.0 c.in-Some.ensures.steps.1 c.if-count-index.false
 
 pub returns : goal.returns
-returns c = stepping-none c.loop-step.invariant c.requires.0 c.requires.1 (omega arith)
+returns c =
+    let e = c.in_default.ensures.steps in
+    meeting-end c.loop-index.invariant e.2 c.requires.0 c.requires.1 e.0
