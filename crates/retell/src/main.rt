@@ -13,7 +13,8 @@ const KEPT: usize = 65_473;
 // The most that is told of a file.
 const TEXT: usize = 16_384;
 
-// Reads the input to its end, or until the file is full, and answers how many bytes those are.
+// Reads the input to its end, or until the file is full, and answers how many bytes those are. By `while`: how many come at a time is for
+// the input to say.
 fn read_input(input: &mut impl Read, file: &mut [u8]) -> io::Result<usize>
     ensures within { IfOk result (λ n. n ≤ length file.new) }
     ensures front { IfOk result (λ n. n ≡ length (take n file.new)) }

@@ -118,13 +118,13 @@ module _ (file : List ℕ) {h n : Homing} {r x : Rebuild} {b exit : List Float} 
       rw begun at (done.taken (step-asked file h b size fresh ∙ z)) in
       let long : length exit ≡ 1536 = m.size ∙ size in
       let held : n.trail.len ≤ capacity (length exit) = m.fit.held in
-      record { tells = retold-rebuilt file size fresh z m; held = omega arith; size = long }
+      record { tells = retold-rebuilt file size fresh z m; held = omega arith }
 
   pub rebuilds-no-chain : {q : Refusal} → Steps slots slots file r h b x n (Err q) exit → Rebuilds file (Err q) exit
   unfolding told
   rebuilds-no-chain {q = q} done =
       let z : (asks_file file ≢ 0) × (number q ≡ asks_file file) = refused-by _ _ (number q) (same-answer done) in
-      record { tells = ap refused_text z.1 ∙ sym (retold-refused file z.0); held = tt; size = done.size ∙ size }
+      record { tells = ap refused_text z.1 ∙ sym (retold-refused file z.0); held = tt }
 
 -- ---- what is told
 module _ {chain : Result Rebuilt Refusal} (b : List Float) {t u : Writer} where

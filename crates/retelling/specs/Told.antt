@@ -1,5 +1,5 @@
 -- For the functions inside: what is told of a chain, in the functions' own values.
-use Rattle.std.specs.Prelude.{ℕ, ◌≤◌, ◌≡◌, List, length, Float, Result, Ok, Err, IfOk}
+use Rattle.std.specs.Prelude.{ℕ, ◌≤◌, ◌≡◌, List, Float, Result, Ok, Err, IfOk}
 use Rattle.refusal.specs.declared.Refusal.{Refusal}
 use Rattle.refusal.specs.Refusal.{number}
 use Rattle.crumbs.specs.Crumb.{crumbs}
@@ -17,4 +17,3 @@ told (Err q) b = refused_text (number q)
 pub record Rebuilds (file : List ℕ) (chain : Result Rebuilt Refusal) (b : List Float) : Type 0 where
   pub tells : told chain b ≡ retold file
   pub held : IfOk chain (λ x. x.len ≤ 512)
-  pub size : length b ≡ 1536

@@ -3,7 +3,7 @@
 
 mod lines;
 
-ghost use Rattle.std.specs.Prelude.{◌≡◌, ◌≤◌, length, IfOk};
+ghost use Rattle.std.specs.Prelude.{◌≤◌, IfOk};
 ghost use Rattle.retelling.specs.Writing.{PutsWhole};
 ghost use Rattle.retelling.specs.Retold.{Retells};
 ghost use Rattle.retelling.specs.Told.{told, Rebuilds};
@@ -16,7 +16,7 @@ use refusal::Refusal;
 const NUMBERS: usize = crumbs::STRIDE * 512;
 
 // As many slots as a file can have records.
-const SLOTS: usize = 682;
+const SLOTS: usize = ride_log::file_questions::MOST;
 
 // A chain that was not refused: the rebuild at its end, and how many crumbs are held.
 #[derive(Clone, Copy)]
@@ -26,8 +26,8 @@ struct Rebuilt {
 }
 
 // What is told of a chain, whose crumbs stand in front of the buffer.
-fn put_told(writer: &mut Writer<'_>, chain: Result<Rebuilt, Refusal>, buf: &[f32])
-    requires { (length buf.now ≡ 1536) × IfOk chain (λ x. x.len ≤ 512) }
+fn put_told(writer: &mut Writer<'_>, chain: Result<Rebuilt, Refusal>, buf: &[f32; NUMBERS])
+    requires { IfOk chain (λ x. x.len ≤ 512) }
     ensures { PutsWhole (told chain buf.now) writer.old writer.new }
 {
     match chain {
@@ -40,8 +40,7 @@ fn put_told(writer: &mut Writer<'_>, chain: Result<Rebuilt, Refusal>, buf: &[f32
 }
 
 // The whole chain of the file, rebuilt into the crumbs of a new guide.
-fn rebuild_chain(file: &[u8], crumbs: &mut [f32]) -> Result<Rebuilt, Refusal>
-    requires { length crumbs.old ≡ 1536 }
+fn rebuild_chain(file: &[u8], crumbs: &mut [f32; NUMBERS]) -> Result<Rebuilt, Refusal>
     ensures { Rebuilds file.now result crumbs.new }
 {
     // No question refuses a buffer for 512 crumbs.

@@ -6,6 +6,7 @@ ghost use Rattle.retelling.specs.Text.{capital as capital_of, decimal, capitals,
 ghost use Rattle.retelling.specs.Text.{rebuilt_text, refused_text};
 ghost use Rattle.retelling.specs.Writing.{Puts, PutsWhole};
 
+use crate::NUMBERS;
 use crumbs::Crumb;
 
 // Writes to a text that the caller lends, from place `at` on, as far as there is room. Clauses name each byte and where it goes, which
@@ -130,8 +131,8 @@ impl Writer<'_> {
     }
 
     // The first line, and the first `len` crumbs of the buffer.
-    pub fn put_rebuilt(&mut self, len: usize, clock_ms: u64, decided: bool, buf: &[f32])
-        requires { (length buf.now ≡ 1536) × (len ≤ 512) }
+    pub fn put_rebuilt(&mut self, len: usize, clock_ms: u64, decided: bool, buf: &[f32; NUMBERS])
+        requires { len ≤ 512 }
         ensures { PutsWhole (rebuilt_text (crumbs len buf.now) clock_ms decided) self.old self.new }
     {
         self.put_first(len, clock_ms, decided);

@@ -1,7 +1,7 @@
 // One field of a guide's state, as words and numbers in slices that the caller lends. A flag is 0 or 1; what may
 // be missing is a flag with its parts behind it, which are 0 where it is missing and are then not read.
 
-ghost use Rattle.std.specs.Prelude.{◌≡◌, ◌+◌, ◌<◌, ◌≤◌, length};
+ghost use Rattle.std.specs.Prelude.{◌≡◌, ◌+◌, ◌<◌, length};
 ghost use Rattle.stored.specs.Fields.{within, flag_at, signed_at, point_at, spot_at, heading_at, place_read, line_of_tag, stage_of_tag};
 ghost use Rattle.stored.specs.Fields.{mode_of_tag, point_in, line_tag, stage_tag, mode_tag};
 
@@ -18,11 +18,11 @@ pub const U16: u64 = u16::MAX as u64;
 
 pub const U8: u64 = u8::MAX as u64;
 
-// Each of the words in front is at most what `most` says, and there are as many.
-pub fn within(most: &[u64], words: &[u64]) -> bool
+// Each word is at most what `most` says.
+pub fn within<const N: usize>(most: &[u64; N], words: &[u64; N]) -> bool
     ensures { result ≡ within most.now words.now }
 {
-    most.len() <= words.len() && most.iter().zip(words).all(|(limit, word)| *word <= *limit)
+    most.iter().zip(words).all(|(limit, word)| word <= limit)
 }
 
 // ---- fields, read

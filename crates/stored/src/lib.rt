@@ -9,9 +9,10 @@ mod parts;
 mod state_words;
 mod stored_rebuild;
 
-ghost use Rattle.std.specs.Prelude.{◌≡◌, ◌++◌, ◌<◌, ◌≤◌, length, drop};
+ghost use Rattle.std.specs.Prelude.{◌≡◌, ◌&&◌, ◌++◌, ◌≤◌, eqb, length, drop};
+ghost use Rattle.stored.specs.Fields.{within, word_at};
 ghost use Rattle.stored.specs.Parts.{word_count, number_count};
-ghost use Rattle.stored.specs.Stored.{homing_at, room_for, holds as holds_state, stored, StateFits, words_of, head_of, numbers_of, Stores};
+ghost use Rattle.stored.specs.Stored.{mark, mosts, homing_at, room_for, stored, StateFits, words_of, head_of, numbers_of, Stores};
 
 pub use fields::mode_of;
 use state::Homing;
@@ -71,8 +72,7 @@ const MOST: [u64; WORDS] = [
 ];
 
 // `holds` asks all words, and this reads them, as the rule has it: with both in one, each field would be an Option to take apart.
-fn homing_at(words: &[u64], numbers: &[f32]) -> Homing
-    requires { (word_count ≤ length words.now) × (number_count ≤ length numbers.now) }
+fn homing_at(words: &[u64; WORDS], numbers: &[f32; NUMBERS]) -> Homing
     ensures { result ≡ homing_at words.now numbers.now }
 {
     Homing {
@@ -99,26 +99,23 @@ fn homing_at(words: &[u64], numbers: &[f32]) -> Homing
 pub fn has_room(words: &[u64], numbers: &[f32]) -> bool
     ensures { result ≡ room_for words.now numbers.now }
 {
-    (WORDS <= words.len()) & (NUMBERS <= numbers.len())
+    WORDS <= words.len() && NUMBERS <= numbers.len()
 }
 
-fn holds(words: &[u64], numbers: &[f32]) -> bool
-    ensures { result ≡ holds_state words.now numbers.now }
+// Whether the words are a state's, whatever the numbers beside them.
+fn holds(words: &[u64; WORDS]) -> bool
+    ensures { result ≡ (eqb (word_at words.now 0) mark && within mosts words.now) }
 {
-    if !fields::within(&MOST, words) {
-        return false;
-    }
-    (words[layout::MARK] == state_words::MARK) & (NUMBERS <= numbers.len())
+    words[layout::MARK] == state_words::MARK && fields::within(&MOST, words)
 }
 
 // The state that the slices hold.
 pub fn load(words: &[u64], numbers: &[f32]) -> Option<Homing>
     ensures { result ≡ stored words.now numbers.now }
 {
-    if !holds(words, numbers) {
-        return None;
-    }
-    Some(homing_at(words, numbers))
+    let words = words.first_chunk()?;
+    let numbers = numbers.first_chunk()?;
+    holds(words).then(|| homing_at(words, numbers))
 }
 
 // ---- the state, written
@@ -154,8 +151,8 @@ fn store_words(h: Homing, words: &mut [u64])
     requires { word_count ≤ length words.old }
     ensures { (words.new ≡ words_of h ++ drop word_count words.old) × (StateFits h) }
 {
-    words[..layout::LINE_LEN].copy_from_slice(&state_words::front_words(h));
-    words[layout::LINE_LEN..WORDS].copy_from_slice(&state_words::back_words(h));
+    words[..state_words::FRONT].copy_from_slice(&state_words::front_words(h));
+    words[state_words::FRONT..WORDS].copy_from_slice(&state_words::back_words(h));
 }
 
 fn store_numbers(h: Homing, numbers: &mut [f32])

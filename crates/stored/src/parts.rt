@@ -1,38 +1,32 @@
-// The parts of a guide's state, read from slices that the caller lends and written as words. Where each stands is
-// the table in crates/stored/specs/Stored.antt. The C interface lends words and numbers as two slices of any
-// length, and they are read where they lie: an array of the words in front would ask for the same two lines in each contract, since
-// the rules name places of a slice.
+// The parts of a guide's state, read from the words and the numbers of a whole one and written as words. Where each stands is
+// the table in crates/stored/specs/Stored.antt.
 
-ghost use Rattle.std.specs.Prelude.{◌≡◌, true, [], ◌+◌, ◌≤◌, length, take, drop};
+ghost use Rattle.std.specs.Prelude.{◌≡◌, true, [], take, drop};
 ghost use Rattle.stored.specs.Fields.{within};
-ghost use Rattle.stored.specs.Parts.{word_count, number_count, window_at, trail_at, frame_at, motion_at, follow_at, course_at, lap_at};
+ghost use Rattle.stored.specs.Parts.{window_at, trail_at, frame_at, motion_at, follow_at, course_at, lap_at};
 ghost use Rattle.stored.specs.Parts.{guide_read, shown_at, guide_in, place_words, heading_words, motion_words, follow_words};
 ghost use Rattle.stored.specs.Parts.{course_words, lap_words, guide_words, place_mosts, heading_mosts, motion_mosts, follow_mosts};
-ghost use Rattle.stored.specs.Parts.{course_mosts, lap_mosts, guide_mosts, guide_size, PlaceFits};
+ghost use Rattle.stored.specs.Parts.{course_mosts, lap_mosts, guide_mosts, PlaceFits};
 
-use crate::{fields, layout};
+use crate::{NUMBERS, WORDS, fields, layout};
 use lap::{Lap, StartPass};
 use motion::Motion;
 use plane::Fix;
 use state::{Course, Follow, Frame, Guide, Mode};
 use trail::Trail;
 
-// How many numbers the window has.
-const WINDOW: usize = 96;
+// How many numbers the window has, which stands behind all others.
+const WINDOW: usize = NUMBERS - layout::WINDOW;
 
 // ---- parts, read
 
-pub fn window_at(numbers: &[f32]) -> [f32; WINDOW]
-    requires { number_count ≤ length numbers.now }
+pub fn window_at(numbers: &[f32; NUMBERS]) -> [f32; WINDOW]
     ensures { result ≡ take 96 (drop window_at numbers.now) }
 {
-    let mut window = [0.0; WINDOW];
-    window.copy_from_slice(&numbers[layout::WINDOW..layout::WINDOW + WINDOW]);
-    window
+    numbers[layout::WINDOW..].try_into().unwrap()
 }
 
-pub fn trail_at(words: &[u64], numbers: &[f32]) -> Trail
-    requires { (word_count ≤ length words.now) × (number_count ≤ length numbers.now) }
+pub fn trail_at(words: &[u64; WORDS], numbers: &[f32; NUMBERS]) -> Trail
     ensures { result ≡ trail_at words.now numbers.now }
 {
     Trail {
@@ -44,8 +38,7 @@ pub fn trail_at(words: &[u64], numbers: &[f32]) -> Trail
     }
 }
 
-pub fn frame_at(words: &[u64], numbers: &[f32]) -> Frame
-    requires { (word_count ≤ length words.now) × (number_count ≤ length numbers.now) }
+pub fn frame_at(words: &[u64; WORDS], numbers: &[f32; NUMBERS]) -> Frame
     ensures { result ≡ frame_at words.now numbers.now }
 {
     Frame {
@@ -54,8 +47,7 @@ pub fn frame_at(words: &[u64], numbers: &[f32]) -> Frame
     }
 }
 
-pub fn motion_at(words: &[u64], numbers: &[f32]) -> Motion
-    requires { (word_count ≤ length words.now) × (number_count ≤ length numbers.now) }
+pub fn motion_at(words: &[u64; WORDS], numbers: &[f32; NUMBERS]) -> Motion
     ensures { result ≡ motion_at words.now numbers.now }
 {
     Motion {
@@ -65,8 +57,7 @@ pub fn motion_at(words: &[u64], numbers: &[f32]) -> Motion
     }
 }
 
-pub fn follow_at(words: &[u64], numbers: &[f32]) -> Follow
-    requires { (word_count ≤ length words.now) × (number_count ≤ length numbers.now) }
+pub fn follow_at(words: &[u64; WORDS], numbers: &[f32; NUMBERS]) -> Follow
     ensures { result ≡ follow_at words.now numbers.now }
 {
     Follow {
@@ -78,8 +69,7 @@ pub fn follow_at(words: &[u64], numbers: &[f32]) -> Follow
     }
 }
 
-pub fn course_at(words: &[u64], numbers: &[f32]) -> Course
-    requires { (word_count ≤ length words.now) × (number_count ≤ length numbers.now) }
+pub fn course_at(words: &[u64; WORDS], numbers: &[f32; NUMBERS]) -> Course
     ensures { result ≡ course_at words.now numbers.now }
 {
     Course {
@@ -94,8 +84,7 @@ pub fn course_at(words: &[u64], numbers: &[f32]) -> Course
     }
 }
 
-pub fn lap_at(words: &[u64], numbers: &[f32]) -> Lap
-    requires { (word_count ≤ length words.now) × (number_count ≤ length numbers.now) }
+pub fn lap_at(words: &[u64; WORDS], numbers: &[f32; NUMBERS]) -> Lap
     ensures { result ≡ lap_at words.now numbers.now }
 {
     let stage = fields::pass_of(words[layout::PASS]);
@@ -106,11 +95,10 @@ pub fn lap_at(words: &[u64], numbers: &[f32]) -> Lap
     }
 }
 
-// A guide whose words begin at word `i`.
-fn guide_at(words: &[u64], i: usize) -> Guide
-    requires { i + guide_size ≤ length words.now }
-    ensures { result ≡ guide_read words.now i }
+fn guide_at(words: &[u64; WORDS]) -> Guide
+    ensures { result ≡ guide_read words.now 35 }
 {
+    let i = layout::GUIDE;
     Guide {
         mode: fields::mode_of(words[i]),
         following: fields::flag_at(words, i + 1),
@@ -124,11 +112,10 @@ fn guide_at(words: &[u64], i: usize) -> Guide
     }
 }
 
-pub fn shown_at(words: &[u64]) -> Option<Guide>
-    requires { word_count ≤ length words.now }
+pub fn shown_at(words: &[u64; WORDS]) -> Option<Guide>
     ensures { result ≡ shown_at words.now }
 {
-    fields::flag_at(words, layout::SHOWN).then_some(guide_at(words, layout::GUIDE))
+    fields::flag_at(words, layout::SHOWN).then_some(guide_at(words))
 }
 
 // ---- parts, written

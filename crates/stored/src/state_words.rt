@@ -1,18 +1,25 @@
-// A guide's state as words, in two arrays, in the order of the table in crates/stored/specs/Stored.antt.
+// A guide's state as words, in two arrays, in the order of the table in crates/stored/specs/Stored.antt. The words of a part stand
+// one by one: `concat` would join them in memory of its own, and there is none.
 
 ghost use Rattle.std.specs.Prelude.{◌≡◌, true, length, take, drop};
 ghost use Rattle.stored.specs.Fields.{within};
 ghost use Rattle.stored.specs.Parts.{PlaceFits};
 ghost use Rattle.stored.specs.Words.{mosts, words_of};
 
-use crate::parts;
+use crate::{WORDS, layout, parts};
 use state::Homing;
 
 // The letters CITTUMA1.
 pub const MARK: u64 = 4848499195026161969;
 
+// How many words stand before the course's.
+pub const FRONT: usize = layout::LINE_LEN;
+
+// How many stand from the course's on.
+const BACK: usize = WORDS - FRONT;
+
 // The words before the course's.
-pub fn front_words(h: Homing) -> [u64; 22]
+pub fn front_words(h: Homing) -> [u64; FRONT]
     ensures { (result ≡ take 22 (words_of h)) × (within (take 22 mosts) (take 22 (words_of h)) ≡ true) × (PlaceFits h.frame.origin)
         × (PlaceFits h.fed) × (length h.window ≡ 96) }
 {
@@ -48,7 +55,7 @@ pub fn front_words(h: Homing) -> [u64; 22]
 }
 
 // The words from the course's on.
-pub fn back_words(h: Homing) -> [u64; 23]
+pub fn back_words(h: Homing) -> [u64; BACK]
     ensures { (result ≡ drop 22 (words_of h)) × (within (drop 22 mosts) (drop 22 (words_of h)) ≡ true) }
 {
     let course = parts::course_words(h.course);

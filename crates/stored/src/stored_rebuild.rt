@@ -1,6 +1,6 @@
 // A rebuild's state in a slice of words that the caller lends. The layout is the table in specs/Rebuilt.antt. Word 0 is a mark.
 
-ghost use Rattle.std.specs.Prelude.{◌≡◌, true, ◌+◌, ◌<◌, ◌≤◌, length};
+ghost use Rattle.std.specs.Prelude.{◌≡◌, true, ◌≤◌, length};
 ghost use Rattle.stored.specs.Fields.{within};
 ghost use Rattle.stored.specs.Rebuilt.{rebuild_count, rebuild_mosts, stage_read, rebuild_at, holds_rebuild, stored_rebuild, pending_flag};
 ghost use Rattle.stored.specs.Rebuilt.{pending_in, rebuild_words, StoresRebuild};
@@ -24,8 +24,7 @@ const REBUILD_MOST: [u64; REBUILD_WORDS] = [
     fields::U64,
 ];
 
-fn stage_at(words: &[u64]) -> Stage
-    requires { rebuild_count ≤ length words.now }
+fn stage_at(words: &[u64; REBUILD_WORDS]) -> Stage
     ensures { result ≡ stage_read words.now }
 {
     if fields::flag_at(words, layout::PENDING) {
@@ -36,8 +35,7 @@ fn stage_at(words: &[u64]) -> Stage
 }
 
 // `holds_rebuild` asks all words, and this reads them: with both in one, each field would be an Option to take apart.
-fn rebuild_at(words: &[u64]) -> Rebuild
-    requires { rebuild_count ≤ length words.now }
+fn rebuild_at(words: &[u64; REBUILD_WORDS]) -> Rebuild
     ensures { result ≡ rebuild_at words.now }
 {
     let slot = words[layout::SLOT] as usize;
@@ -49,20 +47,19 @@ fn rebuild_at(words: &[u64]) -> Rebuild
     }
 }
 
-fn holds_rebuild(words: &[u64]) -> bool
+#[tactic(auto, unfolding(crate::specs::Rebuilt::holds_rebuild))]
+fn holds_rebuild(words: &[u64; REBUILD_WORDS]) -> bool
     ensures { result ≡ holds_rebuild words.now }
 {
-    fields::within(&REBUILD_MOST, words) && words[layout::MARK] == REBUILD_MARK
+    words[layout::MARK] == REBUILD_MARK && fields::within(&REBUILD_MOST, words)
 }
 
 // The rebuild that the words hold.
 pub fn load_rebuild(words: &[u64]) -> Option<Rebuild>
     ensures { result ≡ stored_rebuild words.now }
 {
-    if !holds_rebuild(words) {
-        return None;
-    }
-    Some(rebuild_at(words))
+    let words = words.first_chunk()?;
+    holds_rebuild(words).then(|| rebuild_at(words))
 }
 
 fn pending_flag(s: Stage) -> u64

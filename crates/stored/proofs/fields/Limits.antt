@@ -1,11 +1,13 @@
 -- Words held to the most that each may be. Assumes nothing.
-use Prim.Native.Nat.{ℕ, zero, suc, ◌≤◌, ◌<◌}
+use Prim.Native.Nat.{ℕ, zero, suc, ◌+◌, ◌≤◌, ◌<◌}
 use mathlib.Core.Path.{◌≡◌, refl, ap, ◌∙◌}
 use mathlib.Core.Bool.{Bool, true, false, ◌&&◌, false≢true, and-false}
 use mathlib.Core.List.{List, [], ◌∷◌, ◌++◌}
+use borrow.Author.Tests.{leb-true}
+use Rattle.std.proofs.lemmas.List.{get_or-take}
 use native.Mathlib.Omega.{arith}
 use lib.Dec.{leb}
-use lib.ListN.{length, get_or}
+use lib.ListN.{length, get_or, take}
 use Rattle.std.specs.List.{list_all, zip}
 use Rattle.stored.specs.Fields.{within}
 
@@ -25,6 +27,13 @@ within-room (m ∷ ms) (x ∷ w) h = let t : length ms ≤ length w = within-roo
     second : (a b : Bool) → (a && b) ≡ true → b ≡ true
     second true b h = h
     second false b h = absurd (false≢true h)
+
+-- the words in front are asked, and no others
+pub within-front : (ms w : List ℕ) → within ms (take (length ms) w) ≡ within ms w
+unfolding within
+within-front [] w = refl
+within-front (m ∷ ms) [] = refl
+within-front (m ∷ ms) (x ∷ w) = ap (λ b. leb x m && b) (within-front ms w)
 
 -- what lies behind does not matter
 pub within_more : (ms w ws : List ℕ) → within ms w ≡ true → within ms (w ++ ws) ≡ true
@@ -59,3 +68,7 @@ within-at (m ∷ ms) (x ∷ w) h (suc i) l = within-at ms w (both-second (leb x 
     both-second : (a b : Bool) → (a && b) ≡ true → b ≡ true
     both-second true b h = h
     both-second false b h = absurd (false≢true h)
+
+-- A place in front is read as in the whole. That it is in front is an equation, which `simp` proves of a literal.
+pub front_at : {A : Type 0} (k i : ℕ) (l : List A) (d : A) → leb (i + 1) k ≡ true → get_or (take k l) i d ≡ get_or l i d
+front_at k i l d h = let m : i + 1 ≤ k = leb-true (i + 1) k h in get_or-take k l i d (omega (arith, m))

@@ -11,7 +11,7 @@ use Rattle.std.specs.Prelude.{Option, Some, None}
 use Rattle.std.proofs.lemmas.Option.{none-some}
 use Rattle.std.specs.Bool.{then_some}
 use Rattle.std.specs.Int.{cast_signed, cast_unsigned}
-use Rattle.std.specs.Option.{unwrap_or}
+use Rattle.std.specs.Option.{is_some, unwrap_or, IfSome}
 use Rattle.lap.specs.declared.Stage.{Stage}
 use Rattle.lap.specs.declared.Stage.TheVariants as stage
 use Rattle.state.specs.declared.Line.{Line}
@@ -47,6 +47,12 @@ mode-same mode.Arrived = refl
 pub then-held : {A : Type 0} (b : Bool) (x y : A) → then_some b x ≡ Some y → b ≡ true
 then-held true x y e = refl
 then-held false x y e = absurd (none-some y e)
+
+-- a value that is made where a test holds
+pub then-made : {A : Type 0} (o : Option A) (b : Bool) (x : A) {Q : A → Type 0} → is_some o ≡ b → IfSome o Q → ((y : A) → Q y → y ≡ x)
+    → o ≡ then_some b x
+then-made (Some y) b x e h k = ap Some (k y h) ∙ ap (λ t. then_some t x) e
+then-made None b x e h k = ap (λ t. then_some t x) e
 
 pub some-same : {A : Type 0} (o : Option A) (d : A) → then_some (eqb (some_flag o) 1) (unwrap_or o d) ≡ o
 some-same (Some x) d = refl
