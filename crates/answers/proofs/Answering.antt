@@ -1,30 +1,37 @@
 -- An answer by the number of the first question that says no, and the rules by what the program holds. Assumes nothing.
-use Rattle.std.proofs.Common.{ℕ, ◌≡◌, ◌≢◌, ◌==◌, refl, sym, ap, ap₂, ◌∙◌, subst, false, List, [], ◌∷◌, length}
-use Rattle.std.proofs.Common.{Float, Option, Some, None, Result, Ok, Err, Bor}
+use Rattle.std.proofs.Common.{ℕ, ◌≡◌, ◌≢◌, ◌==◌, ◌<◌, ◌≤◌, refl, sym, ap, ◌∙◌, subst, false, List, [], ◌∷◌, length}
+use Rattle.std.proofs.Common.{Bool, not, Float, Option, option_map, Some, None, Result, Err}
+use denote.Enum.Bare.{sameb}
+use Rattle.std.specs.Bool.{then_some}
 use borrow.Author.Tests.{eq-eqb}
-use Rattle.std.proofs.Math.Nat.{suc-ne-zero}
 use lib.Dec.{T}
 use Rattle.refusal.specs.declared.Refusal.{Refusal}
 use Rattle.refusal.specs.declared.Refusal.TheVariants as refusal
-use Rattle.std.specs.Result.{result_and}
-use Rattle.refusal.specs.Refusal.{number, asked}
+use Rattle.refusal.specs.Refusal.{number}
 use Rattle.binary32.specs.Casts.{as_u32}
 use Rattle.plane.specs.declared.Point.{Point}
-use Rattle.plane.specs.Plane.{distance}
+use Rattle.plane.specs.Plane.{distance, turn}
 use Rattle.crumbs.specs.declared.Crumb.{Crumb}
-use Rattle.crumbs.specs.Inner.{Front}
+use Rattle.crumbs.specs.Crumb.{capacity, crumbs, point}
+use Rattle.crumbs.specs.Choice.{first}
 use Rattle.crumbs.proofs.Crumbs.{length-crumbs}
 use Rattle.crumbs.specs.Along.{recorded_m, start_of}
 use Rattle.trail.specs.View.{track}
-use Rattle.state.specs.declared.Back.{Back}
+use Rattle.state.specs.declared.Guide.{Guide}
 use Rattle.state.specs.declared.Homing.{Homing}
-use Rattle.state.specs.State.{state_of}
-use Rattle.calls.specs.Ask.{len, way_back_from}
-use Rattle.calls.specs.Questions.{asks_crumbs, asks_line}
-use Rattle.calls.specs.Calls.{asks_lent, asks}
+use Rattle.state.specs.State.{State, state_of}
+use Rattle.state.specs.contracts.Line.{the_type}
+use Rattle.state.specs.declared.Line.{Line}
+use Rattle.state.specs.declared.Line.TheVariants as line
+use Rattle.state.specs.declared.Follow.{Follow}
+use Rattle.state.specs.declared.Ahead.{Ahead}
+use Rattle.state.specs.Guide.{arrow, arrow_from}
+use Rattle.calls.specs.Ask.{len, following, following_course, course_ahead, route_home, heading, guide, way_back}
+use Rattle.calls.specs.Ask.{ahead_of, course_ahead_on, route_home_on, way_back_from}
+use Rattle.calls.specs.Questions.{asks_crumbs, asks_line, asks_guide}
 use Rattle.calls.specs.Promises.{gives, answer, says}
-use Rattle.questions.proofs.Given.{crumbs-given, line-given}
-use Rattle.answers.specs.Promises.{ReturnsCrumbs, ReturnsCourse}
+use Rattle.questions.proofs.Given.{crumbs-given, line-given, guide-given}
+use Rattle.matching.proofs.Lines.{on-line, on-course}
 
 -- a question's number is no 0
 pub numbered : (q : Refusal) → (number q == 0) ≡ false
@@ -51,58 +58,93 @@ module _ {A : Type 0} {n : ℕ} where
   unfolding answer
   yes passed e = rw (← passed) (ap gives e)
 
-pub told : {A : Type 0} (r : Result (Unit {0}) Refusal) {n : ℕ} {x a : A} → asked r ≡ n → x ≡ a → says (result_and r (Ok x)) ≡ answer n a
-told (Ok y) e same = yes e same
-told (Err q) {a = a} e same = no refl e a
+-- ---- the rules, by what they take
+module _ (s : State) where
+  pub following_is : following s ≡ not (sameb the_type s.follow.line line.Nothing)
+  unfolding following
+  following_is = sym (on-line s.follow.line)
 
--- ---- the crumbs held
-pub len-held : (h : Homing) (b : List Float) → h.trail.len ≡ len (state_of h b)
-unfolding len track
-len-held h b = sym (length-crumbs h.trail.len b)
+  pub following_course_is : following_course s ≡ sameb the_type s.follow.line line.Course
+  unfolding following_course
+  following_course_is = sym (on-course s.follow.line)
 
--- ---- the way back
-pub back-empty : (p : Point) (l : List Crumb) → length l ≡ 0 → None ≡ way_back_from (Some p) l
-unfolding way_back_from
-back-empty p [] e = refl
-back-empty p (a ∷ l) e = absurd (suc-ne-zero _ e)
+  pub course_ahead_is : course_ahead s ≡ course_ahead_on s.follow.line s.follow
+  unfolding course_ahead
+  course_ahead_is = refl
 
-abbrev metres : ℕ → ℕ → Option Back
-metres direct track = Some (record { direct = direct; track = track })
+  pub route_home_is : route_home s ≡ route_home_on s.follow.line s.follow
+  unfolding route_home
+  route_home_is = refl
 
-held : (p : Point) (l : List Crumb) → length l ≢ 0
-    → metres (as_u32 (distance p (start_of l p))) (as_u32 (recorded_m l p)) ≡ way_back_from (Some p) l
-unfolding way_back_from
-held p [] ne = absurd (ne refl)
-held p (a ∷ l) ne = refl
+  pub heading_is : heading s ≡ s.motion.heading
+  unfolding heading
+  heading_is = refl
 
-pub back-held : (p : Point) (l : List Crumb) → length l ≢ 0 → (direct track : ℕ)
-    → direct ≡ as_u32 (distance p (start_of l p)) → track ≡ as_u32 (recorded_m l p)
-    → Some (record { direct = direct; track = track }) ≡ way_back_from (Some p) l
-back-held p l ne direct track d t = ap₂ metres d t ∙ held p l ne
+  pub guide_is : guide s ≡ s.guide
+  unfolding guide
+  guide_is = refl
 
--- ---- a part that is returned
 module _ (h : Homing) (b : List Float) where
-  pub crumbs-refused : {r : Result (Bor (List Float)) Refusal} {q : Refusal} → r ≡ Err q → number q ≡ asks_crumbs (length b) (state_of h b)
-      → ReturnsCrumbs h b r
-  unfolding asks asks_lent
-  crumbs-refused e told = rw e (record { answered = told; numbers = tt; held = tt })
+  pub len_is : len (state_of h b) ≡ h.trail.len
+  unfolding len track
+  len_is = length-crumbs h.trail.len b
 
-  pub crumbs-returned : {part : Bor (List Float)} → 0 ≡ asks_crumbs (length b) (state_of h b) → Front h.trail.len b part.now
-      → ReturnsCrumbs h b (Ok part)
-  unfolding asks asks_lent
-  crumbs-returned passed front =
-      let fits = (crumbs-given (length b) h b (sym passed)).trail.held in
-      record { answered = passed; numbers = front.numbers fits; held = front.held fits }
+  pub way_back_is : way_back (state_of h b) ≡ way_back_from h.here (crumbs h.trail.len b)
+  unfolding way_back track
+  way_back_is = refl
 
-module _ (h : Homing) (line : List Float) where
-  pub course-refused : {r : Result (Bor (List Float)) Refusal} {q : Refusal} → r ≡ Err q
-      → ((b : List Float) → number q ≡ asks_line line 0 (state_of h b)) → ReturnsCourse h line r
-  unfolding asks asks_lent
-  course-refused e told = rw e (record { answered = told; numbers = tt; held = tt })
+pub arrow_is : (g : Guide) → arrow g ≡ arrow_from g.heading g.bearing
+unfolding arrow
+arrow_is g = refl
 
-  pub course-returned : {part : Bor (List Float)} → ((b : List Float) → 0 ≡ asks_line line 0 (state_of h b))
-      → Front h.course.line_len line part.now → ReturnsCourse h line (Ok part)
-  unfolding asks asks_lent
-  course-returned passed front =
-      let fits = (line-given line 0 h [] (sym (passed []))).1.placed in
-      record { answered = passed; numbers = front.numbers fits; held = front.held fits }
+-- ---- the way on, by the line that is followed
+module _ (f : Follow) where
+  abbrev told : Bool → Option Ahead
+  told on = then_some on (record { end = f.segment; point = f.matched })
+
+  pub course_on : (l : Line) → told (sameb the_type l line.Course) ≡ course_ahead_on l f
+  unfolding course_ahead_on ahead_of
+  course_on line.Nothing = refl
+  course_on line.Breadcrumb = refl
+  course_on line.Course = refl
+
+  pub home_on : (l : Line) → told (sameb the_type l line.Breadcrumb) ≡ route_home_on l f
+  unfolding route_home_on ahead_of
+  home_on line.Nothing = refl
+  home_on line.Breadcrumb = refl
+  home_on line.Course = refl
+
+-- ---- the way back, from the first crumb
+pub back_from : (p : Point) (l : List Crumb) → way_back_from (Some p) l
+    ≡ option_map (λ a. record { direct = as_u32 (distance p (point a)); track = as_u32 (recorded_m l p) }) (first l)
+unfolding way_back_from start_of
+back_from p [] = refl
+back_from p (a ∷ l) = refl
+
+pub back_from_none : (l : List Crumb) → way_back_from None l ≡ None
+unfolding way_back_from
+back_from_none l = refl
+
+-- ---- what is held, by the question's answer
+module _ (h : Homing) (b : List Float) where
+  pub crumbs_held : 0 ≡ asks_crumbs (length b) (state_of h b) → h.trail.len ≤ capacity (length b)
+  crumbs_held passed = (crumbs-given (length b) h b (sym passed)).trail.held
+
+  pub course_held : ((x : List Float) → 0 ≡ asks_line b 0 (state_of h x)) → h.course.line_len ≤ capacity (length b)
+  course_held passed = (line-given b 0 h [] (sym (passed []))).1.placed
+
+module _ (g : Guide) where
+  pub bearing_below : 0 ≡ asks_guide g → g.bearing < turn
+  bearing_below passed = (guide-given g (sym passed)).bearing
+
+  pub heading_below : {d : ℕ} → g.heading ≡ Some d → 0 ≡ asks_guide g → d < turn
+  heading_below {d} told passed = (guide-given g (sym passed)).heading d told
+
+-- for every proof of the crate
+pub ruleset by_line = (following_is, following_course_is, course_ahead_is, route_home_is, course_on, home_on)
+
+pub ruleset by_crumbs = (len_is, way_back_is, back_from, back_from_none, crumbs_held, course_held)
+
+pub ruleset by_guide = (heading_is, guide_is, arrow_is, bearing_below, heading_below)
+
+pub ruleset answered = (no, yes, by_line, by_crumbs, by_guide)

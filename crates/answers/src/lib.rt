@@ -1,5 +1,5 @@
 // The guide's calls that only answer. Each puts its questions first, and is refused where one says no.
-#![tactic(auto)]
+#![tactic(auto, using(crate::proofs::Answering::answered), unfolding(calls::specs::Calls::asks, calls::specs::Calls::asks_lent))]
 
 ghost use Rattle.std.specs.Prelude.{◌≡◌};
 ghost use Rattle.state.specs.declared.Line.TheVariants as followed;
@@ -19,20 +19,23 @@ use state::{Ahead, Back, Follow, Guide, Homing, Line};
 pub fn len(h: &Homing) -> Result<usize, Refusal>
     ensures { AnswersLen h.now result }
 {
-    questions::asks_state(h).and(Ok(h.trail.len))
+    questions::asks_state(h)?;
+    Ok(h.trail.len)
 }
 
 // Whether the breadcrumb is followed back, or the course.
 pub fn following(h: &Homing) -> Result<bool, Refusal>
     ensures { AnswersFollowing h.now result }
 {
-    questions::asks_state(h).and(Ok(h.follow.line != Line::Nothing))
+    questions::asks_state(h)?;
+    Ok(h.follow.line != Line::Nothing)
 }
 
 pub fn following_course(h: &Homing) -> Result<bool, Refusal>
     ensures { AnswersFollowingCourse h.now result }
 {
-    questions::asks_state(h).and(Ok(h.follow.line == Line::Course))
+    questions::asks_state(h)?;
+    Ok(h.follow.line == Line::Course)
 }
 
 // While that line is followed: the way on.
@@ -50,28 +53,32 @@ fn ahead_on(line: Line, f: Follow) -> Option<Ahead>
 pub fn course_ahead(h: &Homing) -> Result<Option<Ahead>, Refusal>
     ensures { AnswersCourseAhead h.now result }
 {
-    questions::asks_state(h).and(Ok(ahead_on(Line::Course, h.follow)))
+    questions::asks_state(h)?;
+    Ok(ahead_on(Line::Course, h.follow))
 }
 
 // While the breadcrumb is followed: the way home.
 pub fn route_home(h: &Homing) -> Result<Option<Ahead>, Refusal>
     ensures { AnswersRouteHome h.now result }
 {
-    questions::asks_state(h).and(Ok(ahead_on(Line::Breadcrumb, h.follow)))
+    questions::asks_state(h)?;
+    Ok(ahead_on(Line::Breadcrumb, h.follow))
 }
 
 // The way the rider is riding, while moving.
 pub fn heading(h: &Homing) -> Result<Option<u16>, Refusal>
     ensures { AnswersHeading h.now result }
 {
-    questions::asks_state(h).and(Ok(h.motion.heading))
+    questions::asks_state(h)?;
+    Ok(h.motion.heading)
 }
 
 // The guide, while the fix is fresh.
 pub fn guide(h: &Homing) -> Result<Option<Guide>, Refusal>
     ensures { AnswersGuide h.now result }
 {
-    questions::asks_state(h).and(Ok(h.guide))
+    questions::asks_state(h)?;
+    Ok(h.guide)
 }
 
 // ---- of the state and a lent buffer
@@ -81,11 +88,8 @@ fn way_back_from(here: Option<Point>, held: &Crumbs<'_>) -> Option<Back>
     ensures { result ≡ way_back_from here held.now }
 {
     let p = here?;
-    let len = held.len();
-    if len == 0 {
-        return None;
-    }
-    let direct = plane::distance(p, held.start(p));
+    let first = held.first()?;
+    let direct = plane::distance(p, Point::from(first));
     let track = held.recorded_m(p);
     Some(Back {
         direct: binary32::as_u32(direct),

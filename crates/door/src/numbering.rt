@@ -9,7 +9,7 @@ use questions::counts;
 use refusal::Refusal;
 
 // Question 10: slices that hold no state.
-pub const NO_STATE: u8 = 10;
+pub const NO_STATE: u8 = Refusal::State as u8;
 
 // The number where a crumb buffer of `size` numbers is lent: question 1 comes first.
 pub fn no_state_with(size: usize) -> u8

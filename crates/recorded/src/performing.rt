@@ -15,6 +15,7 @@ pub struct State {
     pub rebuild: [u64; REBUILD_WORDS],
 }
 
+// Two lists, and not one of points: the call lends two slices.
 #[derive(Drop)]
 struct Points {
     lats: Vec<i32>,

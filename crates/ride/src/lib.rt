@@ -11,6 +11,8 @@ use plane::Fix;
 use refusal::Refusal;
 use state::Homing;
 
+// `records::calls` lists the calls too, as a file has them: by numbers, with their lists beside them. Here a call lends its lists.
+
 // A call that only answers.
 #[derive(Clone, Copy)]
 pub enum Query<'a> {
