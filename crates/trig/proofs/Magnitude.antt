@@ -1,17 +1,96 @@
--- The cosine's size stays small. Assumes nothing.
-use Prim.Native.Nat.{ℕ}
-use mathlib.Core.Bool.{Bool, true, false, not}
-use lib.IntN.{negsuc}
-use lib.Dec.{T}
-use lib.Ieee.{Float, nan, inf, fin, binary32, add, mul, neg}
-use lib.Ieee.{le}
+-- Sizes: the larger of x and 0 - x is the size of x, and the cosine's size stays small. Assumes nothing.
+use mathlib.Core.Path.{◌≡◌, refl, sym, ap, ◌∙◌, subst}
+use Prim.Native.Nat.{ℕ, zero, suc, ◌+◌, ◌-◌, ◌*◌, ◌/◌, ◌^◌, ◌<◌}
+use native.Mathlib.Omega.{arith}
+use native.Mathlib.Nat.{mul-one, one-mul, zero-mul, zero-add, sub-zero, mul-pos, mul_right_comm, zero-lt-suc}
+use mathlib.Core.Bool.{Bool, true, false, not, cond}
+use lib.IntN.{ℤ, pos, negsuc}
+use lib.Dec.{T, ltb, lt→ltb}
+use lib.Pow.{pow_pos}
+use lib.Ieee as ieee
+use lib.Ieee.{Float, nan, inf, fin, Format, binary32, prec, low, hid, top, up, down, round, fits, to_bits, of_bits, sum, add, sub, mul, neg}
+use lib.Ieee.{lt, le}
+use lib.Ieee.Fits.{up_pos, down_pos, round-fits}
+use lib.Ieee.Bits.{is_true, of_bits-to_bits}
+use lib.Ieee.Exact.{HasValue}
+use lib.Ieee.Nearest.{div_same}
+use lib.Ieee.Scale.{grid, round_under}
 use Rattle.binary32.specs.Arithmetic.{◌⊕◌, ◌⊖◌, ◌⊗◌, constant}
-use Rattle.binary32.specs.Limits.{one}
+use Rattle.binary32.specs.Limits.{size_of, one, plus_zero}
 use Rattle.binary32.proofs.magnitude.Size.{Within}
-use Rattle.binary32.proofs.magnitude.Laws.{within-refl, widen, add-within, sub_within, mul-within}
+use Rattle.binary32.proofs.magnitude.Laws.{passed, within-refl, widen, add-within, sub_within, mul-within}
 use Rattle.binary32.proofs.magnitude.More.{sub-between}
+use Rattle.binary32.proofs.magnitude.Round.{held, units-held, round-value}
 use Rattle.binary32.proofs.magnitude.Tests.{size→within, past→within}
-use Rattle.trig.specs.Fix.{half_pi, quarter_pi, half, cos8, cos6, cos4, sin7, sin5, sin3, near_cos, far_cos, cos}
+use Rattle.trig.specs.Fix.{half_pi, quarter_pi, half, cos8, cos6, cos4, sin7, sin5, sin3, near_cos, far_cos, cos, larger}
+
+-- ---- a value that a format holds is its own rounding
+-- the bit pattern of a value of n units, with the sign s
+abbrev pattern : Format → Bool → ℕ → ℕ
+pattern f s n = let k = ieee.size n - prec f in cond s (top f) 0 + k * hid f + n / 2 ^ k
+
+bits : (f : Format) (x : Float) (s : Bool) (a c : ℕ) → 0 < c → HasValue x s a c → to_bits f x ≡ pattern f s (a * 2 ^ low f / c)
+unfolding to_bits
+bits f nan s a c p v = absurd v
+bits f (inf t) s a c p v = absurd v
+bits f (fin t m e) s a c p v =
+    ap (λ (z : Bool). pattern f z (m * up e * 2 ^ low f / down e)) v.0
+    ∙ ap (λ (n : ℕ). pattern f s n)
+    (div_same (m * up e * 2 ^ low f) (down e) (a * 2 ^ low f) c (down_pos e) p
+    (mul_right_comm (m * up e) (2 ^ low f) c ∙ ap (λ (n : ℕ). n * 2 ^ low f) v.1 ∙ mul_right_comm a (down e) (2 ^ low f)))
+
+-- a number is written in one way
+same : (f : Format) (x y : Float) (s : Bool) (a c : ℕ) → 0 < c → T (fits f x) → T (fits f y) → HasValue x s a c → HasValue y s a c → x ≡ y
+same f x y s a c p t u v w =
+    sym (of_bits-to_bits f x t) ∙ ap (λ (n : ℕ). of_bits f n) (bits f x s a c p v ∙ sym (bits f y s a c p w)) ∙ of_bits-to_bits f y u
+
+rounded : (f : Format) (s : Bool) (m : ℕ) (e : ℤ) → T (fits f (fin s m e)) → round f s (m * up e) (down e) ≡ fin s m e
+rounded f s m e t =
+    let a = m * up e in
+    let c = down e in
+    let u = units-held f s m e (held f s m e t) in
+    same f (round f s a c) (fin s m e) s (grid f a c) (2 ^ low f) (pow_pos (low f)) (round-fits f s a c) t
+    (round-value f s a c (round_under f a c u.1)) u.0
+
+-- ---- 0 - x
+sum-from-zero : (f : Format) (t : Bool) (b c : ℕ) → 0 < b → sum f false 0 t b c ≡ round f t b c
+unfolding sum
+sum-from-zero f false b c p = ap (λ (n : ℕ). round f false n c) (zero-add b)
+sum-from-zero f true b c p = rw (is_true (ltb 0 b) (lt→ltb 0 b p), sub-zero)
+
+opposite : (s : Bool) (m : ℕ) (e : ℤ) → T (fits binary32 (fin (not s) (suc m) e)) → plus_zero ⊖ fin s (suc m) e ≡ fin (not s) (suc m) e
+unfolding sub add neg
+opposite s m e t = simp (zero-mul, mul-one, one-mul)
+    (sum-from-zero binary32 (not s) (suc m * up e) (down e) (mul-pos (zero-lt-suc m) (up_pos e)) ∙ rounded binary32 (not s) (suc m) e t)
+
+-- a zero has the exponent 0
+zero_exponent : (s : Bool) (e : ℤ) → T (fits binary32 (fin s zero e)) → fin s zero e ≡ fin s zero (pos 0)
+unfolding fits
+zero_exponent s e t = same binary32 (fin s zero e) (fin s zero (pos 0)) s 0 1 (zero-lt-suc 0) t tt (refl, simp zero-mul) (refl, refl)
+
+at_zero : (s : Bool) → larger (fin s zero (pos 0)) (plus_zero ⊖ fin s zero (pos 0)) ≡ size_of (fin s zero (pos 0))
+unfolding larger sub lt
+at_zero true = refl
+at_zero false = refl
+
+doubled : (a : ℕ) → 0 < a → 0 < a + a
+doubled a h = omega arith
+
+larger-by-cases : (x : Float) → T (fits binary32 x) → larger x (plus_zero ⊖ x) ≡ size_of x
+unfolding larger sub add neg lt fits
+larger-by-cases nan t = refl
+larger-by-cases (inf true) t = refl
+larger-by-cases (inf false) t = refl
+larger-by-cases (fin s zero e) t = subst (λ (x : Float). larger x (plus_zero ⊖ x) ≡ size_of x) (sym (zero_exponent s e t)) (at_zero s)
+larger-by-cases (fin true (suc m) e) t = ap (λ (y : Float). larger (fin true (suc m) e) y) (opposite true m e t)
+larger-by-cases (fin false (suc m) e) t =
+    let a = suc m * up e * down e in
+    ap (λ (y : Float). larger (fin false (suc m) e) y) (opposite false m e t)
+    ∙ rw (is_true (ltb 0 (a + a)) (lt→ltb 0 (a + a) (doubled a (mul-pos (mul-pos (zero-lt-suc m) (up_pos e)) (down_pos e)))), larger)
+
+-- the size of x is the larger of x and 0 - x
+pub larger-is : (x : Float) → fits binary32 x ≡ true → larger x (plus_zero ⊖ x) ≡ size_of x
+larger-is x t = larger-by-cases x (passed t)
 
 -- ---- the cosine
 -- a / 2 ^ (k + 1)

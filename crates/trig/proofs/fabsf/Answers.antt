@@ -1,15 +1,21 @@
--- `trig::fabsf` meets its contract: the library's word for it is a definition of its own.
-use Rattle.std.proofs.Common.{◌≡◌, false, refl, ◌∙◌}
-use lib.Ieee.{Float, nan, inf, fin}
-use Rattle.std.specs.Float.{float_with_sign}
-use Rattle.binary32.specs.Limits.{size_of}
+-- `trig::fabsf` meets its contract: the larger of x and 0 - x is the size of x.
+use mathlib.Core.Path.{sym, ap, ◌∙◌}
+use mathlib.Core.Bool.{Bool, true, false}
+use lib.Ieee.{of_bits}
+use Rattle.binary32.specs.Arithmetic.{◌⊖◌}
+use Rattle.binary32.specs.Limits.{plus_zero}
+use Rattle.trig.specs.Fix.{larger}
+use Rattle.trig.proofs.Magnitude.{larger-is}
 use Rattle.trig.proofs.fabsf.Goals as goal
 
-unsigned : (x : Float) → float_with_sign false x ≡ size_of x
-unfolding float_with_sign
-unsigned nan = refl
-unsigned (inf s) = refl
-unsigned (fin s m e) = refl
+pub returns-then-x-minus : goal.returns-then-x-minus
+unfolding of_bits larger
+returns-then-x-minus c =
+    let x = c.args.x in
+    sym (ap (λ (b : Bool). elim b [ true ↦ x | false ↦ plus_zero ⊖ x ]) c.if-x-minus.true) ∙ larger-is x c.well_formed.0.1
 
-pub returns : goal.returns
-returns c = c.abs.ensures.value ∙ unsigned c.args.x
+pub returns-else-x-minus : goal.returns-else-x-minus
+unfolding of_bits larger
+returns-else-x-minus c =
+    let x = c.args.x in
+    sym (ap (λ (b : Bool). elim b [ true ↦ x | false ↦ plus_zero ⊖ x ]) c.if-x-minus.false) ∙ larger-is x c.well_formed.0.1
