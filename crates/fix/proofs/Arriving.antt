@@ -38,10 +38,10 @@ module _ (now : ℕ) (h r : Homing) where
   tested t e b = ap (λ (x : Bool). cond x (cleared (state_of h b)) (state_of h b)) e
 
   pub misses : lost_now ≡ true → Changes cleared h r → Changes (λ s. (missing now s).state) h r
-  misses e c = record { same = λ b. c.same b ∙ sym (tested true e b); trail = c.trail }
+  misses e c = record { same = λ b. c.same b ∙ sym (tested true e b); trail = c.trail; window = c.window }
 
   pub waits : lost_now ≡ false → Changes (λ s. (missing now s).state) h h
-  waits e = record { same = λ b. sym (tested false e b); trail = refl }
+  waits e = record { same = λ b. sym (tested false e b); trail = refl; window = refl }
 
 -- ---- a fix from before a restart
 module _ (x : Fix) (now : ℕ) {h on grown r : Homing} {f : Frame} (p : Point) {entry exit : List Float} where
@@ -68,12 +68,14 @@ module _ (x : Fix) (now : ℕ) {h on grown r : Homing} {f : Frame} (p : Point) {
 
 pub on-it : (now : ℕ) {h on : Homing} {f : Frame} (p : Point) {m : Motion} → m ≡ track_heading h.motion p now
     → ((b : List Float) → state_of on b ≡ with_motion m (with_frame f (state_of h b))) → on.trail ≡ h.trail
-    → Changes (λ s. headed p now (with_frame f s)) h on
+    → on.window ≡ h.window → Changes (λ s. headed p now (with_frame f s)) h on
 unfolding headed
-on-it now {h} {f = f} p e is kept =
-    record { same = λ b. is b ∙ ap (λ (n : Motion). with_motion n (with_frame f (state_of h b))) e; trail = kept }
+on-it now {h} {f = f} p e is kept stays =
+    record { same = λ b. is b ∙ ap (λ (n : Motion). with_motion n (with_frame f (state_of h b))) e; trail = kept; window = stays }
 
 pub passes : (p : Point) {grown r : Homing} {l : Lap} → l ≡ passing p grown.motion.heading grown.lap
-    → ((b : List Float) → state_of r b ≡ with_lap l (state_of grown b)) → r.trail ≡ grown.trail → Changes (pass_only p) grown r
+    → ((b : List Float) → state_of r b ≡ with_lap l (state_of grown b)) → r.trail ≡ grown.trail → r.window ≡ grown.window
+    → Changes (pass_only p) grown r
 unfolding pass_only passing
-passes p {grown} e is kept = record { same = λ b. is b ∙ ap (λ (n : Lap). with_lap n (state_of grown b)) e; trail = kept }
+passes p {grown} e is kept stays =
+    record { same = λ b. is b ∙ ap (λ (n : Lap). with_lap n (state_of grown b)) e; trail = kept; window = stays }

@@ -23,3 +23,4 @@ pub record TurnsBack (h r : Homing) : Type 0 where
   pub same : (b : List Float) → state_of r b ≡ turned_back (state_of h b)
   pub fit : (size : ℕ) → trail.TrailFit h.trail size → trail.TrailFit r.trail size
   pub fewer : r.trail.len ≤ h.trail.len
+  pub window : r.window ≡ h.window

@@ -41,6 +41,7 @@ module _ (course : List Crumb) (now : ℕ) (h : Homing) (b : List Float) where
         answered = sym (ap (λ (d : Done Bool). d.answer) (chosen true e));
         same = c.same b ∙ sym (ap (λ (d : Done Bool). d.state) (chosen true e));
         held = same-held h.trail r.trail c.trail;
+        window = c.window;
       }
 
   pub refused : leads (crumbs h.trail.len b) ≡ false → Asks (engage course now) h b h false
@@ -49,4 +50,5 @@ module _ (course : List Crumb) (now : ℕ) (h : Homing) (b : List Float) where
         answered = sym (ap (λ (d : Done Bool). d.answer) (chosen false e));
         same = sym (ap (λ (d : Done Bool). d.state) (chosen false e));
         held = same-held h.trail h.trail refl;
+        window = refl;
       }

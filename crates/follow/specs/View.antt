@@ -19,10 +19,11 @@ pub record HomingFit (h : Homing) (room n : ℕ) : Type 0 where
   pub on_trail : h.follow.line ≡ line.Breadcrumb → (1 ≤ h.follow.segment) × (h.follow.segment < h.trail.len)
   pub on_course : h.follow.line ≡ line.Course → (1 ≤ h.follow.segment) × (h.follow.segment < n)
 
--- A change that leaves the trail, and so the crumbs, alone: it is the rule's whatever the buffer holds.
+-- A change that leaves the trail, and so the crumbs, alone, and the window's numbers: it is the rule's whatever the buffer holds.
 pub record Changes (rule : State → State) (h r : Homing) : Type 0 where
   pub same : (b : List Float) → state_of r b ≡ rule (state_of h b)
   pub trail : r.trail ≡ h.trail
+  pub window : r.window ≡ h.window
 
 -- A rule is followed, from a state and its crumb buffer to a state and its crumb buffer.
 pub record Follows {A : Type 0} (rule : ℕ → State → Done A) (h : Homing) (entry : List Float) (r : Homing) (exit : List Float) :
@@ -40,8 +41,9 @@ pub record SameHeld (t r : Trail) : Type 0 where
   pub tolerance : r.tolerance ≡ t.tolerance
   pub waiting : r.window_len ≡ t.window_len
 
--- A rule that answers yes or no and keeps no crumb, on a crumb buffer b.
+-- A rule that answers yes or no, keeps no crumb and leaves the window's numbers alone, on a crumb buffer b.
 pub record Asks (rule : State → Done Bool) (h : Homing) (b : List Float) (r : Homing) (yes : Bool) : Type 0 where
   pub answered : yes ≡ (rule (state_of h b)).answer
   pub same : state_of r b ≡ (rule (state_of h b)).state
   pub held : SameHeld h.trail r.trail
+  pub window : r.window ≡ h.window

@@ -21,7 +21,8 @@ use state::{Follow, Homing, Line};
 // Three bodies: each hands the trail other things, and a closure for that one line would be no shorter.
 pub fn keep(h: &mut Homing, crumbs: &mut [f32], p: Point)
     requires { trail.TrailFit h.old.trail (length crumbs.old) }
-    ensures { Follows (λ C. keep_in C p) h.old crumbs.old h.new crumbs.new }
+    ensures follows { Follows (λ C. keep_in C p) h.old crumbs.old h.new crumbs.new }
+    ensures window { h.new.window ≡ h.old.window }
 {
     let thinned = h.trail.keep(crumbs, p);
     h.follow = follow_parts::after_thinning(thinned, h.follow);
@@ -37,7 +38,8 @@ pub fn add(h: &mut Homing, crumbs: &mut [f32], p: Point)
 
 pub fn flush(h: &mut Homing, crumbs: &mut [f32])
     requires { trail.TrailFit h.old.trail (length crumbs.old) }
-    ensures { Follows flush_in h.old crumbs.old h.new crumbs.new }
+    ensures follows { Follows flush_in h.old crumbs.old h.new crumbs.new }
+    ensures window { h.new.window ≡ h.old.window }
 {
     let thinned = h.trail.flush(&h.window, crumbs);
     h.follow = follow_parts::after_thinning(thinned, h.follow);
@@ -91,7 +93,8 @@ fn stop_nothing(h: &mut Homing)
 // The breadcrumb ends where the rider left it.
 fn leave_at(h: &mut Homing, crumbs: &mut [f32], matched: Option<Point>, segment: usize)
     requires { (trail.TrailFit h.old.trail (length crumbs.old)) × (segment ≤ h.old.trail.len) }
-    ensures { Follows (λ C. leave_at C matched segment) h.old crumbs.old h.new crumbs.new }
+    ensures follows { Follows (λ C. leave_at C matched segment) h.old crumbs.old h.new crumbs.new }
+    ensures window { h.new.window ≡ h.old.window }
 {
     if let Some(p) = matched {
         h.trail.len = segment;
@@ -101,7 +104,8 @@ fn leave_at(h: &mut Homing, crumbs: &mut [f32], matched: Option<Point>, segment:
 
 fn stop_breadcrumb(h: &mut Homing, crumbs: &mut [f32])
     requires { (trail.TrailFit h.old.trail (length crumbs.old)) × (h.old.follow.segment ≤ h.old.trail.len) }
-    ensures { Follows stop_breadcrumb h.old crumbs.old h.new crumbs.new }
+    ensures follows { Follows stop_breadcrumb h.old crumbs.old h.new crumbs.new }
+    ensures window { h.new.window ≡ h.old.window }
 {
     let f = h.follow;
     h.follow = follow_parts::stopped(f, None);
@@ -115,7 +119,8 @@ fn stop_breadcrumb(h: &mut Homing, crumbs: &mut [f32])
 pub fn stop_following(h: &mut Homing, crumbs: &mut [f32])
     requires { (trail.TrailFit h.old.trail (length crumbs.old))
         × (h.old.follow.line ≡ line.Breadcrumb → h.old.follow.segment ≤ h.old.trail.len) }
-    ensures { Follows stop h.old crumbs.old h.new crumbs.new }
+    ensures follows { Follows stop h.old crumbs.old h.new crumbs.new }
+    ensures window { h.new.window ≡ h.old.window }
 {
     match h.follow.line {
         Line::Nothing => stop_nothing(h),

@@ -3,20 +3,27 @@ use mathlib.Core.Path.{◌≡◌, refl, sym, ap, ◌∙◌}
 use mathlib.Core.Bool.{Bool, true, false, ◌&&◌, not}
 use mathlib.Core.List.{List}
 use lib.Ieee.{Float, lt}
+use Rattle.crumbs.specs.declared.Crumb.{Crumb}
 use Rattle.state.specs.declared.Event.{Event}
 use Rattle.state.specs.declared.Event.TheVariants as event
 use Rattle.state.specs.declared.Homing.{Homing}
 use Rattle.state.specs.State.{State, state_of, with_follow, with_arrived}
 use Rattle.state.specs.Rule.{Done, done}
 use Rattle.guide.specs.Guide.{arrive_m, leave_m, off_cleared, arrival_from}
-use Rattle.guide.specs.View.{Tells}
+use Rattle.guide.specs.View.{holding, TellsOf}
 use Rattle.matching.proofs.Choosing.{picked, passed-by}
 
 -- what a rule does, put in its place
-pub tells : (rule : State → Done Event) (h : Homing) (b : List Float) (r : Homing) (e : Event) → rule (state_of h b) ≡ done e (state_of r b)
-    → r.trail ≡ h.trail → Tells rule h b r e
-tells rule h b r e is trail =
-    record { told = sym (ap (λ (x : Done Event). x.answer) is); same = sym (ap (λ (x : Done Event). x.state) is); trail = trail }
+pub tells : (rule : State → Done Event) (l : List Crumb) (h : Homing) (b : List Float) (r : Homing) (e : Event)
+    → rule (holding l (state_of h b)) ≡ done e (holding l (state_of r b)) → r.trail ≡ h.trail → r.window ≡ h.window
+    → TellsOf rule l h b r e
+tells rule l h b r e is trail window =
+    record {
+      told = sym (ap (λ (x : Done Event). x.answer) is);
+      same = sym (ap (λ (x : Done Event). x.state) is);
+      trail = trail;
+      window = window;
+    }
 
 -- the rule of a state in which the rider has arrived, or not
 module _ (long : Bool) (direct : Float) (e : Event) (s : State) where

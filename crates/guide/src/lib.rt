@@ -4,9 +4,10 @@
 mod goal;
 
 ghost use Rattle.std.specs.Prelude.{◌≡◌, List, Float};
+ghost use Rattle.crumbs.specs.declared.Crumb.{Crumb};
 ghost use Rattle.state.specs.State.{state_of};
 ghost use Rattle.guide.specs.Guide.{arrival_from, guide_at, finished, direct};
-ghost use Rattle.guide.specs.View.{Tells};
+ghost use Rattle.guide.specs.View.{TellsOf};
 
 use crumbs::held::Crumbs;
 use matching::followed::Way;
@@ -20,7 +21,7 @@ const LEAVE_M: f32 = 80.0;
 
 // Arrived or left, or as it was.
 fn arrival_from(h: &mut Homing, long: bool, direct: f32, e: Event) -> Event
-    ensures { (b : List Float) → Tells (arrival_from h.old.arrived long direct e) h.old b h.new result }
+    ensures { (l : List Crumb) (b : List Float) → TellsOf (arrival_from h.old.arrived long direct e) l h.old b h.new result }
 {
     if h.arrived {
         h.arrived = !(direct > LEAVE_M);
@@ -60,8 +61,7 @@ pub fn finished(
     w: Way,
     e: Event,
 ) -> Event
-    ensures { (b : List Float) → crumbs.now ≡ (state_of h.old b).track.crumbs
-        → Tells (finished course.now p w e) h.old b h.new result }
+    ensures { (b : List Float) → TellsOf (finished course.now p w e) crumbs.now h.old b h.new result }
 {
     let on = h.follow.line;
     let goal = goal::goal_on(on, course, crumbs.start(p));
@@ -74,8 +74,7 @@ pub fn finished(
 
 // Nothing to follow: straight to the start.
 pub fn direct(h: &mut Homing, crumbs: &Crumbs, course: &Crumbs, p: Point) -> Event
-    ensures { (b : List Float) → crumbs.now ≡ (state_of h.old b).track.crumbs
-        → Tells (direct course.now p) h.old b h.new result }
+    ensures { (b : List Float) → TellsOf (direct course.now p) crumbs.now h.old b h.new result }
 {
     let w = Way {
         mode: Mode::Direct,

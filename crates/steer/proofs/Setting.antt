@@ -30,13 +30,14 @@ off-on line.Course s = refl
 
 pub off-by : {b : Bool} (h r : Homing) → b ≡ sameb the_type h.follow.line line.Course
     → ((x : List Float) → state_of r x ≡ cond b (stop_course (state_of h x)) (state_of h x))
-    → r.trail ≡ h.trail → Changes (off_course h.follow.line) h r
-off-by h r is same kept =
+    → r.trail ≡ h.trail → r.window ≡ h.window → Changes (off_course h.follow.line) h r
+off-by h r is same kept stays =
     record {
       same = λ x.
           let s = state_of h x in
           same x ∙ ap (λ (b : Bool). cond b (stop_course s) s) is ∙ sym (off-on h.follow.line s);
       trail = kept;
+      window = stays;
     }
 
 -- the course of a state replaced by one that was placed or waits

@@ -14,7 +14,8 @@ use state::Homing;
 // The guide brought up to date where there is a place to show. The answer is yes.
 pub fn brought(h: &mut Homing, crumbs: &mut [f32], course: &Crumbs, now_ms: u64) -> bool
     requires { HomingFit h.old (length crumbs.old) (length course.now) }
-    ensures { Decides (λ C. brought C course.now now_ms) h.old crumbs.old h.new result crumbs.new }
+    ensures decides { Decides (λ C. brought C course.now now_ms) h.old crumbs.old h.new result crumbs.new }
+    ensures window { h.new.window ≡ h.old.window }
 {
     if let Some(p) = h.here {
         update::update(h, crumbs, course, p, now_ms);
@@ -25,7 +26,8 @@ pub fn brought(h: &mut Homing, crumbs: &mut [f32], course: &Crumbs, now_ms: u64)
 // Follow the breadcrumb back: it ends where the rider turns round. A following that began is shown; where none did the answer is no.
 pub fn way_home(h: &mut Homing, crumbs: &mut [f32], course: &Crumbs, now_ms: u64) -> bool
     requires { HomingFit h.old (length crumbs.old) (length course.now) }
-    ensures { Decides (λ C. way_home C course.now now_ms) h.old crumbs.old h.new result crumbs.new }
+    ensures decides { Decides (λ C. way_home C course.now now_ms) h.old crumbs.old h.new result crumbs.new }
+    ensures window { h.new.window ≡ h.old.window }
 {
     follow::flush(h, crumbs);
     follow::engage(h, crumbs, course, now_ms) && brought(h, crumbs, course, now_ms)

@@ -35,10 +35,10 @@ module _ (course : List Crumb) (p : Point) (now : ℕ) (near : Nearest) (h : Hom
   pub matches : {l : List Crumb} {off : Bool} {e : Event} {w : Way} {m : Follow} {c : Course} {g r : Homing} {told : Event}
       → l ≡ followed course (state_of h b) → off ≡ off_now was.off near.off → e ≡ off_event was.off off (due was now)
       → w ≡ way_on off l near → m ≡ follow_matched near off e now was → c ≡ course_matched near p h.course
-      → state_of g b ≡ matched m c → g.trail ≡ h.trail
+      → state_of g b ≡ matched m c → g.trail ≡ h.trail → g.window ≡ h.window
       → Tells (finished course p w e) g b r told → Tells (matched_at course p now near) h b r told
   unfolding matched_at
-  matches {l} {off} {e} {w} {m} {c} {g} el eo ee ew em ec is kept t =
+  matches {l} {off} {e} {w} {m} {c} {g} el eo ee ew em ec is kept stays t =
       let told : Bool → Event = λ o. off_event was.off o (due was now) in
       let by : Bool → Event → List Crumb → Done Event =
       λ o v k. finished course p (way_on o k near) v (matched (follow_matched near o v now was) (course_matched near p h.course)) in
@@ -54,4 +54,5 @@ module _ (course : List Crumb) (p : Point) (now : ℕ) (near : Nearest) (h : Hom
         told = t.told ∙ sym (ap (λ (d : Done Event). d.answer) whole);
         same = t.same ∙ sym (ap (λ (d : Done Event). d.state) whole);
         trail = t.trail ∙ kept;
+        window = t.window ∙ stays;
       }

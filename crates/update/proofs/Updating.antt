@@ -110,6 +110,7 @@ tells-from before rule h g b r e c t =
       told = t.told ∙ ap (λ (s : State). (rule s).answer) (c.same b);
       same = t.same ∙ ap (λ (s : State). (rule s).state) (c.same b);
       trail = t.trail ∙ c.trail;
+      window = t.window ∙ c.window;
     }
 
 -- ---- the state after an update begins fits as it did
@@ -193,7 +194,7 @@ module _ {h n : Homing} (b : List Float) {course : List Crumb} (p : Point) (now 
 
   pub stays : trail.TrailFit h.trail (length b) → o ≡ Stays → Updates (λ C. update C course p now) h b n event.Nothing b
   unfolding comes_to
-  stays fit told = shows (done event.Nothing) fit (is told) (record { told = refl; same = refl; trail = refl })
+  stays fit told = shows (done event.Nothing) fit (is told) (record { told = refl; same = refl; trail = refl; window = refl })
 
   pub goes_on : trail.TrailFit h.trail (length b) → {near : Nearest} → o ≡ GoesOn near → {r : Homing} {e : Event}
       → Tells (matched_at course p now near) n b r e → Updates (λ C. update C course p now) h b r e b

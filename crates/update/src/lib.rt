@@ -133,7 +133,8 @@ fn ended_with(
     now_ms: u64,
 ) -> Event
     requires { HomingFit h.old (length crumbs.old) (length course.now) }
-    ensures { Updates (λ C. ended_with e C course.now p now_ms) h.old crumbs.old h.new result crumbs.new }
+    ensures updates { Updates (λ C. ended_with e C course.now p now_ms) h.old crumbs.old h.new result crumbs.new }
+    ensures window { h.new.window ≡ h.old.window }
 {
     follow::stop_following(h, crumbs);
     begun(h, p, now_ms);
@@ -144,7 +145,8 @@ fn ended_with(
 // The guide after a fix at p.
 pub fn update(h: &mut Homing, crumbs: &mut [f32], course: &Crumbs, p: Point, now_ms: u64) -> Event
     requires { HomingFit h.old (length crumbs.old) (length course.now) }
-    ensures { Updates (λ C. update C course.now p now_ms) h.old crumbs.old h.new result crumbs.new }
+    ensures updates { Updates (λ C. update C course.now p now_ms) h.old crumbs.old h.new result crumbs.new }
+    ensures window { h.new.window ≡ h.old.window }
 {
     begun(h, p, now_ms);
     let held = Crumbs::new(crumbs, h.trail.len);

@@ -5,4 +5,4 @@ use Rattle.fix.proofs.cleared.Goals as goal
 
 pub returns : goal.returns
 unfolding cleared unfixed
-returns c = record { same = λ b. refl; trail = refl }
+returns c = record { same = λ b. refl; trail = refl; window = refl }

@@ -5,4 +5,4 @@ use Rattle.fix.proofs.end_replay.Goals as goal
 
 pub returns : goal.returns
 unfolding end_replay unheaded
-returns c = record { same = λ b. refl; trail = refl }
+returns c = record { same = λ b. refl; trail = refl; window = refl }

@@ -61,9 +61,9 @@ module _ (C : ℕ) (course : List Crumb) (x : Fix) (now : ℕ) (s : State) where
 pub arrives : (x : Fix) (now : ℕ) {h r : Homing} {f : Frame} {p : Point} {m : Motion} → f ≡ located x h.frame → p ≡ framed f x
     → m ≡ track_heading h.motion p now
     → ((b : List Float) → state_of r b ≡ with_motion m (with_here (Some p) (with_frame f (with_fed (Some x) (state_of h b)))))
-    → r.trail ≡ h.trail → Changes (arrived_at x now) h r
+    → r.trail ≡ h.trail → r.window ≡ h.window → Changes (arrived_at x now) h r
 unfolding arrived_at headed
-arrives x now {h} {f = f} {p} ef ep em is kept =
+arrives x now {h} {f = f} {p} ef ep em is kept stays =
     record {
       same = λ b.
           let s = state_of h b in
@@ -74,12 +74,15 @@ arrives x now {h} {f = f} {p} ef ep em is kept =
           ∙ ap (λ (q : Point). at f q) ep
           ∙ ap (λ (g : Frame). at g (framed g x)) ef;
       trail = kept;
+      window = stays;
     }
 
 pub turns : (p : Point) (now : ℕ) {h r : Homing} {m : Motion} → m ≡ track_heading h.motion p now
-    → ((b : List Float) → state_of r b ≡ with_motion m (state_of h b)) → r.trail ≡ h.trail → Changes (headed p now) h r
+    → ((b : List Float) → state_of r b ≡ with_motion m (state_of h b)) → r.trail ≡ h.trail → r.window ≡ h.window
+    → Changes (headed p now) h r
 unfolding headed
-turns p now {h} e is kept = record { same = λ b. is b ∙ ap (λ (m : Motion). with_motion m (state_of h b)) e; trail = kept }
+turns p now {h} e is kept stays =
+    record { same = λ b. is b ∙ ap (λ (m : Motion). with_motion m (state_of h b)) e; trail = kept; window = stays }
 
 -- ---- a change of what neither the trail nor a following goes by
 module _ (rule : State → State) {h r : Homing} (c : Changes rule h r) (same-follow : (s : State) → (rule s).follow ≡ s.follow) where

@@ -5,4 +5,4 @@ use Rattle.follow.proofs.engage_at.Goals as goal
 
 pub returns : goal.returns
 unfolding engage_at
-returns c = record { same = λ b. simp (← c.course_from-h.ensures); trail = refl }
+returns c = record { same = λ b. simp (← c.course_from-h.ensures); trail = refl; window = refl }

@@ -1,4 +1,5 @@
 -- `follow::flush` meets its contract.
+use mathlib.Core.Path.{refl}
 use Rattle.trail.specs.Trail as trail
 use Rattle.follow.specs.Record.{flush_in}
 use Rattle.follow.proofs.Recording.{taken-over}
@@ -8,4 +9,4 @@ pub returns : goal.returns
 unfolding flush_in
 returns c =
     let a = c.args in
-    taken-over trail.flush a.h.now c.flush-thinned.ensures c.after_thinning-h.ensures
+    record { follows = taken-over trail.flush a.h.now c.flush-thinned.ensures c.after_thinning-h.ensures; window = refl }

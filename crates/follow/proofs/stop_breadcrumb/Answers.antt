@@ -12,6 +12,9 @@ unfolding forgotten track places
 returns c = let g = c.args in
     let h = g.h.now in
     let k = c.leave_at in
-    stops_at h _ k.new.h g.crumbs.now k.new.crumbs (ap (λ (x : Follow). with_follow x
-    (with_track (forgotten (track h.trail h.window g.crumbs.now)) (state_of h g.crumbs.now)))
-    c.stopped-h.ensures) refl k.ensures
+    record {
+      follows = stops_at h _ k.new.h g.crumbs.now k.new.crumbs (ap (λ (x : Follow). with_follow x
+          (with_track (forgotten (track h.trail h.window g.crumbs.now)) (state_of h g.crumbs.now)))
+          c.stopped-h.ensures) refl k.ensures.follows;
+      window = k.ensures.window;
+    }

@@ -5,4 +5,4 @@ use Rattle.follow.proofs.stop_course.Goals as goal
 
 pub returns : goal.returns
 unfolding stop_course
-returns c = record { same = λ b. simp (← c.stopped-h.ensures, ← c.held_off-h.ensures); trail = refl }
+returns c = record { same = λ b. simp (← c.stopped-h.ensures, ← c.held_off-h.ensures); trail = refl; window = refl }

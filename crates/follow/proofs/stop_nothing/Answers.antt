@@ -5,4 +5,4 @@ use Rattle.follow.proofs.stop_nothing.Goals as goal
 
 pub returns : goal.returns
 unfolding stop_nothing
-returns c = record { same = λ b. simp (← c.stopped-h.ensures); trail = refl }
+returns c = record { same = λ b. simp (← c.stopped-h.ensures); trail = refl; window = refl }

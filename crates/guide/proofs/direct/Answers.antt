@@ -5,6 +5,6 @@ use Rattle.guide.proofs.direct.Goals as goal
 
 pub returns : goal.returns
 unfolding of_bits
-returns c = λ b held.
+returns c = λ b.
     let g = c.args in
-    tells-straight g.h.now b held g.course.now g.p c.recorded_m.ensures c.start.ensures (c.finished.ensures b held)
+    tells-straight g.h.now b g.crumbs.now g.course.now g.p c.recorded_m.ensures c.start.ensures (c.finished.ensures b)

@@ -7,7 +7,7 @@ pub returns-in_default : goal.returns-in_default
 unfolding join_on joined_to
 returns-in_default c = λ b.
     let told = c.in_default.is in
-    record { answered = simp told; same = simp told; held = record { len = refl; tolerance = refl; waiting = refl } }
+    record { answered = simp told; same = simp told; held = record { len = refl; tolerance = refl; waiting = refl }; window = refl }
 
 pub returns : goal.returns
 unfolding join_on joined_to
@@ -17,4 +17,5 @@ returns c = λ b.
       answered = simp (told, ← c.saturating_add-h.ensures);
       same = simp (told, ← c.saturating_add-h.ensures);
       held = record { len = refl; tolerance = refl; waiting = refl };
+      window = refl;
     }

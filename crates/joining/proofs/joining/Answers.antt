@@ -6,4 +6,4 @@ pub returns : goal.returns
 unfolding joining
 returns c = λ b.
     let a = rw (c.join_with-join.ensures b) at (c.join_on.ensures b) in
-    record { answered = a.answered; same = a.same; held = a.held }
+    record { answered = a.answered; same = a.same; held = a.held; window = a.window }

@@ -18,6 +18,7 @@ returns-then-rides_back c =
       answered = sym (ap (λ (d : Done Bool). d.answer) is);
       same = simp (c.len_before-h.ensures g.h.now.window b) (sym (ap (λ (d : Done Bool). d.state) is));
       held = record { len = refl; tolerance = refl; waiting = refl };
+      window = refl;
     }
 
 pub returns : goal.returns
@@ -29,4 +30,5 @@ returns c =
       answered = sym (ap (λ (d : Done Bool). d.answer) is);
       same = sym (ap (λ (d : Done Bool). d.state) is);
       held = record { len = refl; tolerance = refl; waiting = refl };
+      window = refl;
     }

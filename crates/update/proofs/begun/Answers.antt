@@ -12,4 +12,5 @@ returns c =
     record {
       same = λ b. ap (λ (l : Lap). with_updated_ms g.now_ms (with_lap l (state_of g.h.now b))) c.step_pass-h.ensures;
       trail = refl;
+      window = refl;
     }

@@ -1,11 +1,12 @@
 -- `update::ended_with` meets its contract.
-use mathlib.Core.Path.{sym, subst}
+use mathlib.Core.Path.{sym, subst, ◌∙◌}
 use native.Mathlib.Omega.{arith}
 use Prim.Native.Nat.{◌≤◌}
 use lib.ListN.{length}
 use Rattle.trail.specs.declared.Trail.{Trail}
 use Rattle.trail.specs.View.{track}
 use Rattle.crumbs.specs.Crumb.{capacity}
+use Rattle.guide.proofs.Showing.{tells-held}
 use Rattle.update.proofs.Ending.{ends_with}
 use Rattle.update.proofs.ended_with.Goals as goal
 
@@ -15,9 +16,13 @@ stop_following-requires c = let f = c.requires in (f.trail, λ e. omega (arith, 
 pub new-requires : goal.new-requires
 new-requires c =
     let k = c.stop_following in
-    subst (λ (t : Trail). t.len ≤ capacity (length k.new.crumbs)) (sym c.begun.ensures.trail) k.ensures.fit.held
+    subst (λ (t : Trail). t.len ≤ capacity (length k.new.crumbs)) (sym c.begun.ensures.trail) k.ensures.follows.fit.held
 
 pub returns : goal.returns
 unfolding track
 returns c = let g = c.args in let k = c.stop_following in
-    ends_with g.course.now g.p g.now_ms k.ensures c.begun.ensures (c.direct.ensures k.new.crumbs c.new.ensures) g.e
+    let shown = tells-held c.new.ensures (c.direct.ensures k.new.crumbs) in
+    record {
+      updates = ends_with g.course.now g.p g.now_ms k.ensures.follows c.begun.ensures shown g.e;
+      window = shown.window ∙ c.begun.ensures.window ∙ k.ensures.window;
+    }

@@ -2,6 +2,7 @@
 use mathlib.Core.Path.{refl, ap, ◌∙◌}
 use mathlib.Core.Bool.{Bool}
 use Rattle.matching.specs.Match.{off_event}
+use Rattle.guide.proofs.Showing.{tells-held}
 use Rattle.update.proofs.Matching.{matches}
 use Rattle.update.proofs.matched_at.Goals as goal
 
@@ -16,4 +17,4 @@ returns c = λ b held on.
     c.way_on-w.ensures
     c.follow_matched-h.ensures
     c.course_matched-h.ensures
-    refl refl (c.finished.ensures b held)
+    refl refl refl (tells-held held (c.finished.ensures b))

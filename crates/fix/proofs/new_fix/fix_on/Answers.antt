@@ -9,7 +9,7 @@ add_update-requires c = record { fit = c.requires.fit; grows = course-grows c.ar
 
 pub returns-in-Breadcrumb : goal.returns-in-Breadcrumb
 unfolding fix_on
-returns-in-Breadcrumb c = let g = c.args in by-line lines.Breadcrumb g.course.now g.p g.now_ms c.in-Breadcrumb.is c.update.ensures
+returns-in-Breadcrumb c = let g = c.args in by-line lines.Breadcrumb g.course.now g.p g.now_ms c.in-Breadcrumb.is c.update.ensures.updates
 
 pub returns-in-Course : goal.returns-in-Course
 unfolding fix_on

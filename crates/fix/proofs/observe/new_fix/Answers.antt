@@ -12,7 +12,7 @@ pub fix_on-requires : goal.fix_on-requires
 fix_on-requires c =
     let g = c.args in
     arrived-ready g.fix g.now_ms
-    (arrives g.fix g.now_ms c.located-h.ensures c.framed-p.ensures c.track_heading-h.ensures (λ b. refl) refl) c.requires
+    (arrives g.fix g.now_ms c.located-h.ensures c.framed-p.ensures c.track_heading-h.ensures (λ b. refl) refl refl) c.requires
 
 pub returns : goal.returns
 returns c =
@@ -22,6 +22,6 @@ returns c =
     let l = g.course.now in
     let C = capacity (length b) in
     let ef = c.located-h.ensures in
-    let there = arrives g.fix g.now_ms ef c.framed-p.ensures c.track_heading-h.ensures (λ b. refl) refl in
+    let there = arrives g.fix g.now_ms ef c.framed-p.ensures c.track_heading-h.ensures (λ b. refl) refl refl in
     updates-after (λ C. new_fix C l g.fix g.now_ms) (λ C. fix_on h.follow.line C l c.framed-p.result g.now_ms) (omega arith)
     (new-fix g.fix g.now_ms there c.framed-p.ensures ef l b C) c.fix_on.ensures

@@ -26,7 +26,7 @@ returns-then-elapsed-lt-STILL_MS c = let g = c.args in let h = g.h.now in let b 
 
 pub update-requires : goal.update-requires
 update-requires c = let p = c.in-Some.p in let now = c.args.now_ms in
-    headed-fit p now (turns p now c.track_heading-h.ensures (λ b. refl) refl) c.requires
+    headed-fit p now (turns p now c.track_heading-h.ensures (λ b. refl) refl refl) c.requires
 
 pub returns : goal.returns
 returns c =
@@ -35,10 +35,10 @@ returns c =
     let b = g.crumbs.now in
     let l = g.course.now in
     let p = c.in-Some.p in
-    let turned = turns p g.now_ms c.track_heading-h.ensures (λ b. refl) refl in
+    let turned = turns p g.now_ms c.track_heading-h.ensures (λ b. refl) refl refl in
     let C = capacity (length b) in
     updates-after (λ C. still_at h.here C l g.now_ms) (λ C. update C l p g.now_ms) (omega arith)
     (still-due h.here C l g.now_ms (state_of h b) p c.in-Some.is
     (ap (λ (n : ℕ). ltb n still_ms) (sym c.elapsed.ensures) ∙ le-ltb _ _ c.if-elapsed-lt-STILL_MS.false)
     ∙ ap (λ (x : State). update C l p g.now_ms x) (sym (turned.same b)))
-    c.update.ensures
+    c.update.ensures.updates

@@ -6,4 +6,4 @@ pub update-requires : goal.update-requires
 update-requires c = fit-grown c.args.p c.requires.grows c.add.ensures c.requires.fit
 
 pub returns : goal.returns
-returns c = let g = c.args in grown-updated g.p c.requires.grows c.add.ensures g.course.now g.now_ms c.update.ensures
+returns c = let g = c.args in grown-updated g.p c.requires.grows c.add.ensures g.course.now g.now_ms c.update.ensures.updates

@@ -14,7 +14,7 @@ update-requires c = let g = c.args in
 
 pub returns-then-engage : goal.returns-then-engage
 returns-then-engage c = let g = c.args in let l = g.course.now in
-    turned_on c.turned_back.ensures l g.p g.now_ms (engaged-on l g.p g.now_ms c.engage.ensures c.if-engage.true c.update.ensures)
+    turned_on c.turned_back.ensures l g.p g.now_ms (engaged-on l g.p g.now_ms c.engage.ensures c.if-engage.true c.update.ensures.updates)
 
 pub add_update-requires : goal.add_update-requires
 add_update-requires c =

@@ -1,5 +1,5 @@
 -- `fix::recording::turned_back` meets its contract.
-use mathlib.Core.Path.{sym, ap}
+use mathlib.Core.Path.{refl, sym, ap}
 use native.Mathlib.Omega.{arith}
 use mathlib.Core.List.{List, []}
 use Rattle.crumbs.specs.declared.Crumb.{Crumb}
@@ -37,4 +37,5 @@ returns c =
             tolerance = f.tolerance;
           };
       fewer = c.requires;
+      window = refl;
     }

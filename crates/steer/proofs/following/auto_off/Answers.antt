@@ -17,10 +17,10 @@ returns c =
     let exit = c.if-h.crumbs in
     elim c.if-h.branch [
       | then-h w ↦
-          let stopped : Follows stop h entry m exit = rw (w.h-is, w.crumbs-is) w.stop_following.ensures in
-          turned-off _ stopped (record { same = λ b. refl; trail = refl }) w.if-h.true (λ C s. refl)
+          let stopped : Follows stop h entry m exit = rw (w.h-is, w.crumbs-is) w.stop_following.ensures.follows in
+          turned-off _ stopped (record { same = λ b. refl; trail = refl; window = refl }) w.if-h.true (λ C s. refl)
       | else-h w ↦
           let still : Follows (λ C s. done (tt {0}) s) h entry m exit =
           rw (w.h-is, w.crumbs-is) (record { same = refl; fit = c.requires.0; size = refl; beyond = refl }) in
-          turned-off _ still (record { same = λ b. refl; trail = refl }) w.if-h.false (λ C s. refl)
+          turned-off _ still (record { same = λ b. refl; trail = refl; window = refl }) w.if-h.false (λ C s. refl)
     ]

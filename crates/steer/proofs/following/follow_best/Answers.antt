@@ -11,7 +11,7 @@ use Rattle.steer.proofs.following.follow_best.Goals as goal
 
 pub returns-in_default : goal.returns-in_default
 unfolding follow
-returns-in_default c = rw c.in_default.is c.way_home.ensures
+returns-in_default c = rw c.in_default.is c.way_home.ensures.decides
 
 pub brought-requires : goal.brought-requires
 brought-requires c =
@@ -21,4 +21,4 @@ brought-requires c =
 
 pub returns : goal.returns
 unfolding follow
-returns c = rw c.in-Some.is (decides-from c.engage_at.ensures c.brought.ensures)
+returns c = rw c.in-Some.is (decides-from c.engage_at.ensures c.brought.ensures.decides)

@@ -28,7 +28,7 @@ pub returns-in-Breadcrumb : goal.returns-in-Breadcrumb
 unfolding follow_from
 returns-in-Breadcrumb c =
     let g = c.args in
-    decides-as c.brought.ensures
+    decides-as c.brought.ensures.decides
     (elim c.in-Breadcrumb.is [
       | inl e ↦ ap (λ (x : Line). follow_from x (capacity (length g.crumbs.now)) g.course.now g.now_ms (state_of g.h.now g.crumbs.now)) e
       | inr e ↦ ap (λ (x : Line). follow_from x (capacity (length g.crumbs.now)) g.course.now g.now_ms (state_of g.h.now g.crumbs.now)) e

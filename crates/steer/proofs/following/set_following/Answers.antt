@@ -22,9 +22,9 @@ unfolding set_following
 returns-then-follow c = rw (c.if-follow.true, ← c.new-course.ensures) (decides-as c.follow_from.ensures refl)
 
 pub brought-requires : goal.brought-requires
-brought-requires c = stopped-fits c.stop_following.ensures
+brought-requires c = stopped-fits c.stop_following.ensures.follows
 
 pub returns : goal.returns
 returns c =
     rw (c.if-follow.false, ← c.new-course.ensures)
-    (ends c.new-course.result c.args.now_ms c.stop_following.ensures c.brought.ensures)
+    (ends c.new-course.result c.args.now_ms c.stop_following.ensures.follows c.brought.ensures.decides)
