@@ -1,5 +1,5 @@
 -- What each export promises that changes the guide: the promise of the call of its name, on the state that the slices hold.
-use Rattle.std.specs.Prelude.{ℕ, ◌≡◌, ◌≢◌, List, length, Float, Option, Result, Ok}
+use Rattle.std.specs.Prelude.{ℕ, ◌≡◌, List, length, Float, Option, Result}
 use Rattle.refusal.specs.declared.Refusal.{Refusal}
 use Rattle.refusal.specs.Refusal.{asked}
 use Rattle.state.specs.declared.Event.{Event}
@@ -8,8 +8,8 @@ use Rattle.state.specs.declared.Homing.{Homing}
 use Rattle.plane.specs.declared.Fix.{Fix}
 use Rattle.calls.specs.Questions.{question1, unless, ◌or_else◌}
 use Rattle.homing.specs.Promises.{MakesNew, DoesReset, EndsReplay, SetsCourse, SetsAuto, Observes, Replays, SetsFollowing}
-use Rattle.stored.specs.Stored.{room_for, Stores}
-use Rattle.door.specs.Through.{is_set, no_state, no_state_with, ChangesStored}
+use Rattle.stored.specs.Stored.{room_for}
+use Rattle.door.specs.Through.{is_set, no_state, no_state_with, Leaves, ChangesStored}
 use Rattle.door.specs.Answers.{AnsweredBy, flagged}
 
 -- ---- what a call gives, as numbers
@@ -36,10 +36,10 @@ Tells promise write was is r number = AnsweredBy (promise r) write number was is
 -- `cittumay_new`, on the crumb buffer b: question 1, then whether the slices have the room
 pub record New (b : List Float) (w : List ℕ) (n : List Float) (number : ℕ) (w' : List ℕ) (n' : List Float) : Type 0 where
   pub asked : number ≡ (unless (question1 (length b)) 1 or_else unless (room_for w n) no_state)
-  pub made : Result Homing Refusal
-  pub promised : MakesNew b made
-  pub taken : number ≡ 0 → (h : Homing) × ((made ≡ Ok h) × Stores h w n w' n')
-  pub refused : number ≢ 0 → (w' ≡ w) × (n' ≡ n)
+  pub made : Homing
+  pub answer : Result (Unit {0}) Refusal
+  pub promised : MakesNew b made answer
+  pub leaves : Leaves number made w n w' n'
 
 -- `cittumay_reset`
 abbrev pub Reset : List ℕ → List Float → ℕ → List ℕ → List Float → Type 0

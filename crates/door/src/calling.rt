@@ -38,8 +38,9 @@ fn keep(number: u8, h: Homing, words: &mut [u64], numbers: &mut [f32]) -> u8
 pub fn cittumay_new(words: &mut [u64], numbers: &mut [f32], crumbs: &[f32]) -> u8
     ensures { New crumbs.now words.old numbers.old result words.new numbers.new }
 {
-    match homing::new(crumbs) {
-        Ok(h) => {
+    let (h, answer) = homing::new(crumbs);
+    match answer {
+        Ok(()) => {
             if !stored::has_room(words, numbers) {
                 return NO_STATE;
             }

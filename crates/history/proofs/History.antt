@@ -5,7 +5,8 @@ use mathlib.Core.List.{List, [], ◌∷◌, ◌++◌, map}
 use native.Mathlib.Omega.{arith}
 use lib.Ieee.{Float}
 use lib.ListN.{length}
-use Rattle.std.specs.Prelude.{Ok}
+use Rattle.std.specs.Prelude.{Result}
+use Rattle.refusal.specs.declared.Refusal.{Refusal}
 use Rattle.crumbs.specs.Crumb.{stride, capacity, point}
 use Rattle.crumbs.proofs.Crumbs.{length-crumbs, front-whole}
 use Rattle.trail.specs.View.{track}
@@ -46,7 +47,7 @@ module _ (C : ℕ) (least : 8 ≤ C) (most : C ≤ 4096) (cs : List Call) (h : H
       }
 
 -- the guide that `new` makes begins one
-pub made : {C : ℕ} {b : List Float} {h : Homing} → length b ≡ stride * C → MakesNew b (Ok h) → Ran C [] h b
+pub made : {C : ℕ} {b : List Float} {h : Homing} {a : Result (Unit {0}) Refusal} → length b ≡ stride * C → MakesNew b h a → Ran C [] h b
 made {b = b} size m = new size (m.fresh b)
 
 long : {C : ℕ} {cs : List Call} {h : Homing} {b : List Float} → Ran C cs h b → length b ≡ stride * C

@@ -1,2 +1,3 @@
 -- Facts that the functions' proofs share.
 pub mod Calling
+pub mod Making

@@ -1,8 +1,7 @@
 -- What each call that changes the guide promises. `Called` says what becomes of the state and the crumb buffer, and that a refusal changes
 -- nothing.
-use Rattle.std.specs.Prelude.{ℕ, ◌≡◌, Bool, List, length, Float, Option, Result, IfOk}
+use Rattle.std.specs.Prelude.{ℕ, ◌≡◌, Bool, List, length, Float, Option, Result}
 use Rattle.refusal.specs.declared.Refusal.{Refusal}
-use Rattle.refusal.specs.Refusal.{asked}
 use Rattle.crumbs.specs.Crumb.{capacity}
 use Rattle.trail.specs.View.{empty_window}
 use Rattle.plane.specs.declared.Fix.{Fix}
@@ -21,10 +20,10 @@ use Rattle.calls.specs.Promises.{answer, says, Called}
 
 -- `new`, on the crumb buffer b: question 1 is put to it. The state is a new guide's whatever the buffer holds, and the window's numbers,
 -- which the rules see only where a place waits, are zeros.
-pub record MakesNew (b : List Float) (r : Result Homing Refusal) : Type 0 where
-  pub answered : asked r ≡ unless (question1 (length b)) 1
-  pub fresh : IfOk r (λ h. (crumbs : List Float) → state_of h crumbs ≡ new)
-  pub window : IfOk r (λ h. h.window ≡ empty_window)
+pub record MakesNew (b : List Float) (h : Homing) (a : Result (Unit {0}) Refusal) : Type 0 where
+  pub answered : says a ≡ answer (unless (question1 (length b)) 1) (tt {0})
+  pub fresh : (crumbs : List Float) → state_of h crumbs ≡ new
+  pub window : h.window ≡ empty_window
 
 -- `reset`, whatever the crumb buffer holds, which it is not given
 pub record DoesReset (h : Homing) (r : Homing) (a : Result (Unit {0}) Refusal) : Type 0 where

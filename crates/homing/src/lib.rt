@@ -18,12 +18,14 @@ use steer::following;
 
 // ---- the guide made anew
 
-// A breadcrumb in `crumbs`, whose room is the most crumbs kept.
-pub fn new(crumbs: &[f32]) -> Result<Homing, Refusal>
-    ensures { MakesNew crumbs.now result }
+// A breadcrumb in `crumbs`, whose room is the most crumbs kept. The state is a new guide's also where the buffer is refused.
+pub fn new(crumbs: &[f32]) -> (Homing, Result<(), Refusal>)
+    ensures { MakesNew crumbs.now result.0 result.1 }
 {
-    Refusal::CrumbBuffer.unless(counts::question1(crumbs.len()))?;
-    Ok(steer::new())
+    (
+        steer::new(),
+        Refusal::CrumbBuffer.unless(counts::question1(crumbs.len())),
+    )
 }
 
 // Forget the breadcrumb: a new ride starts where its first fix is.

@@ -9,7 +9,7 @@ use lib.Dec.{leb, ltb, eqb}
 use lib.ListN.{length, get_or}
 use lib.Ieee.{Float}
 use Rattle.crumbs.specs.Crumb.{stride, capacity}
-use Rattle.std.specs.Prelude.{Option, Some, None, Result, Ok, ℕ}
+use Rattle.std.specs.Prelude.{Option, Some, None, Result, ℕ}
 use Rattle.refusal.specs.declared.Refusal.{Refusal}
 use Rattle.plane.specs.declared.Fix.{Fix}
 use Rattle.state.specs.declared.Homing.{Homing}
@@ -121,7 +121,7 @@ journal-on C cs ks = sym (run-both (stride * C) cs ks rule.new)
 
 -- ---- runs
 -- the guide that `new` makes begins one
-pub made : {C : ℕ} {b : List Float} {h : Homing} → length b ≡ stride * C → MakesNew b (Ok h) → RanOn C [] h b
+pub made : {C : ℕ} {b : List Float} {h : Homing} {a : Result (Unit {0}) Refusal} → length b ≡ stride * C → MakesNew b h a → RanOn C [] h b
 made {b = b} size m = new size (m.fresh b)
 
 -- one without a call of a rebuild

@@ -20,7 +20,8 @@ use Rattle.std.specs.Cmp.Derive.{both_true as both}
 use Rattle.taken.proofs.Asking.{or_else_none}
 use Rattle.taken.proofs.Taken.{taken}
 use Rattle.journal.specs.Journal.{run}
-use Rattle.std.specs.Prelude.{Ok}
+use Rattle.std.specs.Prelude.{Result}
+use Rattle.refusal.specs.declared.Refusal.{Refusal}
 use Rattle.homing.specs.Promises.{MakesNew}
 use Rattle.ride_log.specs.Entry.{slot}
 use Rattle.ride_log.proofs.file_questions.Chain.{by}
@@ -36,7 +37,8 @@ use Rattle.restart.proofs.Calling.{step-file}
 use Rattle.restart.proofs.History.{slot-globe, long as history-long}
 
 -- the guide that `new` makes begins such a run
-pub begun : {C : ℕ} {b : List Float} {h : Homing} → length b ≡ stride * C → MakesNew b (Ok h) → Rebuilt C h b []
+pub begun : {C : ℕ} {b : List Float} {h : Homing} {a : Result (Unit {0}) Refusal} → length b ≡ stride * C → MakesNew b h a
+    → Rebuilt C h b []
 begun {b = b} size m = new size (m.fresh b)
 
 -- each is one of those that demand 3 speaks of

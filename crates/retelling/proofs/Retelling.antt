@@ -16,14 +16,12 @@ use Rattle.trail.specs.View.{track}
 use Rattle.state.specs.declared.Homing.{Homing}
 use Rattle.state.specs.State.{State, state_of}
 use Rattle.calls.specs.Line as guide
-use Rattle.calls.specs.Questions.{question1, question4, asks_crumbs, unless}
+use Rattle.calls.specs.Questions.{question1, question4, asks_crumbs}
 use Rattle.calls.specs.Calls.{Ask, Crumbs, asks_lent, asks}
 use Rattle.calls.specs.Promises.{Answer, refused, gives, answer, says}
-use Rattle.std.specs.Prelude.{Result, Ok, Err, IsOk}
-use Rattle.std.proofs.Common.{rules}
-use Rattle.std.proofs.lemmas.Result.{IfOk-at_ok}
+use Rattle.std.specs.Prelude.{Result, Ok, Err}
 use Rattle.refusal.specs.declared.Refusal.{Refusal}
-use Rattle.refusal.specs.Refusal.{number, asked}
+use Rattle.refusal.specs.Refusal.{number}
 use Rattle.taken.specs.Taken.{start}
 use Rattle.taken.proofs.Taken.{taken}
 use Rattle.ride_log.specs.Entry.{recovered, slot}
@@ -32,7 +30,6 @@ use Rattle.rebuild.specs.declared.Rebuild.{Rebuild}
 use Rattle.rebuild.specs.Made.{effect}
 use Rattle.rebuild.specs.Rebuild.{new_rebuild, step, is_decided}
 use Rattle.rebuild.specs.View.{Makes}
-use Rattle.homing.specs.Promises.{MakesNew}
 use Rattle.retelling.specs.declared.Rebuilt.{Rebuilt}
 use Rattle.restart.specs.Promises.{asks_step, Steps}
 use Rattle.retelling.specs.Text.{rebuilt_text, refused_text}
@@ -47,19 +44,6 @@ use Rattle.retelling.proofs.Theorems.{retold-refused}
 new-taken : asks_crumbs 1536 guide.new ≡ 0
 unfolding asks asks_lent question1 question4
 new-taken = taken 1536 refl _ _ start (Ask Crumbs) tt tt
-
--- no question refuses to make it
-made_so : {A : Type 0} (r : Result A Refusal) → asked r ≡ 0 → IsOk r
-made_so (Ok x) e = search rules
-made_so (Err q) e = let ne : number q ≢ 0 = search rules in absurd (ne e)
-
-pub is-made : {b : List Float} {r : Result Homing Refusal} → length b ≡ 1536 → MakesNew b r → IsOk r
-unfolding question1
-is-made {b = b} {r = r} size m = made_so r (m.answered ∙ ap (λ (n : ℕ). unless (question1 n) 1) size)
-
-pub fresh-guide : {b : List Float} {r : Result Homing Refusal} {h : Homing} → MakesNew b r → r ≡ Ok h → (c : List Float)
-    → state_of h c ≡ guide.new
-fresh-guide m e = IfOk-at_ok _ e m.fresh
 
 -- ---- "rebuilds the whole chain"
 module _ (file : List ℕ) {h n : Homing} {b exit : List Float} {r : Rebuild} (size : length b ≡ 1536) (fresh : state_of h b ≡ guide.new)

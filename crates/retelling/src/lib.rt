@@ -44,7 +44,7 @@ fn rebuild_chain(file: &[u8], crumbs: &mut [f32; NUMBERS]) -> Result<Rebuilt, Re
     ensures { Rebuilds file.now result crumbs.new }
 {
     // No question refuses a buffer for 512 crumbs.
-    let mut h = homing::new(crumbs).unwrap();
+    let (mut h, _) = homing::new(crumbs);
     let mut rebuild = restart::new(ride_log::recovered(file), SLOTS);
     restart::step(&mut rebuild, &mut h, crumbs, file, SLOTS, SLOTS)?;
     Ok(Rebuilt {

@@ -161,11 +161,19 @@ fn perform(h: &mut Homing, crumbs: &mut [f32], working: &mut [f32], calls: &[&Ca
     }
 }
 
-// A new guide on the crumb buffer performs the calls. `working` is for the line of a call that writes it, and as long as a line may be.
-pub fn ride(crumbs: &mut [f32], working: &mut [f32], calls: &[&Call<'_>]) -> Result<Homing, Refusal>
-    ensures { Rides (written (length working.old) (pointed calls.now)) crumbs.old working.old result crumbs.new working.new }
+// A new guide on the crumb buffer performs the calls, or none where the buffer is refused. `working` is for the line of a call that writes
+// it, and as long as a line may be.
+pub fn ride(
+    crumbs: &mut [f32],
+    working: &mut [f32],
+    calls: &[&Call<'_>],
+) -> (Homing, Result<(), Refusal>)
+    ensures { Rides (written (length working.old) (pointed calls.now)) crumbs.old working.old result.0 result.1 crumbs.new working.new }
 {
-    let mut h = homing::new(crumbs)?;
+    let (mut h, answer) = homing::new(crumbs);
+    if answer.is_err() {
+        return (h, answer);
+    }
     perform(&mut h, crumbs, working, calls);
-    Ok(h)
+    (h, answer)
 }

@@ -3,20 +3,17 @@ use mathlib.Core.Path.{◌∙◌, ap}
 use native.Mathlib.Omega.{arith}
 use Rattle.std.proofs.lemmas.Result.{err_from_is_err_and}
 use Rattle.rebuild.specs.Rebuild.{new_rebuild}
-use Rattle.retelling.proofs.Retelling.{is-made, fresh-guide, rebuilds-chain, rebuilds-no-chain}
+use Rattle.retelling.proofs.Retelling.{rebuilds-chain, rebuilds-no-chain}
 use Rattle.retelling.proofs.rebuild_chain.Goals as goal
-
-pub unwrap-h-requires : goal.unwrap-h-requires
-unwrap-h-requires c = is-made (omega arith) c.new.ensures
 
 pub returns-in_err-step : goal.returns-in_err-step
 returns-in_err-step c =
     let p = err_from_is_err_and c.from_residual.result c.from_residual.ensures.1 in
     rw (p.1, p.2)
-    (rebuilds-no-chain _ (omega arith) (fresh-guide c.new.ensures c.unwrap-h.ensures _)
+    (rebuilds-no-chain _ (omega arith) (c.new.ensures.fresh _)
     (c.new-rebuild.ensures ∙ ap new_rebuild c.recovered.ensures) c.in_err-step.ensures)
 
 pub returns : goal.returns
 returns c =
-    rebuilds-chain _ (omega arith) (fresh-guide c.new.ensures c.unwrap-h.ensures _)
+    rebuilds-chain _ (omega arith) (c.new.ensures.fresh _)
     (c.new-rebuild.ensures ∙ ap new_rebuild c.recovered.ensures) c.in_ok-step.ensures
