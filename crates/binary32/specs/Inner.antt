@@ -1,5 +1,5 @@
--- For the functions inside: what those below `sqrtf` promise of whole numbers, and the cast of a difference. `Root.antt` alone says what
--- `sqrtf` gives.
+-- The root of a whole number, for the proofs about `root` alone, and the cast of a difference, for the functions inside. `Root.antt` alone
+-- says what `sqrtf` gives.
 use Rattle.std.specs.Prelude.{ℕ, ◌+◌, ◌-◌, ◌*◌, ◌^◌, ◌<◌, ◌≤◌, min, ℤ, pos, negsuc, Float}
 use Rattle.std.specs.Float.{binary32}
 use Rattle.std.specs.Float.Ieee.{of_int}
