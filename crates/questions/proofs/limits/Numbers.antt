@@ -1,7 +1,6 @@
 -- A size is at most a bound where the number lies from the negative bound to the bound: the tests of places and factors. Assumes nothing.
 use Prim.Native.Nat.{ℕ}
 use mathlib.Core.Path.{◌≡◌, refl}
-use Rattle.std.specs.Float.{float_with_sign}
 use mathlib.Core.Bool.{Bool, true, false, ◌&&◌}
 use lib.Dec.{T}
 use lib.IntN.{ℤ}
@@ -40,10 +39,3 @@ module _ (n : ℕ) (d : ℤ) where
       same (low && high) (le (fin false m e) (fin false n d))
       (λ t. (within→le n d (fin false m e) (le→within n d (fin s m e) (and_r low high t) (and_l low high t))).0)
       (λ t. let w = within→le n d (fin s m e) (size→within n d (fin s m e) tt t) in and_i low high w.1 w.0)
-
--- a number without its sign
-pub unsigned : (x : Float) → float_with_sign false x ≡ size_of x
-unfolding float_with_sign
-unsigned nan = refl
-unsigned (inf s) = refl
-unsigned (fin s m e) = refl
