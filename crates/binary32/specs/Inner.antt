@@ -1,5 +1,5 @@
--- The root of a whole number, for the proofs about `root` alone, and the cast of a difference, for the functions inside. `Root.antt` alone
--- says what `sqrtf` gives.
+-- For the functions inside: the cast of a difference. For the proofs about `root`: the root of a whole number. `Root.antt` alone says what
+-- `sqrtf` gives.
 use Rattle.std.specs.Prelude.{ℕ, ◌+◌, ◌-◌, ◌*◌, ◌^◌, ◌<◌, ◌≤◌, min, ℤ, pos, negsuc, Float}
 use Rattle.std.specs.Float.{binary32}
 use Rattle.std.specs.Float.Ieee.{of_int}
