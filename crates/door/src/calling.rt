@@ -39,16 +39,10 @@ pub fn cittumay_new(words: &mut [u64], numbers: &mut [f32], crumbs: &[f32]) -> u
     ensures { New crumbs.now words.old numbers.old result words.new numbers.new }
 {
     let (h, answer) = homing::new(crumbs);
-    match answer {
-        Ok(()) => {
-            if !stored::has_room(words, numbers) {
-                return NO_STATE;
-            }
-            stored::store(h, words, numbers);
-            0
-        }
-        Err(refusal) => refusal.number(),
+    if !stored::has_room(words, numbers) {
+        return numbering::no_state_with(crumbs.len());
     }
+    keep(numbering::number_of(answer), h, words, numbers)
 }
 
 // Forget the breadcrumb: a new ride starts where its first fix is.
