@@ -16,40 +16,43 @@ mod performing;
 mod ride;
 
 use records::faults::{Fault, Moment};
-use records::{Header, Record};
+use records::{BLOCK, Header, Record};
 use ride::{MOST_CRUMBS, Ride};
-use std::alloc::Global;
 use std::io;
-use std::io::{BufReader, Read};
+use std::io::Read;
 
-// Replays a call, or the ride's end.
-fn replay(alloc: Global, input: &mut impl Read, ride: &mut Ride, at: Moment) -> Result<(), Fault> {
+// Replays a call, or the ride's end. What it is given is read to the block.
+fn replay(
+    input: &mut impl Read,
+    block: &mut [u8; BLOCK],
+    ride: &mut Ride,
+    at: Moment,
+) -> Result<(), Fault> {
     let record = Record::read(input, at)?;
     if !ride::fits(&record, at) {
         return Err(Fault::Unreadable(at));
     }
-    let given = records::read_bytes(alloc, input, record.given)?;
-    ride.replay(alloc, input, at, &record, &given)
+    ride.replay(input, block, at, &record)
 }
 
 // Replays a whole ride. How many calls it has, which all agree.
-fn replay_ride(alloc: Global, input: &mut impl Read) -> Result<u64, Fault> {
+fn replay_ride(input: &mut impl Read) -> Result<u64, Fault> {
     let header = Header::read(input)?;
     if header.own > MOST_CRUMBS {
         return Err(Fault::LargeBuffer);
     }
-    let mut ride = Ride::new(alloc, header.own)?;
+    let mut block = [0u8; BLOCK];
+    let mut ride = Ride::new(header.own);
     for number in 0..header.calls {
-        replay(alloc, input, &mut ride, Moment::Call(number))?;
+        replay(input, &mut block, &mut ride, Moment::Call(number))?;
     }
-    replay(alloc, input, &mut ride, Moment::End(header.calls))?;
+    replay(input, &mut block, &mut ride, Moment::End(header.calls))?;
     records::read_end(input)?;
     Ok(header.calls)
 }
 
 fn main(rt: HostRuntime) -> io::Result<()> {
-    let mut input = BufReader::new(rt.alloc(), rt.reader())?;
-    match replay_ride(rt.alloc(), &mut input) {
+    match replay_ride(&mut rt.reader()) {
         Ok(calls) => println!(rt; "{calls} calls agree"),
         Err(Fault::Io(e)) => Err(e),
         Err(fault) => println!(rt; "{fault}"),

@@ -1,10 +1,10 @@
 // The calls that change a guide or a rebuild, performed through the door, and `thin`.
 
+use course::POINTS;
 use door::{calling, rebuilding, thinning};
 use records::calls::Change;
 use records::telling::{Answers, Field};
 use records::{Replaced, low};
-use std::alloc::{AllocError, Global};
 use stored::{NUMBERS, REBUILD_WORDS, WORDS};
 
 // What the door is lent besides the buffers: a guide's words and numbers, and a rebuild's words.
@@ -13,27 +13,6 @@ pub struct State {
     pub words: [u64; WORDS],
     pub numbers: [f32; NUMBERS],
     pub rebuild: [u64; REBUILD_WORDS],
-}
-
-// Two lists, and not one of points: the call lends two slices.
-#[derive(Drop)]
-struct Points {
-    lats: Vec<i32>,
-    lons: Vec<i32>,
-}
-
-impl Points {
-    // From four bytes of latitude and four of longitude each.
-    fn read(alloc: Global, given: &[u8]) -> Result<Points, AllocError> {
-        let mut lats = Vec::new(alloc);
-        let mut lons = Vec::new(alloc);
-        for bytes in given.as_chunks::<8>().0 {
-            let point = u64::from_le_bytes(*bytes);
-            lats.push(low(point).cast_signed())?;
-            lons.push(low(point >> 32).cast_signed())?;
-        }
-        Ok(Points { lats, lons })
-    }
 }
 
 impl State {
@@ -74,13 +53,12 @@ impl State {
     // Performs a call, tells its event or flag, and gives its refusal's number. Long by what the calls are lent: each has one arm.
     pub fn change(
         &mut self,
-        alloc: Global,
         change: Change,
         given: &[u8],
         crumbs: &mut [f32],
         line: &mut [f32],
         told: &mut Answers,
-    ) -> Result<u8, AllocError> {
+    ) -> u8 {
         let words = &mut self.words;
         let numbers = &mut self.numbers;
         let rebuild = &mut self.rebuild;
@@ -105,10 +83,7 @@ impl State {
                 calling::cittumay_replay(words, numbers, crumbs, fix.lat, fix.lon, at_ms)
             }
             Change::EndReplay => calling::cittumay_end_replay(words, numbers),
-            Change::SetCourse => {
-                let points = Points::read(alloc, given)?;
-                calling::cittumay_set_course(words, numbers, line, &points.lats, &points.lons)
-            }
+            Change::SetCourse => self.set_course(given, line),
             Change::SetAutoFollow { on } => {
                 calling::cittumay_set_auto_follow(words, numbers, crumbs, u8::from(on))
             }
@@ -143,7 +118,27 @@ impl State {
             ),
         };
         told.tell(Field::Answer, u64::from(answer));
-        Ok(refused)
+        refused
+    }
+
+    // From four bytes of latitude and four of longitude each. Two lists, and not one of points: the call lends two slices.
+    fn set_course(&mut self, given: &[u8], line: &mut [f32]) -> u8 {
+        let mut lats = [0i32; POINTS];
+        let mut lons = [0i32; POINTS];
+        let points = given.as_chunks::<8>().0;
+        for ((bytes, lat), lon) in points.iter().zip(lats.iter_mut()).zip(lons.iter_mut()) {
+            let point = u64::from_le_bytes(*bytes);
+            *lat = low(point).cast_signed();
+            *lon = low(point >> 32).cast_signed();
+        }
+        let count = points.len().min(POINTS);
+        calling::cittumay_set_course(
+            &mut self.words,
+            &mut self.numbers,
+            line,
+            &lats[..count],
+            &lons[..count],
+        )
     }
 
     pub fn caught_up(&self, upper: usize, told: &mut Answers) -> u8 {
@@ -153,7 +148,8 @@ impl State {
         refused
     }
 
-    // Thins the held crumbs, as many as there is room for, in a buffer of their own, and gives the number of the refusal.
+    // Thins the held crumbs, as many as there is room for, in a buffer of their own, with zeros behind them, and gives the number of the
+    // refusal.
     pub fn thin(
         &self,
         crumbs: &[f32],
@@ -162,6 +158,7 @@ impl State {
         tolerance: f32,
         told: &mut Answers,
     ) -> u8 {
+        thinned.fill(0.0);
         for (number, held) in thinned.iter_mut().zip(self.held(crumbs)) {
             *number = *held;
         }

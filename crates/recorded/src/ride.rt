@@ -5,8 +5,7 @@ use course::POINTS;
 use records::calls::{Call, Change};
 use records::faults::{Fault, Moment};
 use records::telling::{Answers, Field};
-use records::{Record, comparing};
-use std::alloc::{AllocError, Global};
+use records::{BLOCK, Record, comparing};
 use std::io::Read;
 
 // The most numbers lent for crumbs: a refused buffer is one longer than the longest, and `thin` may be given room for
@@ -14,9 +13,6 @@ use std::io::Read;
 pub const MOST_CRUMBS: usize = crumbs::STRIDE * 4097;
 
 const MOST_LINE: usize = crumbs::STRIDE * (POINTS + 1);
-
-// The most bytes of a chain file: 683 records.
-const MOST_FILE: usize = 65568;
 
 // Bytes of a point: latitude and longitude.
 const POINT: usize = 8;
@@ -26,7 +22,7 @@ pub fn fits(record: &Record, at: Moment) -> bool {
     let given = record.given;
     let room = match record.call {
         Call::Change(Change::SetCourse) => given <= POINT * POINTS && given % POINT == 0,
-        Call::Change(Change::Step { .. }) => given <= MOST_FILE,
+        Call::Change(Change::Step { .. }) => given <= BLOCK,
         Call::Thin { size, .. } => given == 0 && size <= MOST_CRUMBS,
         _ => given == 0,
     };
@@ -45,41 +41,43 @@ fn front_mut(buffer: &mut [f32], count: usize) -> &mut [f32] {
     &mut buffer[..n]
 }
 
-// `own`: how many numbers the guide's own crumb buffer has.
+// `own`: how many numbers the guide's own crumb buffer has. `thinned`: where held crumbs are thinned.
 #[derive(Drop)]
 pub struct Ride {
     own: usize,
     state: State,
-    crumbs: Vec<f32>,
-    line: Vec<f32>,
+    crumbs: [f32; MOST_CRUMBS],
+    line: [f32; MOST_LINE],
+    thinned: [f32; MOST_CRUMBS],
 }
 
 impl Ride {
-    pub fn new(alloc: Global, own: usize) -> Result<Ride, AllocError> {
-        Ok(Ride {
+    pub fn new(own: usize) -> Ride {
+        Ride {
             own,
             state: State::new(),
-            crumbs: vec![in alloc; 0.0f32; MOST_CRUMBS]?,
-            line: vec![in alloc; 0.0f32; MOST_LINE]?,
-        })
+            crumbs: [0.0; MOST_CRUMBS],
+            line: [0.0; MOST_LINE],
+            thinned: [0.0; MOST_CRUMBS],
+        }
     }
 
-    // Replays a call that is given these bytes.
+    // Replays a call. What it is given, and what is stored behind it, is read to the block.
     pub fn replay(
         &mut self,
-        alloc: Global,
         input: &mut impl Read,
+        block: &mut [u8; BLOCK],
         at: Moment,
         record: &Record,
-        given: &[u8],
     ) -> Result<(), Fault> {
+        let given = records::read_bytes(input, block, record.given)?;
         let mut told = Answers::none();
-        let thinned = self.tell(alloc, record, given, &mut told)?;
+        self.tell(record, given, &mut told);
         comparing::compare(at, &told, &record.stored)?;
-        match &thinned {
-            Some(thinned) => compare_parts(alloc, input, at, &told, thinned, &self.line),
-            None => compare_parts(alloc, input, at, &told, &self.crumbs, &self.line),
+        if matches!(record.call, Call::Thin { .. }) {
+            return compare_parts(input, block, at, &told, &self.thinned, &self.line);
         }
+        compare_parts(input, block, at, &told, &self.crumbs, &self.line)
     }
 
     // The state with what the record replaces.
@@ -89,21 +87,14 @@ impl Ride {
         state
     }
 
-    // Performs a call, and tells what it answers. Some: the buffer that it thinned.
-    fn tell(
-        &mut self,
-        alloc: Global,
-        record: &Record,
-        given: &[u8],
-        told: &mut Answers,
-    ) -> Result<Option<Vec<f32>>, AllocError> {
+    // Performs a call that is given these bytes, and tells what it answers.
+    fn tell(&mut self, record: &Record, given: &[u8], told: &mut Answers) {
         let mut lent = self.lent(record);
         let crumbs = front_mut(&mut self.crumbs, record.crumbs_lent);
         let line = front_mut(&mut self.line, record.line_lent);
-        let mut thinned = None;
         let refused = match record.call {
             Call::Change(change) => {
-                let refused = lent.change(alloc, change, given, crumbs, line, told)?;
+                let refused = lent.change(change, given, crumbs, line, told);
                 self.state.keep(&lent, &record.replaced);
                 self.state.tell_behind(front(&self.crumbs, self.own), told);
                 refused
@@ -115,29 +106,26 @@ impl Ride {
                 len,
                 tolerance,
             } => {
-                let mut own = vec![in alloc; 0.0f32; size]?;
-                let refused = lent.thin(crumbs, &mut own, len, tolerance, told);
-                thinned = Some(own);
-                refused
+                let thinned = front_mut(&mut self.thinned, size);
+                lent.thin(crumbs, thinned, len, tolerance, told)
             }
             Call::Dump | Call::End => lent.ask_parts(crumbs, line, told),
         };
         told.tell(Field::Refused, u64::from(refused));
-        Ok(thinned)
     }
 }
 
 // Refuses crumbs and course told that are not those behind the record.
 fn compare_parts(
-    alloc: Global,
     input: &mut impl Read,
+    block: &mut [u8; BLOCK],
     at: Moment,
     told: &Answers,
     crumbs: &[f32],
     line: &[f32],
 ) -> Result<(), Fault> {
     let held = crumbs::front(crumbs, told.get(Field::Crumbs) as usize);
-    comparing::compare_numbers(alloc, input, at, "crumbs", held)?;
+    comparing::compare_numbers(input, block, at, "crumbs", held)?;
     let course = crumbs::front(line, told.get(Field::Course) as usize);
-    comparing::compare_numbers(alloc, input, at, "course", course)
+    comparing::compare_numbers(input, block, at, "course", course)
 }

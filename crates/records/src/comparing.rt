@@ -1,8 +1,8 @@
 // What is told held to what is stored.
 
+use crate::BLOCK;
 use crate::faults::{Fault, Moment, What};
 use crate::telling::{Answers, FIELDS};
-use std::alloc::Global;
 use std::io::Read;
 
 // Refuses answers that are not those stored.
@@ -23,24 +23,25 @@ pub fn compare(at: Moment, told: &Answers, stored: &Answers) -> Result<(), Fault
     Ok(())
 }
 
-// Refuses numbers whose patterns are not those that come next in the input.
+// Refuses numbers whose patterns are not those that come next in the input, which are read to the block.
 pub fn compare_numbers(
-    alloc: Global,
     input: &mut impl Read,
+    block: &mut [u8; BLOCK],
     at: Moment,
     part: &'static str,
     numbers: &[f32],
 ) -> Result<(), Fault> {
-    let patterns = crate::read_patterns(alloc, input, numbers.len())?;
-    for (k, (number, stored)) in numbers.iter().zip(&patterns).enumerate() {
+    let patterns = crate::read_bytes(input, block, 4 * numbers.len())?;
+    for (k, (number, stored)) in numbers.iter().zip(patterns.as_chunks::<4>().0).enumerate() {
         let told = binary32::pattern(*number);
-        if told != *stored {
+        let stored = u32::from_le_bytes(*stored);
+        if told != stored {
             let what = What::Number(part, k);
             return Err(Fault::Unlike {
                 at,
                 what,
                 told: u64::from(told),
-                stored: u64::from(*stored),
+                stored: u64::from(stored),
             });
         }
     }

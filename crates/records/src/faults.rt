@@ -1,6 +1,5 @@
 // Why a stored ride is not replayed to its end.
 
-use std::alloc::{AllocError, AllocFailed};
 use std::{fmt, io};
 
 // A call, numbered from 0, or the end of so many calls.
@@ -84,17 +83,5 @@ impl fmt::Display for Fault {
 impl From<io::Error> for Fault {
     fn from(e: io::Error) -> Fault {
         Fault::Io(e)
-    }
-}
-
-impl From<AllocError> for Fault {
-    fn from(e: AllocError) -> Fault {
-        Fault::Io(e.into())
-    }
-}
-
-impl<T: Drop> From<AllocFailed<T>> for Fault {
-    fn from(e: AllocFailed<T>) -> Fault {
-        Fault::Io(e.into())
     }
 }

@@ -7,17 +7,26 @@ pub mod comparing;
 pub mod faults;
 pub mod telling;
 
-ghost use Rattle.std.specs.Prelude.{◌≡◌, ◌%◌, ◌^◌, IfOk, vec_len};
+ghost use Rattle.std.specs.Prelude.{◌≡◌, ◌%◌, ◌^◌, IfOk, length};
 
 use calls::Call;
 use faults::{Fault, Moment};
-use std::alloc::Global;
 use std::io;
 use std::io::{ErrorKind, Read};
 use telling::{ANSWERS, Answers};
 
 // The letters RECORDED.
 const MARK: u64 = 0x4445_4452_4f43_4552;
+
+// How many bytes a header and a record have, and how many of a record's stand before its answers.
+const HEADER_BYTES: usize = 24;
+
+const RECORD_BYTES: usize = 440;
+
+const FRONT_BYTES: usize = 104;
+
+// The most bytes that are read at once: a chain file of 683 records.
+pub const BLOCK: usize = 65568;
 
 // What stands before the calls: how many follow, and how many numbers the guide's own crumb buffer has.
 #[derive(Clone, Copy)]
@@ -79,20 +88,22 @@ fn read<R: Read, const N: usize>(input: &mut R) -> Result<[u8; N], Fault> {
     Ok(bytes)
 }
 
-fn read_numbers<R: Read, const N: usize>(input: &mut R) -> Result<[u64; N], Fault> {
+// The numbers that stand in these bytes.
+fn numbers<const N: usize>(bytes: &[u8]) -> [u64; N] {
     let mut numbers = [0u64; N];
-    for number in numbers.iter_mut() {
-        *number = u64::from_le_bytes(read(input)?);
+    for (number, bytes) in numbers.iter_mut().zip(bytes.as_chunks::<8>().0) {
+        *number = u64::from_le_bytes(*bytes);
     }
-    Ok(numbers)
+    numbers
 }
 
 impl Header {
     pub fn read(input: &mut impl Read) -> Result<Header, Fault> {
-        let [mark, calls, own] = match read_numbers::<_, 3>(input) {
+        let bytes = match read::<_, HEADER_BYTES>(input) {
             Err(Fault::CutOff) => return Err(Fault::NoHeader),
-            numbers => numbers?,
+            bytes => bytes?,
         };
+        let [mark, calls, own] = numbers::<3>(&bytes);
         if mark != MARK {
             return Err(Fault::NoRide);
         }
@@ -105,6 +116,8 @@ impl Header {
 
 impl Record {
     pub fn read(input: &mut impl Read, at: Moment) -> Result<Record, Fault> {
+        let bytes = read::<_, RECORD_BYTES>(input)?;
+        let (front, stored) = bytes.split_at(FRONT_BYTES);
         let [
             call,
             first,
@@ -119,8 +132,7 @@ impl Record {
             second_word,
             number_place,
             number,
-        ] = read_numbers::<_, 13>(input)?;
-        let stored = Answers(read_numbers(input)?);
+        ] = numbers::<13>(front);
         let Ok(call) = Call::try_from([call, first, second, third]) else {
             return Err(Fault::Unreadable(at));
         };
@@ -136,29 +148,27 @@ impl Record {
                 ],
                 number: (number_place as usize, float(low(number))),
             },
-            stored,
+            stored: Answers(numbers::<ANSWERS>(stored)),
         })
     }
 }
 
-// So many bytes.
-pub fn read_bytes(alloc: Global, input: &mut impl Read, count: usize) -> Result<Vec<u8>, Fault>
-    ensures { IfOk result (λ bytes. vec_len bytes ≡ count) }
+// So many bytes, at the front of a block. There are none where it has no room.
+pub fn read_bytes<'a>(
+    input: &mut impl Read,
+    block: &'a mut [u8; BLOCK],
+    count: usize,
+) -> Result<&'a [u8], Fault>
+    ensures { IfOk result (λ bytes. length bytes.now ≡ count) }
 {
-    let mut bytes = vec![in alloc; 0u8; count]?;
-    if !fill(input, &mut bytes)? {
+    if count > BLOCK {
+        return Err(Fault::CutOff);
+    }
+    let bytes = &mut block[..count];
+    if !fill(input, bytes)? {
         return Err(Fault::CutOff);
     }
     Ok(bytes)
-}
-
-// So many patterns of four bytes.
-fn read_patterns(alloc: Global, input: &mut impl Read, count: usize) -> Result<Vec<u32>, Fault> {
-    let mut patterns = Vec::new(alloc);
-    for _ in 0..count {
-        patterns.push(u32::from_le_bytes(read(input)?))?;
-    }
-    Ok(patterns)
 }
 
 // Refuses an input that goes on.
@@ -174,17 +184,18 @@ mod tests {
     use super::*;
     use crate::comparing;
 
-    // What asks for memory succeeds where there is some: three bytes, and the pattern of 1.0 behind them.
+    // Three bytes, and the pattern of 1.0 behind them.
     #[test]
     fn reads_bytes_and_patterns(rt: HostRuntime) {
         let mut input: &[u8] = &[7, 8, 9, 0, 0, 0x80, 0x3f];
-        let bytes = read_bytes(rt.alloc(), &mut input, 3);
+        let mut block = [0u8; BLOCK];
+        let bytes = read_bytes(&mut input, &mut block, 3);
         assert!(rt;
-            bytes.is_ok_and(|bytes| bytes.as_slice() == [7, 8, 9].as_slice()),
+            bytes.is_ok_and(|bytes| bytes == [7, 8, 9].as_slice()),
             "three bytes"
         );
         let at = Moment::End(0);
-        let same = comparing::compare_numbers(rt.alloc(), &mut input, at, "numbers", &[1.0]);
+        let same = comparing::compare_numbers(&mut input, &mut block, at, "numbers", &[1.0]);
         assert!(rt; same.is_ok(), "a number");
     }
 }
